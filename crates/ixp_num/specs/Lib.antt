@@ -1,0 +1,4 @@
+pub mod Families
+pub mod Names
+pub mod Prefixes
+pub mod Roas

@@ -1,0 +1,13 @@
+//! The leading bits of an address.
+ghost use Rattle.std.specs.Prelude.{◌≡◌};
+ghost use Rattle.ixp_num.specs.Prefixes.{first_bits};
+
+use crate::Family;
+
+/// The first `len` bits of an address, as a number.
+pub fn first_bits(family: Family, len: u8, value: u128) -> u128
+    ensures { result ≡ first_bits family len value }
+{
+    let rest = family.bits().saturating_sub(len);
+    if rest == 128 { 0 } else { value >> rest }
+}

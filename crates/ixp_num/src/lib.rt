@@ -1,0 +1,23 @@
+//! The numbers of the trade: addresses, prefixes, patterns, AS numbers, ROAs and names.
+//!
+//! Every value of a type here is lawful: an address fits its family, a prefix has no host bits, a name has
+//! its alphabet and length. Texts are read and printed; the printed text of a value is its one spelling.
+#![tactic(auto)]
+
+mod addr;
+mod asn;
+mod bits;
+mod family;
+mod name;
+mod pattern;
+mod prefix;
+mod roa;
+
+pub use addr::Addr;
+pub use asn::Asn;
+pub use family::Family;
+pub use ixp_lists::Items;
+pub use name::Name;
+pub use pattern::Pattern;
+pub use prefix::Prefix;
+pub use roa::{Roa, Validity};
