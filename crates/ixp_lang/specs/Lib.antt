@@ -1,0 +1,6 @@
+pub mod Attributes
+pub mod Faults
+pub mod Meaning
+pub mod Trees
+pub mod Views
+pub mod Walks

@@ -1,0 +1,20 @@
+//! Routes, fates, and the trees of the filter language, with what they mean.
+//!
+//! The language is a profile of BIRD 2's (User's Guide, chapters "Configuration" and "Filters"). A tree has one meaning,
+//! defined in `specs/Meaning.antt` for filters and in `specs/Walks.antt` for a route's way through a whole
+//! configuration; reader, printer, evaluator and generation all speak of the same trees.
+#![tactic(auto)]
+
+mod expr;
+mod fate;
+mod item;
+mod route;
+mod stmt;
+mod value;
+
+pub use expr::{Attr, Expr, Op};
+pub use fate::Fate;
+pub use item::{Bgp, Config, Item, Kind, Pipe, Ty, Use};
+pub use route::{Route, Verdict};
+pub use stmt::{Label, Stmt};
+pub use value::{SetLit, Value};
