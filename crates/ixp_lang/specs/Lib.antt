@@ -2,5 +2,6 @@ pub mod Attributes
 pub mod Faults
 pub mod Meaning
 pub mod Trees
+pub mod Trials
 pub mod Views
 pub mod Walks

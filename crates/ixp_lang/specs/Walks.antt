@@ -1,6 +1,6 @@
 -- A route's way through a configuration, from the session that brings it to all others (BIRD 2 User's Guide,
 -- chapters "Architecture" and "Protocols", BGP and Pipe). The route is taken alone: no other route competes.
-use Rattle.std.specs.Prelude.{ℕ, Bool, true, false, ◌&&◌, List, [], ◌∷◌, reverse, Option, Some, None, Result, Ok, Err, if◌then◌else◌}
+use Rattle.std.specs.Prelude.{ℕ, true, false, ◌&&◌, List, [], ◌∷◌, reverse, Option, Some, None, Result, Ok, Err, if◌then◌else◌}
 use Rattle.ixp_num.specs.declared.roa.Roa.{Roa}
 use Rattle.ixp_lang.specs.declared.route.Route.{Route}
 use Rattle.ixp_lang.specs.declared.route.Verdict.{Verdict}

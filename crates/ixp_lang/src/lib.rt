@@ -8,6 +8,7 @@
 mod expr;
 mod fate;
 mod item;
+pub mod laws;
 mod route;
 mod stmt;
 mod value;

@@ -1,0 +1,39 @@
+//! Laws of the meaning, on small texts: what a reader of the guide expects of each.
+ghost use Rattle.std.specs.Prelude.{◌≡◌, ℕ, List, [], ◌∷◌, codes, Ok, Err, true, false};
+ghost use Rattle.ixp_lang.specs.declared.route.Route.{Route};
+ghost use Rattle.ixp_lang.specs.declared.route.Verdict.TheVariants.{Accept, Reject};
+ghost use Rattle.ixp_lang.specs.declared.value.Value.TheVariants.{Int, Bool};
+ghost use Rattle.ixp_lang.specs.Faults.{pair_range, no_return, no_verdict, no_filter, ended};
+ghost use Rattle.ixp_lang.specs.Trees.{ItemTree, conjunction, disjunction, pair, exprs, literal};
+ghost use Rattle.ixp_lang.specs.Meaning.{Environment, End, Means, filter_end, function_end, fails, returns};
+ghost use Rattle.ixp_lang.specs.Trials.{int, truth_value, tests_pair, returns_sometimes, asks_false, accepts_first, calls_h, never_ends};
+
+/// A pair's part above 65535 is a fault, also where it is a parameter.
+pub fn wide_parts_fault()
+    ensures { (env : Environment) (r : Route) → function_end env (tests_pair ∷ []) (codes "g") 4200000001 r ≡ Err (pair_range 4200000001) }
+{}
+
+/// A function that is asked for its value and ends without one is a fault.
+pub fn a_value_is_returned()
+    ensures { (env : Environment) (r : Route) → filter_end env (asks_false ∷ returns_sometimes ∷ []) (codes "f") r ≡ Err (no_return (codes "g")) }
+{}
+
+/// `accept` inside a function ends the whole filter, and no function that does so has a value.
+pub fn accept_ends_the_filter()
+    ensures filter { (env : Environment) (r : Route) → filter_end env (calls_h ∷ accepts_first ∷ []) (codes "f") r ≡ Ok (Accept r) }
+    ensures function { (env : Environment) (n : ℕ) (r : Route) → function_end env (accepts_first ∷ []) (codes "h") n r ≡ Err ended }
+{}
+
+/// A filter ends in a verdict, and its name is there.
+pub fn a_verdict_is_given()
+    ensures verdict { (env : Environment) (r : Route) → filter_end env (never_ends ∷ []) (codes "f") r ≡ Err (no_verdict (codes "f")) }
+    ensures there { (env : Environment) (r : Route) → filter_end env (never_ends ∷ []) (codes "e") r ≡ Err (no_filter (codes "e")) }
+{}
+
+/// `&&` stops at the first false and `||` at the first true: what would be a fault behind it isn't reached.
+pub fn logic_stops_early()
+    ensures conjunction { (env : Environment) (is : List ItemTree) (r : Route) →
+        Means env is [] (conjunction (exprs (truth_value false ∷ pair (int 0) (int 65536) ∷ []))) r ≡ returns (Bool false) r }
+    ensures disjunction { (env : Environment) (is : List ItemTree) (r : Route) →
+        Means env is [] (disjunction (exprs (truth_value true ∷ pair (int 0) (int 65536) ∷ []))) r ≡ returns (Bool true) r }
+{}
