@@ -1,0 +1,5 @@
+pub mod AnswerLaws
+pub mod Digits
+pub mod FormLaws
+pub mod PartedForms
+pub mod Stops
