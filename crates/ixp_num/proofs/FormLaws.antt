@@ -3,8 +3,9 @@ use Rattle.std.proofs.Common.{◌≡◌, ◌≢◌, ℕ, suc, ◌+◌, ◌-◌, 
 use Rattle.std.specs.List.{AllByRecursion}
 use Rattle.std.proofs.lemmas.Bool.{cases_lt}
 use Rattle.std.proofs.lemmas.Bool.Decides.{nat_tests}
-use Rattle.ixp_num.specs.Forms.{Form, End, Mark, Decimal, Hex, Either, IsDigit, IsHexDigit, IsDecimal, IsGroup, Said, bounded, Spelt, IsOf, Begins, StopsAt}
-use Rattle.ixp_num.specs.Reading.{◌>>=◌, cap, number_at, mark_at, end_at, farther, read}
+use Rattle.ixp_num.specs.Forms.{Form, End, Mark, Decimal, Hex, Either, IsDigit, IsDecimal, Said, bounded, Spelt, IsOf, Begins, StopsAt}
+use Rattle.ixp_num.specs.Reading.{◌>>=◌, cap, group_at, number_at, mark_at, end_at, farther, read}
+use Rattle.ixp_num.proofs.Groups.{IsHexByte, group_again, Grouped, group_split, group_missing}
 use Rattle.ixp_num.proofs.Digits.{pair, Ends, same_head, Closed, number_again, Numbered, number_split, number_missing, decimal_begins, mark_again, mark_split, mark_missing}
 
 -- no text of the form begins with such a byte
@@ -15,15 +16,12 @@ NeverBegins P form = (c : ℕ) (rest : List ℕ) → P c → ¬ (IsOf form (c �
 abbrev pub Apart : Form → Form → Type 0
 Apart one other = (t : List ℕ) → IsOf one t → ¬ (IsOf other t)
 
-abbrev pub IsHexByte : ℕ → Type 0
-IsHexByte c = (d : ℕ) × IsHexDigit c d
-
 -- each number ends where its digits do, and each text is of one form alone
 abbrev pub Parted : Form → Type 0
 Parted (End ns) = Unit {0}
 Parted (Mark b form) = Parted form
 Parted (Decimal bound form) = (bound < cap) × ((n : ℕ) → NeverBegins IsDigit (form n) × Parted (form n))
-Parted (Hex form) = ⊥
+Parted (Hex form) = (n : ℕ) → NeverBegins IsHexByte (form n) × Parted (form n)
 Parted (Either one other) = Apart one other × Parted one × Parted other
 
 pub ends_from : (P : ℕ → Type 0) (form : Form) (t : List ℕ) → NeverBegins P form → IsOf form t → Ends P t
@@ -80,6 +78,22 @@ decimal_sound bound form said t low below (inr ends) reads =
     let stops : Err (length t) ≡ Ok said = ap (λ r. r >>= going bound form t) (sym (number_missing t ends)) ∙ reads in
     absurd cc
 
+-- what is done with the group at the front
+abbrev pub grouping : (ℕ → Form) → ℕ × List ℕ → Result Said ℕ
+grouping form p = read (form p.0) p.1
+
+pub hex_read : (form : ℕ → Form) (t : List ℕ) → (x : Grouped t) → read (Hex form) t ≡ read (form x.n) x.rest
+hex_read form t x =
+    let there : group_at t ≡ Ok (pair x.n x.rest) = ap group_at x.parts ∙ group_again x.front x.rest x.n x.spelt x.closed in
+    ap (λ r. r >>= grouping form) there
+
+hex_sound : (form : ℕ → Form) (said : Said) (t : List ℕ) → ((n : ℕ) (after : Said) (rest : List ℕ) → read (form n) rest ≡ Ok after → Spelt (form n) after rest) → Grouped t ⊎ Ends IsHexByte t → read (Hex form) t ≡ Ok said → Spelt (Hex form) said t
+hex_sound form said t below (inl x) reads =
+    (x.front, x.rest, x.n, x.parts, x.spelt, below x.n said x.rest (sym (hex_read form t x) ∙ reads))
+hex_sound form said t below (inr ends) reads =
+    let stops : Err (length t) ≡ Ok said = ap (λ r. r >>= grouping form) (sym (group_missing t ends)) ∙ reads in
+    absurd cc
+
 either_sound : (one other : Form) (said : Said) (t : List ℕ) → (read one t ≡ Ok said → Spelt one said t) → (read other t ≡ Ok said → Spelt other said t) → ((a : Said) × (read one t ≡ Ok a)) ⊎ ((l : ℕ) × (read one t ≡ Err l)) → ((a : Said) × (read other t ≡ Ok a)) ⊎ ((l : ℕ) × (read other t ≡ Err l)) → read (Either one other) t ≡ Ok said → Spelt (Either one other) said t
 either_sound one other said t here there (inl (a, e)) y reads =
     let same : Ok a ≡ Ok said = ap (λ r. farther r (read other t)) (sym e) ∙ reads in
@@ -96,7 +110,7 @@ read_sound (End ns) parted said [] reads = let same : Ok (Ok ns) ≡ Ok said = r
 read_sound (End ns) parted said (c ∷ cs) reads = let stops : Err (suc (length cs)) ≡ Ok said = reads in absurd cc
 read_sound (Mark b form) parted said t reads = mark_sound b form said t (read_sound form parted said) (mark_split b t) reads
 read_sound (Decimal bound form) parted said t reads = decimal_sound bound form said t parted.0 (λ n. read_sound (form n) (parted.1 n).1) (number_split t) reads
-read_sound (Hex form) parted said t reads = absurd parted
+read_sound (Hex form) parted said t reads = hex_sound form said t (λ n. read_sound (form n) (parted n).1) (group_split t) reads
 read_sound (Either one other) parted said t reads =
     either_sound one other said t (read_sound one parted.1 said t) (read_sound other parted.2 said t) (result_cases (read one t)) (result_cases (read other t)) reads
 
@@ -115,7 +129,9 @@ read_again (Decimal bound form) parted said t (front, rest, n, after, e, number,
     decimal_read bound form t parted.0 x
     ∙ ap (λ r. r >>= λ a. Ok (bounded bound n (length t) a)) (read_again (form (min n bound)) (parted.1 (min n bound)).1 after rest spelt)
     ∙ ap Ok (sym says)
-read_again (Hex form) parted said t spelt = absurd parted
+read_again (Hex form) parted said t (front, rest, n, e, group, spelt) =
+    let x : Grouped t = record { front = front; rest = rest; n = n; parts = e; spelt = group; closed = inr (ends_from IsHexByte (form n) rest (parted n).0 (said, spelt)) } in
+    hex_read form t x ∙ read_again (form n) (parted n).1 said rest spelt
 read_again (Either one other) parted said t (inl spelt) = ap (λ r. farther r (read other t)) (read_again one parted.1 said t spelt)
 read_again (Either one other) parted said t (inr spelt) =
     either_other one other said t parted.1 parted.0 spelt (read_again other parted.2 said t spelt) (result_cases (read one t))

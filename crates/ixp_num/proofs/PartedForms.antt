@@ -62,21 +62,15 @@ tail_no_digit Nothing family value = end_never IsDigit (numbers family value (bi
 tail_no_digit Length family value = mark_no_digit 47 (Decimal (bits_of family) (λ len. End (numbers family value len len len))) (inl (lit< tt))
 tail_no_digit Bounds family value = mark_no_digit 47 (Decimal (bits_of family) (λ len. Either (End (numbers family value len len len)) (bounds_form (λ low high. End (numbers family value len low high))))) (inl (lit< tt))
 
-abbrev last_number : (ℕ → Form) → ℕ → Form
-last_number form high = Decimal 255 (λ d. form (high * 256 + d))
+next_parted : (bound : ℕ) (below : ℕ → Form) → bound < cap → ((v : ℕ) → Parted (below v)) → Parted (Decimal bound (λ n. Mark 46 (below n)))
+next_parted bound below low parted = (low, λ n. (mark_no_digit 46 (below n) (inl (lit< tt)), parted n))
 
-abbrev next_number : (ℕ → Form) → ℕ → Form
-next_number below high = Decimal 255 (λ n. Mark 46 (below (high * 256 + n)))
-
-next_parted : (below : ℕ → Form) (high : ℕ) → ((v : ℕ) → Parted (below v)) → Parted (next_number below high)
-next_parted below high parted = (lit< tt, λ n. (mark_no_digit 46 (below (high * 256 + n)) (inl (lit< tt)), parted (high * 256 + n)))
-
-pub dotted_parted : (high : ℕ) (form : ℕ → Form) → ((v : ℕ) → NeverBegins IsDigit (form v)) → ((v : ℕ) → Parted (form v)) → Parted (dotted_form high form)
-dotted_parted high form never parted =
-    next_parted (next_number (next_number (last_number form))) high
-    (λ a. next_parted (next_number (last_number form)) a
-    (λ b. next_parted (last_number form) b
-    (λ c. (lit< tt, λ d. (never (c * 256 + d), parted (c * 256 + d))))))
+pub dotted_parted : (base : ℕ) (form : ℕ → Form) → ((v : ℕ) → NeverBegins IsDigit (form v)) → ((v : ℕ) → Parted (form v)) → Parted (dotted_form base form)
+dotted_parted base form never parted =
+    next_parted 255 (λ a. Decimal 255 (λ b. Mark 46 (Decimal 255 (λ c. Mark 46 (Decimal 255 (λ d. form (base + (((a * 256 + b) * 256 + c) * 256 + d)))))))) (lit< tt)
+    (λ a. next_parted 255 (λ b. Decimal 255 (λ c. Mark 46 (Decimal 255 (λ d. form (base + (((a * 256 + b) * 256 + c) * 256 + d)))))) (lit< tt)
+    (λ b. next_parted 255 (λ c. Decimal 255 (λ d. form (base + (((a * 256 + b) * 256 + c) * 256 + d)))) (lit< tt)
+    (λ c. (lit< tt, λ d. (never (base + (((a * 256 + b) * 256 + c) * 256 + d)), parted (base + (((a * 256 + b) * 256 + c) * 256 + d)))))))
 
 pub form4_parted : (tail : Tail) → Parted (form4 tail)
 form4_parted tail = dotted_parted 0 (tail_form tail V4) (tail_no_digit tail V4) (tail_parted tail V4)

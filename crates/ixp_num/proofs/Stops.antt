@@ -1,12 +1,14 @@
 -- Where a reader stops no text of the form goes on.
-use Rattle.std.proofs.Common.{◌≡◌, ◌≢◌, ℕ, suc, ◌+◌, ◌-◌, ◌*◌, ◌<◌, ◌≤◌, ◌⊎◌, inl, inr, cond, List, [], ◌∷◌, ◌++◌, length, take, drop, min, nat_le, Result, Ok, Err, refl, sym, ap, ◌∙◌, subst, arith, append_assoc, append-nil, length-append, take-append-drop, lit≤}
+use Rattle.std.proofs.Common.{◌≡◌, ◌≢◌, ℕ, suc, ◌+◌, ◌-◌, ◌*◌, ◌<◌, ◌≤◌, ◌⊎◌, inl, inr, cond, List, [], ◌∷◌, ◌++◌, length, take, drop, min, nat_le, Result, Ok, Err, refl, sym, ap, ◌∙◌, subst, arith, append_assoc, append-nil, length-append, take-append-drop, lit≤, lit<}
 use Rattle.std.specs.List.{AllByRecursion}
+use Rattle.std.specs.Net.Grammar.{IsGroup}
 use Rattle.std.proofs.lemmas.Bool.{cases_lt}
 use Rattle.std.proofs.lemmas.List.{take-take}
-use Rattle.ixp_num.specs.Forms.{Form, End, Mark, Decimal, Hex, Either, IsDigit, IsDecimal, IsGroup, Said, bounded, Spelt, IsOf, Begins, StopsAt}
-use Rattle.ixp_num.specs.Reading.{◌>>=◌, cap, number_at, mark_at, end_at, farther, read}
+use Rattle.ixp_num.specs.Forms.{Form, End, Mark, Decimal, Hex, Either, IsDigit, IsDecimal, Said, bounded, Spelt, IsOf, Begins, StopsAt}
+use Rattle.ixp_num.specs.Reading.{◌>>=◌, cap, group_at, number_at, mark_at, end_at, farther, read}
+use Rattle.ixp_num.proofs.Groups.{IsHexByte, ClosedHex, Grouped, group_again, group_split, group_missing, group_begins}
 use Rattle.ixp_num.proofs.Digits.{pair, Ends, same_head, Closed, number_again, Numbered, number_split, number_missing, decimal_begins, mark_again, mark_split, mark_missing}
-use Rattle.ixp_num.proofs.FormLaws.{Parted, Apart, NeverBegins, ends_from, result_cases, decimal_read, read_again, going}
+use Rattle.ixp_num.proofs.FormLaws.{Parted, Apart, NeverBegins, ends_from, result_cases, decimal_read, hex_read, grouping, read_again, going}
 
 -- `left` bytes are left behind the longest front with which a text of L begins
 pub record Stuck (L : List ℕ → Type 0) (t : List ℕ) (left : ℕ) : Type 0 where
@@ -83,7 +85,7 @@ some_text (Decimal bound form) =
     (48 ∷ x.0, (bounded bound 0 (length (48 ∷ x.0)) x.1.0, (48 ∷ [], x.0, 0, x.1.0, refl, ((lit≤ tt, lit≤ tt), (λ e. refl), tt, refl), x.1.1, refl)))
 some_text (Hex form) =
     let x = some_text (form 0) in
-    (48 ∷ x.0, (x.1.0, (48 ∷ [], x.0, 0, refl, (lit≤ tt, lit≤ tt, (0, inl ((lit≤ tt, lit≤ tt), refl), refl)), x.1.1)))
+    (48 ∷ x.0, (x.1.0, (48 ∷ [], x.0, 0, refl, (((lit< tt, (lit< tt, tt)), refl), lit≤ tt), x.1.1)))
 some_text (Either one other) = let x = some_text one in (x.0, (x.1.0, inl x.1.1))
 
 -- of two ways to part a text, the one with the longer front
@@ -209,6 +211,41 @@ decimal_stuck bound form t left low never below (inr ends) reads =
     let same : length t ≡ left = cc in
     subst (Stuck (IsOf (Decimal bound form)) t) same (stuck_here (Decimal bound form) t (λ c y more e is_of. decimal_begins is_of.1.0 is_of.1.1 is_of.1.2 is_of.1.5 (subst (Ends IsDigit) is_of.1.4 (ends_here IsDigit t c y ends e))))
 
+hex_closed_on : (front rest more_front : List ℕ) (c : ℕ) (y more : List ℕ) → rest ≡ more_front ++ c ∷ y → ClosedHex front rest → ClosedHex front (more_front ++ c ∷ more)
+hex_closed_on front rest more_front c y more e (inl full) = inl full
+hex_closed_on front rest more_front c y more e (inr ends) = inr (same_head IsHexByte more_front c y more (subst (Ends IsHexByte) e ends))
+
+-- behind the same group stands the same
+group_same : (front rest other rest' : List ℕ) (n m : ℕ) → front ++ rest ≡ other ++ rest' → IsGroup front n → ClosedHex front rest → IsGroup other m → Ends IsHexByte rest' → (rest' ≡ rest) × (m ≡ n)
+group_same front rest other rest' n m e spelt closed spelt' ends =
+    let same : ◌≡◌ {A = Result (ℕ × List ℕ) ℕ} (Ok (pair m rest')) (Ok (pair n rest)) = sym (group_again other rest' m spelt' (inr ends)) ∙ (ap group_at (sym e) ∙ group_again front rest n spelt closed) in
+    let parts : pair m rest' ≡ pair n rest = cc in
+    (ap (λ p. p.1) parts, ap (λ p. p.0) parts)
+
+hex_stuck : (form : ℕ → Form) (t : List ℕ) (left : ℕ) → ((n : ℕ) → NeverBegins IsHexByte (form n)) → ((n : ℕ) (rest : List ℕ) → read (form n) rest ≡ Err left → Stuck (IsOf (form n)) rest left) → Grouped t ⊎ Ends IsHexByte t → read (Hex form) t ≡ Err left → Stuck (IsOf (Hex form)) t left
+hex_stuck form t left never below (inl x) reads =
+    let s = below x.n x.rest (sym (hex_read form t x) ∙ reads) in
+    record {
+      front = x.front ++ s.front;
+      rest = s.rest;
+      parts = x.parts ∙ (ap (λ r. x.front ++ r) s.parts ∙ sym (append_assoc x.front s.front s.rest));
+      left_is = s.left_is;
+      begins = (s.begins.0, (s.begins.1.0, (x.front, s.front ++ s.begins.0, x.n, append_assoc x.front s.front s.begins.0, x.spelt, s.begins.1.1)));
+      no_more = λ c y more there is_of. group_ends x s c y more there is_of.0 is_of.1;
+    }
+  where
+    group_ends : (x : Grouped t) (s : Stuck (IsOf (form x.n)) x.rest left) (c : ℕ) (y more : List ℕ) → s.rest ≡ c ∷ y → (said : Said) → Spelt (Hex form) said ((x.front ++ s.front) ++ c ∷ more) → ⊥
+    group_ends x s c y more there said (front, rest, n, e, group, spelt) =
+        let joined : x.front ++ (s.front ++ c ∷ more) ≡ front ++ rest = sym (append_assoc x.front s.front (c ∷ more)) ∙ e in
+        let closed = hex_closed_on x.front x.rest s.front c y more (s.parts ∙ ap (λ r. s.front ++ r) there) x.closed in
+        let ends = ends_from IsHexByte (form n) rest (never n) (said, spelt) in
+        let same = group_same x.front (s.front ++ c ∷ more) front rest x.n n joined x.spelt closed group ends in
+        s.no_more c y more there (said, subst (Spelt (form x.n) said) same.0 (subst (λ m. Spelt (form m) said rest) same.1 spelt))
+hex_stuck form t left never below (inr ends) reads =
+    let stops : Err (length t) ≡ Err left = ap (λ r. r >>= grouping form) (sym (group_missing t ends)) ∙ reads in
+    let same : length t ≡ left = cc in
+    subst (Stuck (IsOf (Hex form)) t) same (stuck_here (Hex form) t (λ c y more e is_of. group_begins is_of.1.0 is_of.1.1 is_of.1.2 is_of.1.4 (subst (Ends IsHexByte) is_of.1.3 (ends_here IsHexByte t c y ends e))))
+
 either_stuck : (one other : Form) (t : List ℕ) (left : ℕ) → ((l : ℕ) → read one t ≡ Err l → Stuck (IsOf one) t l) → ((l : ℕ) → read other t ≡ Err l → Stuck (IsOf other) t l) → ((a : Said) × (read one t ≡ Ok a)) ⊎ ((l : ℕ) × (read one t ≡ Err l)) → ((a : Said) × (read other t ≡ Ok a)) ⊎ ((l : ℕ) × (read other t ≡ Err l)) → read (Either one other) t ≡ Err left → Stuck (IsOf (Either one other)) t left
 either_stuck one other t left here there (inl (a, e)) y reads =
     let wrong : Ok a ≡ Err left = ap (λ r. farther r (read other t)) (sym e) ∙ reads in
@@ -238,7 +275,7 @@ read_stuck (End ns) parted left t reads = end_stuck ns t left reads
 read_stuck (Mark b form) parted left t reads = mark_stuck b form t left (read_stuck form parted left) (mark_split b t) reads
 read_stuck (Decimal bound form) parted left t reads =
     decimal_stuck bound form t left parted.0 (λ n. (parted.1 n).0) (λ n. read_stuck (form n) (parted.1 n).1 left) (number_split t) reads
-read_stuck (Hex form) parted left t reads = absurd parted
+read_stuck (Hex form) parted left t reads = hex_stuck form t left (λ n. (parted n).0) (λ n. read_stuck (form n) (parted n).1 left) (group_split t) reads
 read_stuck (Either one other) parted left t reads =
     either_stuck one other t left (λ l. read_stuck one parted.1 l t) (λ l. read_stuck other parted.2 l t) (result_cases (read one t)) (result_cases (read other t)) reads
 

@@ -1,6 +1,7 @@
 -- Forms of text: what a text of a form says, and where a text stops being of it.
 use Rattle.std.specs.Prelude.{◌≡◌, ℕ, ◌+◌, ◌-◌, ◌*◌, ◌<◌, ◌≤◌, ◌⊎◌, List, [], ◌∷◌, ◌++◌, length, take, min, nat_le, Result, Ok, Err, if◌then◌else◌}
 use Rattle.std.specs.List.{AllByRecursion}
+use Rattle.std.specs.Net.Grammar.{IsGroup}
 
 -- How the rest of a text goes on.
 pub data Form : Type 0 where
@@ -10,7 +11,7 @@ pub data Form : Type 0 where
   Mark : ℕ → Form → Form
   -- a decimal number, which is to be at most the bound; what follows is told the number
   Decimal : ℕ → (ℕ → Form) → Form
-  -- a group of hexadecimal digits; what follows is told its value
+  -- one to four hexadecimal digits, in either case (RFC 4291 section 2.2); what follows is told their value
   Hex : (ℕ → Form) → Form
   -- the one or the other
   Either : Form → Form → Form
@@ -28,19 +29,6 @@ value_after n (d ∷ ds) = value_after (n * 10 + (d - 48)) ds
 abbrev pub IsDecimal : List ℕ → ℕ → Type 0
 IsDecimal [] n = ⊥
 IsDecimal (d ∷ ds) n = IsDigit d × (d ≡ 48 → ds ≡ []) × AllByRecursion IsDigit ds × (n ≡ value_after 0 (d ∷ ds))
-
--- c is a hexadecimal digit of the value n, in either case
-abbrev pub IsHexDigit : ℕ → ℕ → Type 0
-IsHexDigit c n = (IsDigit c × (n ≡ c - 48)) ⊎ ((97 ≤ c) × (c ≤ 102) × (n ≡ c - 87)) ⊎ ((65 ≤ c) × (c ≤ 70) × (n ≡ c - 55))
-
--- hexadecimal digits behind those of n, and the value of all
-abbrev pub IsHexAfter : ℕ → List ℕ → ℕ → Type 0
-IsHexAfter n [] m = m ≡ n
-IsHexAfter n (c ∷ cs) m = (d : ℕ) × IsHexDigit c d × IsHexAfter (n * 16 + d) cs m
-
--- one to four hexadecimal digits (RFC 4291 section 2.2)
-abbrev pub IsGroup : List ℕ → ℕ → Type 0
-IsGroup cs n = (0 < length cs) × (length cs ≤ 4) × IsHexAfter 0 cs n
 
 -- what a text says: its numbers, or how many bytes are left at its first number above its bound
 abbrev pub Said : Type 0

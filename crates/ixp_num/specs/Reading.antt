@@ -1,5 +1,6 @@
 -- What the reader computes: on lists, with the number of bytes that are left where it stops.
-use Rattle.std.specs.Prelude.{ℕ, suc, ◌+◌, ◌-◌, ◌*◌, ◌^◌, Bool, ◌&&◌, ◌==◌, nat_le, List, [], ◌∷◌, length, min, Option, Some, None, Result, Ok, Err, if◌then◌else◌, ◌≡◌, ◌≢◌, ◌%◌, ◌<◌, ◌≤◌}
+use Rattle.std.specs.Char.{digit_value}
+use Rattle.std.specs.Prelude.{ℕ, zero, suc, nat_lt, ◌+◌, ◌-◌, ◌*◌, ◌^◌, Bool, ◌&&◌, ◌==◌, nat_le, List, [], ◌∷◌, length, min, Option, Some, None, Result, Ok, Err, if◌then◌else◌, ◌≡◌, ◌≢◌, ◌%◌, ◌<◌, ◌≤◌}
 use Rattle.ixp_num.specs.declared.family.Family.{Family}
 use Rattle.ixp_num.specs.declared.addr.Addr.{Addr}
 use Rattle.ixp_num.specs.declared.asn.Asn.{Asn}
@@ -36,6 +37,29 @@ unfoldable pub number_at : List ℕ → Result (ℕ × List ℕ) ℕ
 number_at [] = Err 0
 number_at (c ∷ cs) = if c == 48 then Ok (0, cs) else (if is_digit c then Ok (digits_after (c - 48) cs) else Err (suc (length cs)))
 
+-- the value of the hexadecimal digit at the front, and what is behind it
+unfoldable pub hex_at : List ℕ → Option (ℕ × List ℕ)
+hex_at [] = None
+hex_at (c ∷ cs) = if nat_lt (digit_value c) 16 then Some (digit_value c, cs) else None
+
+-- the value n, or with one more digit what `on` says of it
+abbrev pub hex_on : (ℕ → List ℕ → ℕ × List ℕ) → ℕ → List ℕ → Option (ℕ × List ℕ) → ℕ × List ℕ
+hex_on on n t None = (n, t)
+hex_on on n t (Some p) = on (n * 16 + p.0) p.1
+
+-- the value n with up to `room` digits that follow, and what is behind them
+abbrev pub hex_after : ℕ → ℕ → List ℕ → ℕ × List ℕ
+hex_after zero n t = (n, t)
+hex_after (suc room) n t = hex_on (hex_after room) n t (hex_at t)
+
+-- the one to four hexadecimal digits at the front
+abbrev pub group_with : List ℕ → Option (ℕ × List ℕ) → Result (ℕ × List ℕ) ℕ
+group_with t None = Err (length t)
+group_with t (Some p) = Ok (hex_after 3 p.0 p.1)
+
+unfoldable pub group_at : List ℕ → Result (ℕ × List ℕ) ℕ
+group_at t = group_with t (hex_at t)
+
 -- what follows the byte at the front
 unfoldable pub mark_at : ℕ → List ℕ → Result (List ℕ) ℕ
 mark_at b [] = Err 0
@@ -57,7 +81,7 @@ abbrev pub read : Form → List ℕ → Result Said ℕ
 read (End ns) t = end_at ns t
 read (Mark b form) t = mark_at b t >>= λ rest. read form rest
 read (Decimal bound form) t = number_at t >>= λ p. read (form (min p.0 bound)) p.1 >>= λ said. Ok (bounded bound p.0 (length t) said)
-read (Hex form) t = Err 0
+read (Hex form) t = group_at t >>= λ p. read (form p.0) p.1
 read (Either one other) t = farther (read one t) (read other t)
 
 -- what was read, seen through `view`

@@ -1,11 +1,11 @@
 //! Readers of texts from the front.
 //!
 //! A reader that fails says how many bytes are left where no text of its form goes on.
-ghost use Rattle.std.specs.Prelude.{◌≡◌, ◌+◌, ◌*◌, ◌^◌, ◌≤◌, ◌<◌, ℕ, min, length, IfOk};
+ghost use Rattle.std.specs.Prelude.{◌≡◌, ◌+◌, ◌*◌, ◌^◌, ◌≤◌, ◌<◌, ℕ, min, length, IfOk, IfSome, option_map};
 ghost use Rattle.ixp_num.specs.Families.{bits_of};
 ghost use Rattle.ixp_num.specs.Forms.{End};
 ghost use Rattle.ixp_num.specs.AddressForms.{numbers, bounds_form, tail_form, dotted_form};
-ghost use Rattle.ixp_num.specs.Reading.{Gives, digits_after, number_at, mark_at, end_at, farther, read, said_of, IsWhole, placed};
+ghost use Rattle.ixp_num.specs.Reading.{Gives, digits_after, number_at, hex_at, group_at, mark_at, end_at, farther, read, said_of, IsWhole, placed};
 
 use crate::reading::{Reading, Tail};
 use crate::{Family, NumFault};
@@ -161,24 +161,21 @@ fn tail_text(tail: Tail, family: Family, value: u128, bytes: &[u8]) -> Result<Re
     }
 }
 
-/// The number with eight more bits.
-fn with_octet(high: u128, octet: u64) -> u128
-    requires { high < 2 ^ 120 }
-    ensures { result ≡ high * 256 + min octet 255 }
+fn octet_of(number: u64) -> u128
+    ensures { result ≡ min number 255 }
 {
-    high * 256 + u128::from(octet.min(255))
+    u128::from(number.min(255))
 }
 
-/// Four decimal numbers with dots, behind bits of the value `high`, and what stands behind an address.
+/// Four decimal numbers with dots, whose value is added to `base`, and what stands behind an address.
 pub(crate) fn dotted_text(
     tail: Tail,
     family: Family,
-    high: u128,
+    base: u128,
     bytes: &[u8],
 ) -> Result<Reading, usize>
-    requires small { high < 2 ^ 96 }
-    requires room { (high + 1) * 2 ^ 32 ≤ 2 ^ bits_of family }
-    ensures says { Gives said_of result (read (dotted_form high (tail_form tail family)) bytes.now) }
+    requires { base + 2 ^ 32 ≤ 2 ^ bits_of family }
+    ensures says { Gives said_of result (read (dotted_form base (tail_form tail family)) bytes.now) }
     ensures whole { IfOk result (λ r. IsWhole tail r) }
 {
     let (a, rest) = number_of(bytes)?;
@@ -188,10 +185,46 @@ pub(crate) fn dotted_text(
     let (c, rest) = number_of(at_c)?;
     let at_d = mark_of(b'.', rest)?;
     let (d, rest) = number_of(at_d)?;
-    let value = with_octet(with_octet(with_octet(with_octet(high, a), b), c), d);
-    let reading = tail_text(tail, family, value, rest)?;
+    let value = ((octet_of(a) * 256 + octet_of(b)) * 256 + octet_of(c)) * 256 + octet_of(d);
+    let reading = tail_text(tail, family, base + value, rest)?;
     let reading = reading.after(d, 255, at_d.len()).after(c, 255, at_c.len());
     Ok(reading.after(b, 255, at_b.len()).after(a, 255, bytes.len()))
+}
+
+/// The value of the hexadecimal digit at the front, in either case, and what is behind it.
+#[tactic(auto, unfolding(crate::specs::Reading::hex_at))]
+fn hex_of(bytes: &[u8]) -> Option<(u16, &[u8])>
+    ensures reads { option_map (λ x. (x.0, x.1.now)) result ≡ hex_at bytes.now }
+    ensures small { IfSome result (λ x. x.0 < 16) }
+{
+    match bytes {
+        [digit @ b'0'..=b'9', rest @ ..] => Some((u16::from(*digit - b'0'), rest)),
+        [digit @ b'a'..=b'f', rest @ ..] => Some((u16::from(*digit - b'a') + 10, rest)),
+        [digit @ b'A'..=b'F', rest @ ..] => Some((u16::from(*digit - b'A') + 10, rest)),
+        _ => None,
+    }
+}
+
+/// The value of the one to four hexadecimal digits at the front, and what is behind them.
+#[tactic(auto, unfolding(crate::specs::Reading::group_at))]
+fn group_of(bytes: &[u8]) -> Result<(u16, &[u8]), usize>
+    ensures { Gives (λ x. (x.0, x.1.now)) result (group_at bytes.now) }
+{
+    let Some((first, rest)) = hex_of(bytes) else {
+        return Err(bytes.len());
+    };
+    let Some((second, more)) = hex_of(rest) else {
+        return Ok((first, rest));
+    };
+    let group = first * 16 + second;
+    let Some((third, rest)) = hex_of(more) else {
+        return Ok((group, more));
+    };
+    let group = group * 16 + third;
+    match hex_of(rest) {
+        Some((fourth, more)) => Ok((group * 16 + fourth, more)),
+        None => Ok((group, rest)),
+    }
 }
 
 /// A reading of the whole text, or where and why there is none.
