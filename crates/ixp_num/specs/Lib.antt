@@ -1,4 +1,9 @@
+pub mod AddressForms
+pub mod Answers
 pub mod Families
+pub mod Forms
 pub mod Names
 pub mod Prefixes
+pub mod Printing
+pub mod Reading
 pub mod Roas

@@ -1,5 +1,6 @@
 //! The leading bits of an address.
-ghost use Rattle.std.specs.Prelude.{◌≡◌};
+ghost use Rattle.std.specs.Prelude.{◌≡◌, ◌<◌, ◌-◌, ◌%◌, ◌^◌, ℕ};
+ghost use Rattle.ixp_num.specs.Families.{bits_of};
 ghost use Rattle.ixp_num.specs.Prefixes.{first_bits};
 
 use crate::Family;
@@ -10,4 +11,17 @@ pub fn first_bits(family: Family, len: u8, value: u128) -> u128
 {
     let rest = family.bits().saturating_sub(len);
     if rest == 128 { 0 } else { value >> rest }
+}
+
+/// The bits behind the first `len`, as a number.
+pub fn host_bits(family: Family, len: u8, value: u128) -> u128
+    requires { value < 2 ^ bits_of family }
+    ensures { result ≡ value % 2 ^ (bits_of family - len) }
+{
+    let rest = family.bits().saturating_sub(len);
+    if rest == 128 {
+        value
+    } else {
+        value % (1 << rest)
+    }
 }

@@ -1,0 +1,6 @@
+pub mod AnswerLaws
+pub mod Digits
+pub mod FormLaws
+pub mod Groups
+pub mod PartedForms
+pub mod Stops

@@ -1,0 +1,12 @@
+//! Why a text of numbers isn't read.
+
+/// Why bytes are no address, prefix, pattern or AS number. Places are counted in bytes, from 0.
+#[derive(Clone, Copy, Debug, PartialEq, Eq)]
+pub enum NumFault {
+    /// With the byte at `at` no such text goes on; or the bytes end too early, and `at` is their number.
+    Text { at: usize },
+    /// The number that begins at `at` is the first one above its bound.
+    Range { at: usize },
+    /// Bits behind the prefix's length aren't 0.
+    HostBits,
+}
