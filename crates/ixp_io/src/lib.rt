@@ -7,14 +7,20 @@
 #![tactic(auto)]
 
 mod clock;
+mod keeper;
+mod mem_keeper;
 mod mem_source;
 mod mem_sink;
 mod plan;
 mod standard;
 mod stream;
+#[cfg(test)]
+mod tests;
 mod whole;
 
 pub use clock::{Clock, LAST_SECOND, SetClock};
+pub use keeper::{Change, KeepFault, Keeper, Row, RowName};
+pub use mem_keeper::MemKeeper;
 pub use mem_sink::MemSink;
 pub use mem_source::MemSource;
 pub use plan::Plan;

@@ -7,7 +7,7 @@ use std::alloc::Global;
 /// A sink that keeps what is written in memory. Want of memory is a fault of it.
 #[derive(Debug, Drop)]
 pub struct MemSink {
-    bytes: Vec<u8>,
+    pub bytes: Vec<u8>,
     /// The greatest number of bytes that one write takes, at least 1.
     pub most: usize,
     pub plan: Plan,
@@ -17,7 +17,7 @@ pub struct MemSink {
 impl MemSink {
     /// An empty sink, whose writes take all. It takes no memory.
     pub fn new(alloc: Global, plan: Plan) -> MemSink
-        ensures written { ⟦<MemSink as Stream>⟧.written result ≡ Some [] }
+        ensures bytes { result.bytes.items ≡ [] }
         ensures most { result.most ≡ usize.MAX }
         ensures plan { result.plan ≡ plan }
     {
@@ -28,9 +28,23 @@ impl MemSink {
         }
     }
 
+    /// The same sink, whose writes take at most that many bytes each.
+    pub fn in_pieces(self, most: usize) -> MemSink
+        requires { 0 < most }
+        ensures bytes { result.bytes.items ≡ self.bytes.items }
+        ensures most { result.most ≡ most }
+        ensures plan { result.plan ≡ self.plan }
+    {
+        MemSink {
+            bytes: self.bytes,
+            most,
+            plan: self.plan,
+        }
+    }
+
     /// The bytes that were written.
     pub fn written(&self) -> &[u8]
-        ensures { ⟦<MemSink as Stream>⟧.written self.now ≡ Some result.now }
+        ensures { result.now ≡ self.now.bytes.items }
     {
         self.bytes.as_slice()
     }
@@ -43,7 +57,20 @@ impl Stream for MemSink {
 }
 
 impl Sink for MemSink {
-    fn write(&mut self, bytes: &[u8]) -> Result<usize, Failed> {
+    ghost use Rattle.std.specs.Prelude.{◌≡◌, ◌≤◌, ◌++◌, length, take, min, IsTrue, IsErr, IfOk, OnOk, OnErr};
+    ghost use Rattle.ixp_io.specs.Faults.{Rose};
+    ghost use Rattle.ixp_io.specs.Plans.{fails_next, after_call};
+
+    fn write(&mut self, bytes: &[u8]) -> Result<usize, Failed>
+        ensures fails { IsTrue (fails_next self.old.plan) → IsErr result }
+        ensures plan { OnOk result (self.new.plan ≡ after_call self.old.plan) }
+        ensures gives { IfOk result (λ n. n ≡ min (length bytes.now) self.old.most) }
+        ensures taken { IfOk result (λ n. self.new.bytes.items ≡ self.old.bytes.items ++ take n bytes.now) }
+        ensures kept { OnErr result (self.new.bytes.items ≡ self.old.bytes.items) }
+        ensures most { self.new.most ≡ self.old.most }
+        ensures counts { self.old.plan.faults ≤ self.new.plan.faults }
+        ensures cause { OnErr result (Rose self.old.plan.faults self.new.plan.faults) }
+    {
         self.plan.count_call()?;
         let count = bytes.len().min(self.most);
         match self.bytes.extend_from_slice(&bytes[..count]) {

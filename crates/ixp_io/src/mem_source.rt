@@ -57,7 +57,24 @@ impl Stream for MemSource {
 }
 
 impl Source for MemSource {
-    fn read(&mut self, buf: &mut [u8]) -> Result<usize, Failed> {
+    ghost use Rattle.std.specs.Prelude.{◌≡◌, ◌<◌, ◌≤◌, ◌-◌, ◌++◌, [], length, take, drop, min, is_err, IfOk, OnErr};
+    ghost use Rattle.ixp_io.specs.Faults.{Rose};
+    ghost use Rattle.ixp_io.specs.Plans.{fails_next, after_call};
+
+    fn read(&mut self, buf: &mut [u8]) -> Result<usize, Failed>
+        requires { 0 < length buf.old }
+        ensures fails { is_err result ≡ fails_next self.old.plan }
+        ensures plan { self.new.plan ≡ after_call self.old.plan }
+        ensures gives { IfOk result (λ n. n ≡ min (min (length self.old.bytes - self.old.at) self.old.most) (length buf.old)) }
+        ensures within { IfOk result (λ n. n ≤ length buf.new) }
+        ensures moved { IfOk result (λ n. drop self.old.at self.old.bytes ≡ take n buf.new ++ drop self.new.at self.new.bytes) }
+        ensures ended { result ≡ Ok 0 → drop self.new.at self.new.bytes ≡ [] }
+        ensures kept { OnErr result (self.new.at ≡ self.old.at) }
+        ensures bytes { self.new.bytes ≡ self.old.bytes }
+        ensures most { self.new.most ≡ self.old.most }
+        ensures counts { self.old.plan.faults ≤ self.new.plan.faults }
+        ensures cause { OnErr result (Rose self.old.plan.faults self.new.plan.faults) }
+    {
         self.plan.count_call()?;
         let left = &self.bytes.as_slice()[self.at..];
         let count = left.len().min(self.most).min(buf.len());

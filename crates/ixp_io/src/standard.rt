@@ -18,6 +18,13 @@ impl<R: Read> ReadSource<R> {
     {
         ReadSource { reader, faults: 0 }
     }
+
+    /// How often a read failed.
+    pub fn faults(&self) -> u64
+        ensures { result ≡ ⟦<ReadSource<R> as Stream>⟧.read_faults self.now }
+    {
+        self.faults
+    }
 }
 
 impl<R: Read> Stream for ReadSource<R> {
@@ -50,6 +57,13 @@ impl<W: Write> WriteSink<W> {
         ensures { ⟦<WriteSink<W> as Stream>⟧.write_faults result ≡ 0 }
     {
         WriteSink { writer, faults: 0 }
+    }
+
+    /// How often a write failed.
+    pub fn faults(&self) -> u64
+        ensures { result ≡ ⟦<WriteSink<W> as Stream>⟧.write_faults self.now }
+    {
+        self.faults
     }
 }
 
