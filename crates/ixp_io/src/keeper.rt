@@ -100,7 +100,11 @@ impl<T: Keeper> Keeper for &mut T {
         (**self).commit(alloc, batch)
     }
 
-    fn next_row(&mut self, alloc: Global, after: Option<&RowName>) -> Result<Option<Row>, KeepFault> {
+    fn next_row(
+        &mut self,
+        alloc: Global,
+        after: Option<&RowName>,
+    ) -> Result<Option<Row>, KeepFault> {
         (**self).next_row(alloc, after)
     }
 
@@ -143,7 +147,9 @@ impl Ord for RowName {
     ghost matches_eq = { Prim.search (comparing, rules) };
 
     fn cmp(&self, other: &RowName) -> Ordering {
-        self.kind.cmp(&other.kind).then(self.key.as_slice().cmp(other.key.as_slice()))
+        self.kind
+            .cmp(&other.kind)
+            .then(self.key.as_slice().cmp(other.key.as_slice()))
     }
 }
 

@@ -9,8 +9,8 @@
 mod clock;
 mod keeper;
 mod mem_keeper;
-mod mem_source;
 mod mem_sink;
+mod mem_source;
 mod plan;
 mod standard;
 mod stream;

@@ -130,8 +130,6 @@ fn find_next<'a>(rows: &'a Rows, after: Option<&RowName>) -> Option<(&'a RowName
 {
     match after {
         None => rows.first_key_value(),
-        Some(name) => rows
-            .range((Bound::Excluded(name), Bound::Unbounded))
-            .next(),
+        Some(name) => rows.range((Bound::Excluded(name), Bound::Unbounded)).next(),
     }
 }

@@ -16,7 +16,12 @@ fn text(alloc: Global, count: usize) -> Result<Vec<u8>, AllocError> {
     Ok(bytes)
 }
 
-fn source(alloc: Global, count: usize, most: usize, failing: &[u64]) -> Result<MemSource, AllocError>
+fn source(
+    alloc: Global,
+    count: usize,
+    most: usize,
+    failing: &[u64],
+) -> Result<MemSource, AllocError>
     requires { 0 < most }
 {
     let plan = Plan::failing(alloc, failing)?;
@@ -43,11 +48,18 @@ fn a_source_is_read_whole_in_pieces(rt: HostRuntime) -> Result<(), Fail> {
         let want = text(alloc, count)?;
         let mut exact = source(alloc, count, most.max(1), &[])?;
         let all = read_whole(alloc, &mut exact, count)?;
-        assert_eq!(rt; all.as_slice(), want.as_slice(), "{count} bytes in pieces of {most}");
+        assert_eq!(rt;
+            all.as_slice(),
+            want.as_slice(),
+            "{count} bytes in pieces of {most}"
+        );
         if count > 0 {
             let mut longer = source(alloc, count, most.max(1), &[])?;
             let fault = read_whole(alloc, &mut longer, count - 1);
-            assert!(rt; matches!(fault, Err(WholeFault::TooLong)), "{count} bytes in pieces of {most}");
+            assert!(rt;
+                matches!(fault, Err(WholeFault::TooLong)),
+                "{count} bytes in pieces of {most}"
+            );
             assert_eq!(rt; longer.plan.faults, 0);
         }
     }
@@ -77,7 +89,11 @@ fn each_read_fails_in_turn(rt: HostRuntime) -> Result<(), Fail> {
         let rest = read_whole(alloc, &mut failing, 10)?;
         let want = text(alloc, 10)?;
         let seen = (number as usize - 1) * 4;
-        assert_eq!(rt; rest.as_slice(), &want.as_slice()[seen.min(10)..], "read {number}");
+        assert_eq!(rt;
+            rest.as_slice(),
+            &want.as_slice()[seen.min(10)..],
+            "read {number}"
+        );
     }
     Ok(())
 }
@@ -89,7 +105,11 @@ fn a_text_is_written_in_pieces(rt: HostRuntime) -> Result<(), Fail> {
         let want = text(alloc, count)?;
         let mut sink = MemSink::new(alloc, Plan::smooth(alloc)).in_pieces(most.max(1));
         write_all(&mut sink, want.as_slice())?;
-        assert_eq!(rt; sink.written(), want.as_slice(), "{count} bytes in pieces of {most}");
+        assert_eq!(rt;
+            sink.written(),
+            want.as_slice(),
+            "{count} bytes in pieces of {most}"
+        );
     }
     Ok(())
 }
@@ -104,7 +124,11 @@ fn each_write_fails_in_turn(rt: HostRuntime) -> Result<(), Fail> {
         assert!(rt; matches!(fault, Err(Failed)), "write {number}");
         assert_eq!(rt; sink.plan.faults, 1);
         let seen = (number as usize - 1) * 4;
-        assert_eq!(rt; sink.written(), &want.as_slice()[..seen.min(10)], "write {number}");
+        assert_eq!(rt;
+            sink.written(),
+            &want.as_slice()[..seen.min(10)],
+            "write {number}"
+        );
     }
     Ok(())
 }
@@ -186,8 +210,17 @@ fn a_keeper_gives_its_rows_in_order(rt: HostRuntime) -> Result<(), Fail> {
     ];
     keeper.commit(alloc, batch.as_slice())?;
     let rows = shown(alloc, &mut keeper)?;
-    assert_eq!(rt; rows.as_slice(), b"1 z=4;2 =5;2 a10=3;2 a9=2;2 b=6;".as_slice());
-    keeper.commit(alloc, &[change(alloc, b'2', b"a9", None)?, change(alloc, b'1', b"z", Some(b""))?])?;
+    assert_eq!(rt;
+        rows.as_slice(),
+        b"1 z=4;2 =5;2 a10=3;2 a9=2;2 b=6;".as_slice()
+    );
+    keeper.commit(
+        alloc,
+        &[
+            change(alloc, b'2', b"a9", None)?,
+            change(alloc, b'1', b"z", Some(b""))?,
+        ],
+    )?;
     let rows = shown(alloc, &mut keeper)?;
     assert_eq!(rt; rows.as_slice(), b"1 z=;2 =5;2 a10=3;2 b=6;".as_slice());
     Ok(())
@@ -221,6 +254,7 @@ fn a_set_clock_gives_its_second(rt: HostRuntime) {
 }
 
 // A writer that fails at the step that its field names: `w` a write, `0` a write of nothing, `f` a flush.
+#[derive(Drop)]
 struct Broken(u8);
 
 impl Write for Broken {
@@ -254,7 +288,10 @@ fn readers_and_writers_are_sources_and_sinks(rt: HostRuntime) -> Result<(), Fail
         pipe.push_back(*byte)?;
     }
     let mut input = ReadSource::new(pipe);
-    assert_eq!(rt; read_whole(alloc, &mut input, 5)?.as_slice(), b"hello".as_slice());
+    assert_eq!(rt;
+        read_whole(alloc, &mut input, 5)?.as_slice(),
+        b"hello".as_slice()
+    );
     assert_eq!(rt; input.faults(), 0);
     let mut output = WriteSink::new(Vec::new(alloc));
     write_all(&mut output, b"hello")?;

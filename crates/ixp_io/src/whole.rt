@@ -38,7 +38,11 @@ pub fn write_all<K: Sink>(sink: &mut K, bytes: &[u8]) -> Result<(), Failed>
 
 /// Reads a source to its end, and answers all its bytes, where they are no more than the limit. It reads no more than
 /// one byte past the limit.
-pub fn read_whole<S: Source>(alloc: Global, source: &mut S, limit: usize) -> Result<Items<u8>, WholeFault>
+pub fn read_whole<S: Source>(
+    alloc: Global,
+    source: &mut S,
+    limit: usize,
+) -> Result<Items<u8>, WholeFault>
     ensures bytes { IfOk result (λ bytes. Moves (S.left source.old) (S.left source.new) bytes) }
     ensures done { OnOk result (IsDone (S.left source.new)) }
     ensures limit { IfOk result (λ bytes. length bytes ≤ limit) }

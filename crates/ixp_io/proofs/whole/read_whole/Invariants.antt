@@ -10,7 +10,7 @@ invariant-loop-asked g l =
       moves : Moves (told.left l.fn.source) (told.left l.source) l.bytes.items;
       counts : told.read_faults l.fn.source ≤ told.read_faults l.source;
       written : told.written l.source ≡ told.written l.fn.source;
-      write_faults : told.write_faults l.source ≡ told.write_faults l.fn.source
+      write_faults : told.write_faults l.source ≡ told.write_faults l.fn.source;
     }
 
 abbrev pub decreases-loop-asked : goal.decreases-loop-asked

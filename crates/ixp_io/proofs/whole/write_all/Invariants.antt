@@ -10,7 +10,7 @@ invariant-loop-at g l =
       takes : Takes (told.written l.fn.sink) (told.written l.sink) (take l.at l.bytes);
       counts : told.write_faults l.fn.sink ≤ told.write_faults l.sink;
       left : told.left l.sink ≡ told.left l.fn.sink;
-      read_faults : told.read_faults l.sink ≡ told.read_faults l.fn.sink
+      read_faults : told.read_faults l.sink ≡ told.read_faults l.fn.sink;
     }
 
 abbrev pub decreases-loop-at : goal.decreases-loop-at
