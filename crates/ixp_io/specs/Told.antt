@@ -1,5 +1,5 @@
 -- What an object of the outside tells of its content, before a call and after it.
-use Rattle.std.specs.Prelude.{◌≡◌, ◌+◌, ◌<◌, Option, None, Some, List, [], ℕ, ◌++◌, length, take, ⊤}
+use Rattle.std.specs.Prelude.{◌≡◌, ◌≤◌, Option, None, Some, List, [], ℕ, ◌++◌, length, take, ⊤}
 
 -- Where the content is told, P holds of it before and after. What is told before is told after, and the other way round.
 abbrev pub Told : {A : Type 0} → Option A → Option A → (A → A → Type 0) → Type 0
@@ -17,9 +17,9 @@ WhereTold (Some content) P = P content
 abbrev pub Moves : Option (List ℕ) → Option (List ℕ) → List ℕ → Type 0
 Moves before now bytes = Told before now (λ left rest. left ≡ bytes ++ rest)
 
--- some first bytes of those that were left are gone
-abbrev pub MovesSome : Option (List ℕ) → Option (List ℕ) → Type 0
-MovesSome before now = (bytes : List ℕ) × Moves before now bytes
+-- of the bytes that were left some first ones are gone, at most this many
+abbrev pub MovesUpTo : ℕ → Option (List ℕ) → Option (List ℕ) → Type 0
+MovesUpTo most before now = (bytes : List ℕ) × (length bytes ≤ most) × Moves before now bytes
 
 -- nothing is left
 abbrev pub IsDone : Option (List ℕ) → Type 0

@@ -7,7 +7,10 @@
 #![tactic(auto)]
 
 mod clock;
+mod door;
+mod joined;
 mod keeper;
+mod mem_door;
 mod mem_keeper;
 mod mem_sink;
 mod mem_source;
@@ -19,7 +22,10 @@ mod tests;
 mod whole;
 
 pub use clock::{Clock, LAST_SECOND, SetClock};
+pub use door::{Door, FreeGate, Gate};
+pub use joined::Joined;
 pub use keeper::{Change, KeepFault, Keeper, Row, RowName};
+pub use mem_door::{MemDoor, MemLink};
 pub use mem_keeper::MemKeeper;
 pub use mem_sink::MemSink;
 pub use mem_source::MemSource;

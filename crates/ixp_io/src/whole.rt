@@ -1,7 +1,7 @@
 //! Reading all of a source, and writing all of a text.
-ghost use Rattle.std.specs.Prelude.{◌≡◌, ◌<◌, ◌≤◌, ℕ, length, IfOk, OnOk, OnErr, IsErrOf};
+ghost use Rattle.std.specs.Prelude.{◌≡◌, ◌+◌, ◌<◌, ◌≤◌, ℕ, length, IfOk, OnOk, OnErr, IsErrOf};
 ghost use Rattle.ixp_io.specs.Faults.{Rose};
-ghost use Rattle.ixp_io.specs.Told.{Told, Moves, MovesSome, IsDone, Takes, TakesPart};
+ghost use Rattle.ixp_io.specs.Told.{Told, Moves, MovesUpTo, IsDone, Takes, TakesPart};
 
 use crate::{Failed, Sink, Source};
 use ixp_lists::Items;
@@ -48,7 +48,7 @@ pub fn read_whole<S: Source>(
     ensures limit { IfOk result (λ bytes. length bytes ≤ limit) }
     ensures too_long { IsErrOf result WholeFault.TooLong → Told (S.left source.old) (S.left source.new) (λ left rest. limit < length left) }
     ensures failed { IsErrOf result WholeFault.Failed → Rose (S.read_faults source.old) (S.read_faults source.new) }
-    ensures some { MovesSome (S.left source.old) (S.left source.new) }
+    ensures most { MovesUpTo (limit + 1) (S.left source.old) (S.left source.new) }
     ensures counts { S.read_faults source.old ≤ S.read_faults source.new }
     ensures written { S.written source.new ≡ S.written source.old }
     ensures write_faults { S.write_faults source.new ≡ S.write_faults source.old }
