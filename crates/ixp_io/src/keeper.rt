@@ -8,7 +8,7 @@ ghost use Rattle.std.specs.Ordering.{eq_by_cmp, as_partial_cmp};
 ghost use Rattle.std.proofs.Common.{rules};
 ghost use Rattle.ixp_io.specs.Faults.{Rose};
 ghost use Rattle.ixp_io.specs.Told.{Told, WhereTold};
-ghost use Rattle.ixp_io.specs.Tables.{Table, Ascends, name_bytes, name_cmp, changed, next_after, row_entry};
+ghost use Rattle.ixp_io.specs.Tables.{Table, name_bytes, name_cmp, changed, next_after, row_entry};
 
 use crate::Failed;
 use ixp_lists::Items;
@@ -60,7 +60,7 @@ impl RowName {
 
 /// What stores rows by their names.
 pub trait Keeper {
-    /// The rows, ascending by name, where they are told.
+    /// The rows, where they are told.
     ghost table: { Self → Option Table };
 
     /// How often a call failed.
@@ -70,7 +70,6 @@ pub trait Keeper {
     fn commit(&mut self, alloc: Global, batch: &[Change]) -> Result<(), KeepFault>
         ensures made { OnOk result (Told (table self.old) (table self.new) (λ before now. now ≡ changed before batch.now)) }
         ensures kept { OnErr result (table self.new ≡ table self.old) }
-        ensures ascends { WhereTold (table self.new) Ascends }
         ensures counts { faults self.old ≤ faults self.new }
         ensures cause { IsErrOf result KeepFault.Failed → Rose (faults self.old) (faults self.new) }
         ensures answered { Rose (faults self.old) (faults self.new) → result ≡ Err KeepFault.Failed };
@@ -80,15 +79,13 @@ pub trait Keeper {
     fn next_row(&mut self, alloc: Global, after: Option<&RowName>) -> Result<Option<Row>, KeepFault>
         ensures row { IfOk result (λ row. WhereTold (table self.old) (λ rows. option_map row_entry row ≡ next_after (option_copied after.entry) rows)) }
         ensures kept { table self.new ≡ table self.old }
-        ensures ascends { WhereTold (table self.new) Ascends }
         ensures counts { faults self.old ≤ faults self.new }
         ensures cause { IsErrOf result KeepFault.Failed → Rose (faults self.old) (faults self.new) }
         ensures answered { Rose (faults self.old) (faults self.new) → result ≡ Err KeepFault.Failed };
 
     /// The count of faults.
     fn faults(&self) -> u64
-        ensures count { result ≡ faults self.now }
-        ensures ascends { WhereTold (table self.now) Ascends };
+        ensures { result ≡ faults self.now };
 }
 
 impl<T: Keeper> Keeper for &mut T {

@@ -1,8 +1,9 @@
 //! A keeper in memory.
-ghost use Rattle.std.specs.Prelude.{◌≡◌, ◌≤◌, ◌↔◌, [], Some, IsTrue, IfOk, OnOk, OnErr, IsErrOf, option_map};
-ghost use Rattle.std.specs.BTreeMap.{insert_entry};
+ghost use Rattle.std.specs.Prelude.{◌≡◌, ◌≤◌, ◌↔◌, [], Some, IsTrue, IfOk, OnOk, OnErr, IsErrOf, option_map, slice_get};
+ghost use Rattle.std.specs.BTreeMap.{IsOrdered};
+ghost use Rattle.std.specs.FinMap.{empty, insert, remove};
 ghost use Rattle.std.specs.Option.{option_copied};
-ghost use Rattle.ixp_io.specs.Tables.{Ascends, name_cmp, next_after, set, changed, row_entry};
+ghost use Rattle.ixp_io.specs.Tables.{name_cmp, next_after, rows_after, set, changed, row_entry, table_of};
 ghost use Rattle.ixp_io.specs.Faults.{Rose};
 ghost use Rattle.ixp_io.specs.Plans.{fails_next, after_call};
 
@@ -24,32 +25,30 @@ pub struct MemKeeper {
 impl MemKeeper {
     /// A keeper without rows. It takes no memory.
     pub fn new(alloc: Global, plan: Plan) -> MemKeeper
-        ensures rows { result.rows.entries ≡ [] }
+        ensures rows { table_of result.rows ≡ empty }
         ensures plan { result.plan ≡ plan }
     {
         MemKeeper {
-            rows: BTreeMap::new(alloc),
+            rows: empty_rows(alloc),
             plan,
         }
     }
 }
 
 impl Keeper for MemKeeper {
-    ghost table = { λ keeper. Some keeper.rows.entries };
+    ghost table = { λ keeper. Some (table_of keeper.rows) };
 
     ghost faults = { λ keeper. keeper.plan.faults };
 
     fn commit(&mut self, alloc: Global, batch: &[Change]) -> Result<(), KeepFault>
         ensures fails { IsErrOf result KeepFault.Failed ↔ IsTrue (fails_next self.old.plan) }
         ensures plan { self.new.plan ≡ after_call self.old.plan }
-        ensures made { OnOk result (self.new.rows.entries ≡ changed self.old.rows.entries batch.now) }
-        ensures kept { OnErr result (self.new.rows.entries ≡ self.old.rows.entries) }
-        ensures ascends { Ascends self.new.rows.entries }
+        ensures made { OnOk result (table_of self.new.rows ≡ changed (table_of self.old.rows) batch.now) }
+        ensures kept { OnErr result (table_of self.new.rows ≡ table_of self.old.rows) }
         ensures counts { self.old.plan.faults ≤ self.new.plan.faults }
         ensures cause { IsErrOf result KeepFault.Failed → Rose self.old.plan.faults self.new.plan.faults }
         ensures answered { Rose self.old.plan.faults self.new.plan.faults → result ≡ Err KeepFault.Failed }
     {
-        let _ascending = self.rows.len();
         self.plan.count_call()?;
         let mut rows = copy_rows(alloc, &self.rows)?;
         for change in batch {
@@ -62,14 +61,12 @@ impl Keeper for MemKeeper {
     fn next_row(&mut self, alloc: Global, after: Option<&RowName>) -> Result<Option<Row>, KeepFault>
         ensures fails { IsErrOf result KeepFault.Failed ↔ IsTrue (fails_next self.old.plan) }
         ensures plan { self.new.plan ≡ after_call self.old.plan }
-        ensures row { IfOk result (λ row. option_map row_entry row ≡ next_after (option_copied after.entry) self.old.rows.entries) }
-        ensures kept { self.new.rows.entries ≡ self.old.rows.entries }
-        ensures ascends { Ascends self.new.rows.entries }
+        ensures row { IfOk result (λ row. option_map row_entry row ≡ next_after (option_copied after.entry) (table_of self.old.rows)) }
+        ensures kept { table_of self.new.rows ≡ table_of self.old.rows }
         ensures counts { self.old.plan.faults ≤ self.new.plan.faults }
         ensures cause { IsErrOf result KeepFault.Failed → Rose self.old.plan.faults self.new.plan.faults }
         ensures answered { Rose self.old.plan.faults self.new.plan.faults → result ≡ Err KeepFault.Failed }
     {
-        let _ascending = self.rows.len();
         self.plan.count_call()?;
         match find_next(&self.rows, after) {
             None => Ok(None),
@@ -81,29 +78,34 @@ impl Keeper for MemKeeper {
     }
 
     fn faults(&self) -> u64 {
-        let _ascending = self.rows.len();
         self.plan.faults
     }
 }
 
 // Sets or deletes one row.
 fn make(alloc: Global, rows: &mut Rows, change: &Change) -> Result<(), AllocError>
-    ensures made { OnOk result (rows.new.entries ≡ set rows.old.entries change.now.name change.now.body) }
-    ensures ascends { OnOk result (Ascends rows.new.entries) }
+    ensures { OnOk result (table_of rows.new ≡ set (table_of rows.old) change.now.name change.now.body) }
 {
     match &change.body {
         Some(body) => put(alloc, rows, &change.name, body),
         None => {
-            rows.remove(&change.name);
+            take_out(rows, &change.name);
             Ok(())
         }
     }
 }
 
+// Deletes a row, where it is there.
+fn take_out(rows: &mut Rows, name: &RowName)
+    ensures { table_of rows.new ≡ remove (table_of rows.old) name.now }
+{
+    let _ordered = rows.len();
+    rows.remove(name);
+}
+
 // Sets a row.
 fn put(alloc: Global, rows: &mut Rows, name: &RowName, body: &Items<u8>) -> Result<(), AllocError>
-    ensures made { OnOk result (rows.new.entries ≡ insert_entry name_cmp rows.old.entries name.now body.now) }
-    ensures ascends { OnOk result (Ascends rows.new.entries) }
+    ensures { OnOk result (table_of rows.new ≡ insert (table_of rows.old) name.now body.now) }
 {
     let name = name.copied(alloc)?;
     let body = body.copied(alloc)?;
@@ -111,12 +113,17 @@ fn put(alloc: Global, rows: &mut Rows, name: &RowName, body: &Items<u8>) -> Resu
     Ok(())
 }
 
-// The same rows once more, from the last on, so that each comes before those that are there.
-fn copy_rows(alloc: Global, rows: &Rows) -> Result<Rows, AllocError>
-    ensures same { IfOk result (λ copy. copy.entries ≡ rows.now.entries) }
-    ensures ascends { IfOk result (λ copy. Ascends copy.entries) }
+fn empty_rows(alloc: Global) -> Rows
+    ensures { table_of result ≡ empty }
 {
-    let mut copy = BTreeMap::new(alloc);
+    BTreeMap::new(alloc)
+}
+
+// The same rows once more, from the last on.
+fn copy_rows(alloc: Global, rows: &Rows) -> Result<Rows, AllocError>
+    ensures { IfOk result (λ copy. table_of copy ≡ table_of rows.now) }
+{
+    let mut copy = empty_rows(alloc);
     let mut rest = rows.iter();
     while let Some((name, body)) = rest.next_back() {
         put(alloc, &mut copy, name, body)?;
@@ -126,10 +133,21 @@ fn copy_rows(alloc: Global, rows: &Rows) -> Result<Rows, AllocError>
 
 // The row with the least name that is greater.
 fn find_next<'a>(rows: &'a Rows, after: Option<&RowName>) -> Option<(&'a RowName, &'a Items<u8>)>
-    ensures { option_map (λ row. (row.0.now, row.1.now)) result ≡ next_after (option_copied after.entry) rows.now.entries }
+    ensures { option_map (λ row. (row.0.now, row.1.now)) result ≡ next_after (option_copied after.entry) (table_of rows.now) }
 {
+    seek(rows, after)
+}
+
+// The first entry whose name is greater.
+fn seek<'a>(rows: &'a Rows, after: Option<&RowName>) -> Option<(&'a RowName, &'a Items<u8>)>
+    ensures first { option_map (λ row. (row.0.now, row.1.now)) result ≡ slice_get (rows_after (option_copied after.entry) rows.now.entries) 0 }
+    ensures ordered { IsOrdered name_cmp rows.now }
+{
+    let _ordered = rows.len();
     match after {
         None => rows.first_key_value(),
-        Some(name) => rows.range((Bound::Excluded(name), Bound::Unbounded)).next(),
+        Some(name) => rows
+            .range((Bound::Excluded(name), Bound::Unbounded))
+            .next(),
     }
 }
