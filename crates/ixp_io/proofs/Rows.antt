@@ -6,13 +6,14 @@ use Rattle.std.specs.Cmp.{IsTotalOrder, on_total, eq_by_cmp_equiv}
 use Rattle.std.specs.Cmp.Lexicographic.{nat_list_cmp_total}
 use Rattle.std.specs.BTreeMap.{BTreeMap, is_at}
 use Rattle.std.specs.Map.{keys_of, lookup}
-use Rattle.std.specs.Ordering.{is_lt, eq_by_cmp}
+use Rattle.std.specs.Ordering.{is_lt, eq_by_cmp, ordering_reverse}
 use Rattle.std.specs.FinMap.{FinMap, IsAntisymmetric, empty, get-empty, slice_cmp-IsAntisymmetric, nat_cmp-IsAntisymmetric, get, insert, remove, entries, entries_sorted, from_sorted, from_entries, get-insert, get-remove, get-from_sorted, get-from_entries, entries-from_sorted, same_map, find, is_sorted}
 use Rattle.std.specs.FinMap.Entries.{below_all}
+use Rattle.std.specs.Cmp.{tied_itself}
 use Rattle.std.specs.declared.cmp.Ordering.{Ordering}
 use Rattle.std.specs.declared.cmp.Ordering.TheVariants.{Less, Equal, Greater}
 use Rattle.ixp_io.specs.declared.keeper.RowName.{RowName}
-use Rattle.ixp_io.specs.Tables.{Table, name_bytes, name_cmp, set, rows_after, next_after, table_of}
+use Rattle.ixp_io.specs.Tables.{Table, name_bytes, name_cmp, set, rows_after, next_after, table_of, RowsInOrder}
 
 -- the order of names is total
 pub name_total : IsTotalOrder name_cmp
@@ -69,3 +70,47 @@ after-table_of before es h = ap (λ t. slice_get (rows_after before t) 0) (entri
 -- no rows
 pub none-table_of : (es : List (RowName × List ℕ)) → es ≡ [] → from_sorted {R = name_cmp} es ≡ empty
 none-table_of es is = ap from_sorted is ∙ same_rows _ _ (λ q. get-from_sorted name_cmp [] q tt ∙ sym (get-empty name_cmp q))
+
+to_true : (b : Bool) → T b → b ≡ true
+to_true true h = refl
+to_true false h = absurd h
+
+first_of_both : (a b : Bool) → T (a && b) → T a
+first_of_both true b h = tt
+first_of_both false b h = h
+
+second_of_both : (a b : Bool) → T (a && b) → T b
+second_of_both true b h = h
+second_of_both false b h = absurd h
+
+less : (o : Ordering) → T (is_lt o) → o ≡ Less
+less Less h = refl
+less Equal h = absurd h
+less Greater h = absurd h
+
+-- all rows above a name stay
+all_above : (name : RowName) (es : List (RowName × List ℕ)) → T (below_all name_cmp name es) → rows_after (Some name) es ≡ es
+all_above name [] h = refl
+all_above name (e ∷ es) h =
+    ap (λ b. cond b (e ∷ rows_after (Some name) es) (rows_after (Some name) es)) (to_true _ (first_of_both _ _ h))
+    ∙ ap (λ t. e ∷ t) (all_above name es (second_of_both _ _ h))
+
+-- a row that stands behind is above
+above : (e row : RowName × List ℕ) (es after : List (RowName × List ℕ)) → T (below_all name_cmp e.0 (es ++ row ∷ after)) → name_cmp e.0 row.0 ≡ Less
+above e row [] after h = less _ (first_of_both _ _ h)
+above e row (x ∷ es) after h = above e row es after (second_of_both _ _ h)
+
+-- in a list that rises, the rows above one of them are those behind it
+behind : (before after : List (RowName × List ℕ)) (row : RowName × List ℕ) → T (is_sorted name_cmp (before ++ row ∷ after)) → rows_after (Some row.0) (before ++ row ∷ after) ≡ after
+behind [] after row h =
+    ap (λ o. cond (is_lt o) (row ∷ rows_after (Some row.0) after) (rows_after (Some row.0) after)) (tied_itself name_total row.0)
+    ∙ all_above row.0 after (first_of_both _ _ h)
+behind (e ∷ before) after row h =
+    let rest = rows_after (Some row.0) (before ++ row ∷ after) in
+    let greater : name_cmp row.0 e.0 ≡ Greater = name_total.antisymm row.0 e.0 ∙ ap ordering_reverse (above e row before after (first_of_both _ _ h)) in
+    ap (λ o. cond (is_lt o) (e ∷ rest) rest) greater ∙ behind before after row (second_of_both _ _ h)
+
+-- after a row comes the one behind it
+pub rows_in_order : RowsInOrder
+rows_in_order rows before after row is =
+    ap (λ t. slice_get t 0) (ap (rows_after (Some row.0)) is ∙ behind before after row (subst (λ es. T (is_sorted name_cmp es)) is (entries_sorted rows)))

@@ -1,5 +1,5 @@
 -- The rows that a keeper holds.
-use Rattle.std.specs.Prelude.{Option, None, Some, List, [], ◌∷◌, ℕ, filter, slice_get}
+use Rattle.std.specs.Prelude.{◌≡◌, ◌++◌, Option, None, Some, List, [], ◌∷◌, ℕ, filter, slice_get}
 use Rattle.std.specs.Ordering.{nat_cmp, is_lt}
 use Rattle.std.specs.Cmp.Lexicographic.{slice_cmp}
 use Rattle.std.specs.FinMap.{FinMap, insert, remove, entries, from_sorted}
@@ -47,3 +47,7 @@ row_entry row = (row.name, row.body)
 -- the rows of an ordered map in memory
 abbrev pub table_of : BTreeMap RowName (List ℕ) → Table
 table_of rows = from_sorted rows.entries
+
+-- after a row comes the one that stands behind it in the order of the names, or none
+abbrev pub RowsInOrder : Type 0
+RowsInOrder = (rows : Table) (before after : List (RowName × List ℕ)) (row : RowName × List ℕ) → entries rows ≡ before ++ row ∷ after → next_after (Some row.0) rows ≡ slice_get after 0

@@ -8,7 +8,7 @@ ghost use Rattle.std.specs.Ordering.{eq_by_cmp, as_partial_cmp};
 ghost use Rattle.std.proofs.Common.{rules};
 ghost use Rattle.ixp_io.specs.Faults.{Rose};
 ghost use Rattle.ixp_io.specs.Told.{Told, WhereTold};
-ghost use Rattle.ixp_io.specs.Tables.{Table, name_bytes, name_cmp, changed, next_after, row_entry};
+ghost use Rattle.ixp_io.specs.Tables.{Table, name_bytes, name_cmp, changed, next_after, row_entry, RowsInOrder};
 
 use crate::Failed;
 use ixp_lists::Items;
@@ -87,6 +87,12 @@ pub trait Keeper {
     fn faults(&self) -> u64
         ensures { result ≡ faults self.now };
 }
+
+/// A law of the rows: who asks for the row after each that it was given, from the first on, gets all of them in order.
+#[tactic(auto, using(crate::proofs::Rows::rows_in_order))]
+pub fn rows_in_order()
+    ensures { RowsInOrder }
+{}
 
 impl<T: Keeper> Keeper for &mut T {
     ghost table = { λ it. T.table it.now };

@@ -24,7 +24,7 @@ mod whole;
 pub use clock::{Clock, LAST_SECOND, SetClock};
 pub use door::{Door, FreeGate, Gate};
 pub use joined::Joined;
-pub use keeper::{Change, KeepFault, Keeper, Row, RowName};
+pub use keeper::{Change, KeepFault, Keeper, Row, RowName, rows_in_order};
 pub use mem_door::{MemDoor, MemLink};
 pub use mem_keeper::MemKeeper;
 pub use mem_sink::MemSink;

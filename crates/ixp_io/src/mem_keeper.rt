@@ -146,8 +146,6 @@ fn seek<'a>(rows: &'a Rows, after: Option<&RowName>) -> Option<(&'a RowName, &'a
     let _ordered = rows.len();
     match after {
         None => rows.first_key_value(),
-        Some(name) => rows
-            .range((Bound::Excluded(name), Bound::Unbounded))
-            .next(),
+        Some(name) => rows.range((Bound::Excluded(name), Bound::Unbounded)).next(),
     }
 }

@@ -307,3 +307,67 @@ fn readers_and_writers_are_sources_and_sinks(rt: HostRuntime) -> Result<(), Fail
     }
     Ok(())
 }
+
+#[test]
+fn a_door_gives_its_links_in_order(rt: HostRuntime) -> Result<(), Fail> {
+    let alloc = rt.alloc();
+    let mut links = VecDeque::new(alloc);
+    for count in 1..=2 {
+        let link = MemLink {
+            source: source(alloc, count, 1, &[])?,
+            sink: MemSink::new(alloc, Plan::smooth(alloc)),
+        };
+        if links.push_back(link).is_err() {
+            return Err(Fail::from("no memory"));
+        }
+    }
+    let mut door = MemDoor::new(links, Plan::failing(alloc, &[3])?);
+    door.listen(80)?;
+    FreeGate.at(1);
+    let mut first = door.accept()?;
+    assert_eq!(rt; read_whole(alloc, &mut first, 9)?.len(), 1);
+    write_all(&mut first, b"hello")?;
+    assert_eq!(rt; first.sink.written(), b"hello".as_slice());
+    assert!(rt; door.accept().is_err());
+    let second = door.accept()?;
+    assert_eq!(rt; second.source.bytes.len(), 2);
+    assert_eq!(rt; (door.given, door.plan.faults), (2, 1));
+    assert!(rt; door.accept().is_err());
+    assert_eq!(rt; (door.given, door.plan.faults), (2, 2));
+    Ok(())
+}
+
+#[test]
+fn two_ends_are_joined(rt: HostRuntime) -> Result<(), Fail> {
+    let alloc = rt.alloc();
+    let mut input = source(alloc, 5, 2, &[])?;
+    let mut output = MemSink::new(alloc, Plan::smooth(alloc));
+    let mut link = Joined {
+        source: &mut input,
+        sink: &mut output,
+    };
+    let all = read_whole(alloc, &mut link, 5)?;
+    write_all(&mut link, all.as_slice())?;
+    assert_eq!(rt; output.written(), all.as_slice());
+    Ok(())
+}
+
+fn is_send<T: Send>(_value: &T) {}
+
+fn is_sync<T: Sync>(_value: &T) {}
+
+#[test]
+fn objects_go_to_other_threads(rt: HostRuntime) -> Result<(), Fail> {
+    let alloc = rt.alloc();
+    is_send(&source(alloc, 1, 1, &[])?);
+    is_send(&MemSink::new(alloc, Plan::smooth(alloc)));
+    is_send(&MemKeeper::new(alloc, Plan::smooth(alloc)));
+    is_send(&MemDoor::new(VecDeque::new(alloc), Plan::smooth(alloc)));
+    is_send(&SetClock::new(0));
+    is_send(&ReadSource::new(rt.stdin()));
+    is_send(&WriteSink::new(rt.stdout()));
+    is_sync(&FreeGate);
+    let mut clock = SetClock::new(0);
+    is_send(&&mut clock);
+    Ok(())
+}
