@@ -1,0 +1,4 @@
+pub mod Faults
+pub mod Plans
+pub mod Told
+pub mod Tables
