@@ -1,7 +1,7 @@
 //! Items, and the whole configuration.
 ghost use Rattle.std.specs.Prelude.{◌≡◌, ◌++◌, [], codes, decimal, map, OnOk};
 ghost use Rattle.std.specs.Option.{option_map};
-ghost use Rattle.ixp_num.specs.Texts.{addr_text};
+ghost use Rattle.ixp_num.specs.Printing.{addr_text};
 ghost use Rattle.ixp_lang.specs.Trees.{stmts};
 ghost use Rattle.ixp_lang.specs.Views.{expr_view, stmts_view, item_view, config_view};
 ghost use Rattle.ixp_print.specs.Texts.{line, body_text, param_text, head_line, nameless_head, use_text, pipe_text, channel_text, local_text, client_text, password_text, limit_text, bgp_channel_text, bgp_text, device_text, kind_text, list_of, stmts_text, expr_text, item_text, config_text};

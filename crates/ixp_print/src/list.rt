@@ -1,6 +1,6 @@
 //! Lists, with a text between any two items.
 ghost use Rattle.std.specs.Prelude.{◌≡◌, ◌++◌, List, ℕ, OnOk};
-ghost use Rattle.ixp_num.specs.Texts.{addr_text, pattern_text};
+ghost use Rattle.ixp_num.specs.Printing.{addr_text, pattern_text};
 ghost use Rattle.ixp_print.specs.Texts.{list_of, range_text, part_text, pair_text, triple_text, label_text, param_text};
 
 use crate::word::{put, put_number, state_word, ty_word};
