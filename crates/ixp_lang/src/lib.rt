@@ -11,6 +11,7 @@ mod item;
 pub mod laws;
 mod route;
 mod stmt;
+mod text;
 mod value;
 
 pub use expr::{Attr, Expr, Op};
@@ -18,4 +19,5 @@ pub use fate::Fate;
 pub use item::{Bgp, Config, Item, Kind, Pipe, Ty, Use};
 pub use route::{Route, Verdict};
 pub use stmt::{Label, Stmt};
+pub use text::{print_fate, print_route};
 pub use value::{SetLit, Value};

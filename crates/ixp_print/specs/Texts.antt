@@ -8,6 +8,7 @@ use Rattle.ixp_num.specs.declared.pattern.Pattern.{Pattern}
 use Rattle.ixp_num.specs.declared.roa.Validity.{Validity}
 use Rattle.ixp_num.specs.declared.roa.Validity.TheVariants.{Valid, Invalid, Unknown}
 use Rattle.ixp_num.specs.Printing.{addr_text, prefix_text, pattern_text}
+use Rattle.ixp_text.specs.Joined.{joined}
 use Rattle.ixp_lang.specs.declared.value.Value.{Value}
 use Rattle.ixp_lang.specs.declared.value.Value.TheVariants as value
 use Rattle.ixp_lang.specs.declared.value.SetLit.{SetLit}
@@ -82,16 +83,6 @@ ty_text ty.PrefixSet = codes "prefix set"
 ty_text ty.PairSet = codes "pair set"
 ty_text ty.LcSet = codes "lc set"
 
--- Lists: the items with a text between any two.
-
-abbrev pub more_of : {A : Type 0} → List ℕ → (A → List ℕ) → List A → List ℕ
-more_of between text [] = []
-more_of between text (x ∷ xs) = between ++ text x ++ more_of between text xs
-
-abbrev pub list_of : {A : Type 0} → List ℕ → (A → List ℕ) → List A → List ℕ
-list_of between text [] = []
-list_of between text (x ∷ xs) = text x ++ more_of between text xs
-
 -- Sets.
 
 -- `a..b`, or `a` where it is one number
@@ -109,11 +100,11 @@ abbrev pub triple_text : ℕ × ℕ × Option ℕ → List ℕ
 triple_text t = codes "(" ++ decimal t.0 ++ codes ", " ++ decimal t.1 ++ codes ", " ++ part_text t.2 ++ codes ")"
 
 abbrev pub set_items_text : SetLit → List ℕ
-set_items_text (set.Ints rs) = list_of (codes ", ") range_text rs
-set_items_text (set.Ips addrs) = list_of (codes ", ") addr_text addrs
-set_items_text (set.Prefixes ts) = list_of (codes ", ") pattern_text ts
-set_items_text (set.Pairs ps) = list_of (codes ", ") pair_text ps
-set_items_text (set.Triples ts) = list_of (codes ", ") triple_text ts
+set_items_text (set.Ints rs) = joined (codes ", ") range_text rs
+set_items_text (set.Ips addrs) = joined (codes ", ") addr_text addrs
+set_items_text (set.Prefixes ts) = joined (codes ", ") pattern_text ts
+set_items_text (set.Pairs ps) = joined (codes ", ") pair_text ps
+set_items_text (set.Triples ts) = joined (codes ", ") triple_text ts
 
 abbrev pub set_text : SetLit → List ℕ
 set_text s = codes "[" ++ set_items_text s ++ codes "]"
@@ -229,7 +220,7 @@ abbrev mutual
   pub arms_text : List ℕ → ArmTrees → List ℕ
   arms_text i arms_end = []
   arms_text i (arms_more ls ss arms) =
-      line i (list_of (codes ", ") label_text ls ++ codes ":") ++ stmts_text (deeper i) ss ++ arms_text i arms
+      line i (joined (codes ", ") label_text ls ++ codes ":") ++ stmts_text (deeper i) ss ++ arms_text i arms
 
 -- the arms of a case, and what is done else
 abbrev pub cases_text : List ℕ → ArmTrees → StmtTrees → List ℕ
@@ -314,7 +305,7 @@ abbrev pub item_text : ItemTree → List ℕ
 item_text (router_id_item a) = line [] (codes "router id " ++ addr_text a ++ codes ";")
 item_text (table_item k n) = line [] (kind_text k ++ codes " table " ++ n ++ codes ";")
 item_text (define_item n e) = line [] (codes "define " ++ n ++ codes " = " ++ expr_text e ++ codes ";")
-item_text (function_item n ps ss) = body_text (codes "function " ++ n ++ codes "(" ++ list_of (codes "; ") param_text ps ++ codes ")") ss
+item_text (function_item n ps ss) = body_text (codes "function " ++ n ++ codes "(" ++ joined (codes "; ") param_text ps ++ codes ")") ss
 item_text (filter_item n ss) = body_text (codes "filter " ++ n) ss
 item_text (device_item n) = device_text n
 item_text (pipe_item p) = pipe_text p

@@ -4,21 +4,22 @@ ghost use Rattle.ixp_lang.specs.Trees.{exprs};
 ghost use Rattle.ixp_lang.specs.Views.{expr_view, exprs_view};
 ghost use Rattle.ixp_print.specs.Texts.{set_items_text, set_text, value_text, is_chain, is_compound, wrapped, expr_text, exprs_text, chain_text};
 
-use crate::list::{Shown, put_list};
-use crate::word::{attr_word, bool_word, op_word, put, put_number, state_word};
-use ixp_lang::{Expr, Op, SetLit, Value};
+use crate::list::{AddrText, PairText, PatternText, RangeText, TripleText};
+use crate::word::{attr_word, bool_word, op_word, state_word};
+use ixp_lang::{Expr, SetLit, Value};
 use ixp_num::{Name, print_addr, print_prefix};
+use ixp_text::{Writes, put, put_joined, put_number};
 use std::alloc::AllocError;
 
 fn put_set_items(out: &mut Vec<u8>, set: &SetLit) -> Result<(), AllocError>
     ensures { OnOk result (out.new.items ≡ out.old.items ++ set_items_text set.now) }
 {
     match set {
-        SetLit::Ints(ranges) => put_list(out, b", ", ranges.as_slice()),
-        SetLit::Ips(addrs) => put_list(out, b", ", addrs.as_slice()),
-        SetLit::Prefixes(patterns) => put_list(out, b", ", patterns.as_slice()),
-        SetLit::Pairs(pairs) => put_list(out, b", ", pairs.as_slice()),
-        SetLit::Triples(triples) => put_list(out, b", ", triples.as_slice()),
+        SetLit::Ints(ranges) => put_joined::<RangeText>(out, b", ", ranges.as_slice()),
+        SetLit::Ips(addrs) => put_joined::<AddrText>(out, b", ", addrs.as_slice()),
+        SetLit::Prefixes(patterns) => put_joined::<PatternText>(out, b", ", patterns.as_slice()),
+        SetLit::Pairs(pairs) => put_joined::<PairText>(out, b", ", pairs.as_slice()),
+        SetLit::Triples(triples) => put_joined::<TripleText>(out, b", ", triples.as_slice()),
     }
 }
 
@@ -34,12 +35,12 @@ fn put_value(out: &mut Vec<u8>, value: &Value) -> Result<(), AllocError>
     ensures { OnOk result (out.new.items ≡ out.old.items ++ value_text value.now) }
 {
     match value {
-        Value::Int(n) => put_number(out, *n),
+        Value::Int(n) => put_number(out, u64::from(*n)),
         Value::Bool(b) => put(out, bool_word(*b)),
         Value::Ip(addr) => print_addr(addr, out),
         Value::Net(prefix) => print_prefix(prefix, out),
-        Value::Pair(a, b) => (*a, Some(*b)).show(out),
-        Value::Triple(a, b, c) => (*a, *b, Some(*c)).show(out),
+        Value::Pair(a, b) => PairText::write(&(*a, Some(*b)), out),
+        Value::Triple(a, b, c) => TripleText::write(&(*a, *b, Some(*c)), out),
         Value::Roa(state) => put(out, state_word(*state)),
         Value::Set(set) => put_set(out, set),
     }

@@ -4,14 +4,16 @@ ghost use Rattle.std.specs.Option.{option_map};
 ghost use Rattle.ixp_num.specs.Printing.{addr_text};
 ghost use Rattle.ixp_lang.specs.Trees.{stmts};
 ghost use Rattle.ixp_lang.specs.Views.{expr_view, stmts_view, item_view, config_view};
-ghost use Rattle.ixp_print.specs.Texts.{line, body_text, param_text, head_line, nameless_head, use_text, pipe_text, channel_text, local_text, client_text, password_text, limit_text, bgp_channel_text, bgp_text, device_text, kind_text, list_of, stmts_text, expr_text, item_text, config_text};
+ghost use Rattle.ixp_text.specs.Joined.{joined};
+ghost use Rattle.ixp_print.specs.Texts.{line, body_text, param_text, head_line, nameless_head, use_text, pipe_text, channel_text, local_text, client_text, password_text, limit_text, bgp_channel_text, bgp_text, device_text, kind_text, stmts_text, expr_text, item_text, config_text};
 
 use crate::expr::put_expr;
-use crate::list::put_list;
+use crate::list::ParamText;
 use crate::stmt::{put_line, put_stmts};
-use crate::word::{kind_word, put, put_number};
+use crate::word::kind_word;
 use ixp_lang::{Bgp, Config, Expr, Item, Kind, Pipe, Stmt, Ty, Use};
 use ixp_num::{Addr, Family, Items, Name, print_addr};
+use ixp_text::{put, put_joined, put_number};
 use std::alloc::{AllocError, Global};
 
 /// Writes a line of a name between two texts.
@@ -81,12 +83,12 @@ fn put_function(
     body: &[Stmt],
 ) -> Result<(), AllocError>
     ensures { OnOk result (out.new.items ≡ out.old.items
-        ++ body_text (codes "function " ++ name.now ++ codes "(" ++ list_of (codes "; ") param_text params.now ++ codes ")") (stmts (stmts_view body.now))) }
+        ++ body_text (codes "function " ++ name.now ++ codes "(" ++ joined (codes "; ") param_text params.now ++ codes ")") (stmts (stmts_view body.now))) }
 {
     put(out, b"function ")?;
     put(out, name.as_bytes())?;
     put(out, b"(")?;
-    put_list(out, b"; ", params)?;
+    put_joined::<ParamText>(out, b"; ", params)?;
     put(out, b")")?;
     put_body(alloc, out, body)
 }
@@ -174,16 +176,37 @@ fn put_pipe(out: &mut Vec<u8>, pipe: &Pipe) -> Result<(), AllocError>
     put_line(out, b"", b"}")
 }
 
+/// Writes a line of a number between two texts.
 #[tactic(auto, unfolding(crate::specs::Texts::line))]
+fn put_counted(
+    out: &mut Vec<u8>,
+    indent: &[u8],
+    before: &[u8],
+    number: u64,
+    after: &[u8],
+) -> Result<(), AllocError>
+    ensures { OnOk result (out.new.items ≡ out.old.items ++ line indent.now (before.now ++ decimal number ++ after.now)) }
+{
+    put(out, indent)?;
+    put(out, before)?;
+    put_number(out, number)?;
+    put(out, after)?;
+    put(out, b"\n")
+}
+
 fn put_limit(out: &mut Vec<u8>, limit: Option<u32>) -> Result<(), AllocError>
     ensures { OnOk result (out.new.items ≡ out.old.items ++ limit_text limit) }
 {
-    let Some(limit) = limit else {
-        return Ok(());
-    };
-    put(out, b"    import limit ")?;
-    put_number(out, limit)?;
-    put(out, b" action block;\n")
+    match limit {
+        None => Ok(()),
+        Some(limit) => put_counted(
+            out,
+            b"    ",
+            b"import limit ",
+            u64::from(limit),
+            b" action block;",
+        ),
+    }
 }
 
 fn channel_word(family: Family) -> &'static [u8]
@@ -226,19 +249,44 @@ fn put_local(out: &mut Vec<u8>, local: Option<Addr>, asn: u32) -> Result<(), All
         put(out, b" ")?;
     }
     put(out, b"as ")?;
-    put_number(out, asn)?;
+    put_number(out, u64::from(asn))?;
     put(out, b";\n")
 }
 
+/// Writes a line of an address and a number with texts around them.
 #[tactic(auto, unfolding(crate::specs::Texts::line))]
+fn put_end(
+    out: &mut Vec<u8>,
+    indent: &[u8],
+    before: &[u8],
+    addr: &Addr,
+    between: &[u8],
+    number: u64,
+    after: &[u8],
+) -> Result<(), AllocError>
+    ensures { OnOk result (out.new.items ≡ out.old.items ++ line indent.now (before.now ++ addr_text addr.now ++ between.now ++ decimal number ++ after.now)) }
+{
+    put(out, indent)?;
+    put(out, before)?;
+    print_addr(addr, out)?;
+    put(out, between)?;
+    put_number(out, number)?;
+    put(out, after)?;
+    put(out, b"\n")
+}
+
 fn put_neighbor(out: &mut Vec<u8>, addr: &Addr, asn: u32) -> Result<(), AllocError>
     ensures { OnOk result (out.new.items ≡ out.old.items ++ line (codes "  ") (codes "neighbor " ++ addr_text addr.now ++ codes " as " ++ decimal asn ++ codes ";")) }
 {
-    put(out, b"  neighbor ")?;
-    print_addr(addr, out)?;
-    put(out, b" as ")?;
-    put_number(out, asn)?;
-    put(out, b";\n")
+    put_end(
+        out,
+        b"  ",
+        b"neighbor ",
+        addr,
+        b" as ",
+        u64::from(asn),
+        b";",
+    )
 }
 
 fn put_client(out: &mut Vec<u8>, rs_client: bool) -> Result<(), AllocError>

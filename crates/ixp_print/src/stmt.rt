@@ -2,13 +2,14 @@
 ghost use Rattle.std.specs.Prelude.{◌≡◌, ◌++◌, [], ◌∷◌, List, codes, IfOk, OnOk};
 ghost use Rattle.ixp_lang.specs.Trees.{exprs, stmts, set_next_hop, prepend, add_pair, delete_pairs, add_triple, delete_triples};
 ghost use Rattle.ixp_lang.specs.Views.{expr_view, exprs_view, stmt_view, stmts_view, arms_view};
-ghost use Rattle.ixp_print.specs.Texts.{line, deeper, else_line, no_stmts, list_of, label_text, expr_text, exprs_text, stmt_text, stmts_text, cases_text};
+ghost use Rattle.ixp_text.specs.Joined.{joined};
+ghost use Rattle.ixp_print.specs.Texts.{line, deeper, else_line, no_stmts, label_text, expr_text, exprs_text, stmt_text, stmts_text, cases_text};
 
 use crate::expr::{put_args, put_expr};
-use crate::list::put_list;
-use crate::word::put;
+use crate::list::LabelText;
 use ixp_lang::{Expr, Label, Stmt};
 use ixp_num::{Items, Name};
+use ixp_text::{put, put_joined};
 use std::alloc::{AllocError, Global};
 
 /// Writes a line.
@@ -74,10 +75,10 @@ fn put_else(out: &mut Vec<u8>, indent: &[u8], text: &[u8], other: &[Stmt]) -> Re
 /// Writes the labels of an arm.
 #[tactic(auto, unfolding(crate::specs::Texts::line))]
 fn put_labels(out: &mut Vec<u8>, indent: &[u8], labels: &[Label]) -> Result<(), AllocError>
-    ensures { OnOk result (out.new.items ≡ out.old.items ++ line indent.now (list_of (codes ", ") label_text labels.now ++ codes ":")) }
+    ensures { OnOk result (out.new.items ≡ out.old.items ++ line indent.now (joined (codes ", ") label_text labels.now ++ codes ":")) }
 {
     put(out, indent)?;
-    put_list(out, b", ", labels)?;
+    put_joined::<LabelText>(out, b", ", labels)?;
     put(out, b":\n")
 }
 

@@ -1,26 +1,9 @@
-//! Words and numbers.
-ghost use Rattle.std.specs.Prelude.{◌≡◌, ◌++◌, decimal, OnOk};
+//! Words.
+ghost use Rattle.std.specs.Prelude.{◌≡◌};
 ghost use Rattle.ixp_print.specs.Texts.{bool_text, state_text, attr_text, op_text, kind_text, ty_text};
 
-use itoa::Buffer;
 use ixp_lang::{Attr, Kind, Op, Ty};
 use ixp_num::Validity;
-use std::alloc::AllocError;
-
-/// Writes bytes as they are.
-pub fn put(out: &mut Vec<u8>, text: &[u8]) -> Result<(), AllocError>
-    ensures { OnOk result (out.new.items ≡ out.old.items ++ text.now) }
-{
-    out.extend_from_slice(text)
-}
-
-/// Writes a number in decimal.
-pub fn put_number(out: &mut Vec<u8>, n: u32) -> Result<(), AllocError>
-    ensures { OnOk result (out.new.items ≡ out.old.items ++ decimal n) }
-{
-    let mut buffer = Buffer::new();
-    put(out, buffer.format(n).as_bytes())
-}
 
 pub fn bool_word(b: bool) -> &'static [u8]
     ensures { result.now ≡ bool_text b }
