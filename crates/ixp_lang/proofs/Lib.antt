@@ -1,1 +1,2 @@
 pub mod CaseView
+pub mod NumberedNames
