@@ -1,0 +1,2 @@
+pub mod SmallGeneration
+pub mod SmallTexts
