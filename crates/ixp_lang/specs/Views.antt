@@ -62,6 +62,11 @@ exprs_view = map expr_view
 abbrev pub stmts_view : List Stmt → List StmtTree
 stmts_view = map stmt_view
 
+-- the arms of a case
+abbrev pub arms_view : List (List Label × Vec Stmt Global) → ArmTrees
+arms_view [] = arms_end
+arms_view (a ∷ arms) = arms_more a.0 (stmts (stmts_view a.1.items)) (arms_view arms)
+
 -- the tree of an item
 abbrev pub item_view : Item → ItemTree
 item_view (RouterId a) = router_id_item a
