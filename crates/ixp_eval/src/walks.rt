@@ -1,4 +1,11 @@
 //! A route's way through a configuration.
+ghost use Rattle.std.specs.Prelude.{◌≡◌, map};
+ghost use Rattle.std.specs.Option.{option_copied};
+ghost use Rattle.ixp_lang.specs.Views.{config_view, item_view};
+ghost use Rattle.ixp_lang.specs.Walks.{pipe_between, pipe_from, pipes_of, received, sent_to, session_named, sessions_of, through, to_primary, walk};
+ghost use Rattle.ixp_eval.specs.Answers.{Gives};
+ghost use Rattle.ixp_eval.specs.Views.{environment_of};
+
 use crate::changes::copied_route;
 use crate::env::Env;
 use crate::fault::EvalFault;
@@ -10,8 +17,10 @@ use ixp_roa::RoaTable;
 use std::alloc::Global;
 
 /// The session of the name.
-fn session_named<'a>(items: &'a [Item], name: &Name) -> Option<&'a Bgp> {
-    for item in items {
+fn session_named<'a>(items: &'a [Item], name: &Name) -> Option<&'a Bgp>
+    ensures { option_copied result ≡ session_named (sessions_of (map item_view items.now)) name.now }
+{
+    'items: for item in items {
         if let Item::Bgp(b) = item
             && same_name(&b.name, name)
         {
@@ -22,8 +31,10 @@ fn session_named<'a>(items: &'a [Item], name: &Name) -> Option<&'a Bgp> {
 }
 
 /// The pipe that has the table as its peer.
-fn pipe_from<'a>(items: &'a [Item], table: &Name) -> Option<&'a Pipe> {
-    for item in items {
+fn pipe_from<'a>(items: &'a [Item], table: &Name) -> Option<&'a Pipe>
+    ensures { option_copied result ≡ pipe_from (pipes_of (map item_view items.now)) table.now }
+{
+    'items: for item in items {
         if let Item::Pipe(p) = item
             && same_name(&p.peer, table)
         {
@@ -34,8 +45,10 @@ fn pipe_from<'a>(items: &'a [Item], table: &Name) -> Option<&'a Pipe> {
 }
 
 /// The pipe between a primary table and a peer.
-fn pipe_between<'a>(items: &'a [Item], primary: &Name, peer: &Name) -> Option<&'a Pipe> {
-    for item in items {
+fn pipe_between<'a>(items: &'a [Item], primary: &Name, peer: &Name) -> Option<&'a Pipe>
+    ensures { option_copied result ≡ pipe_between (pipes_of (map item_view items.now)) primary.now peer.now }
+{
+    'items: for item in items {
         if let Item::Pipe(p) = item
             && same_name(&p.table, primary)
             && same_name(&p.peer, peer)
@@ -53,7 +66,9 @@ fn through(
     what: &Use,
     route: &Route,
     env: &Env<'_>,
-) -> Result<Verdict, EvalFault> {
+) -> Result<Verdict, EvalFault>
+    ensures { Gives result (through (environment_of env.now) (config_view c.now) what.now route.now) }
+{
     match what {
         Use::All => Ok(Verdict::Accept(copied_route(alloc, route)?)),
         Use::Nothing => Ok(Verdict::Reject),
@@ -62,6 +77,7 @@ fn through(
 }
 
 /// What a session is sent of a route in the primary table.
+#[tactic(auto, using(crate::proofs::Going::bind_fails))]
 fn received(
     alloc: Global,
     c: &Config,
@@ -69,7 +85,9 @@ fn received(
     receiver: &Bgp,
     route: &Route,
     env: &Env<'_>,
-) -> Result<Option<Route>, EvalFault> {
+) -> Result<Option<Route>, EvalFault>
+    ensures { Gives result (received (environment_of env.now) (config_view c.now) primary.now receiver.now route.now) }
+{
     let Some(pipe) = pipe_between(c.items.as_slice(), primary, &receiver.table) else {
         return Ok(None);
     };
@@ -90,9 +108,11 @@ fn sent_to(
     primary: &Name,
     route: &Route,
     env: &Env<'_>,
-) -> Result<Items<(Name, Option<Route>)>, EvalFault> {
+) -> Result<Items<(Name, Option<Route>)>, EvalFault>
+    ensures { Gives result (sent_to (environment_of env.now) (config_view c.now) sender.now primary.now (sessions_of (config_view c.now)) route.now) }
+{
     let mut sent = Items::new(alloc);
-    for item in c.items.as_slice() {
+    'items: for item in c.items.as_slice() {
         if let Item::Bgp(b) = item
             && !same_name(&b.name, sender)
         {
@@ -104,13 +124,16 @@ fn sent_to(
 }
 
 /// From a session's table on.
+#[tactic(auto, using(crate::proofs::Going::bind_fails))]
 fn from_table(
     alloc: Global,
     c: &Config,
     sender: &Bgp,
     own: Route,
     env: &Env<'_>,
-) -> Result<Fate, EvalFault> {
+) -> Result<Fate, EvalFault>
+    ensures { Gives result (to_primary (environment_of env.now) (config_view c.now) sender.now (pipe_from (pipes_of (config_view c.now)) sender.now.table) own) }
+{
     let Some(pipe) = pipe_from(c.items.as_slice(), &sender.table) else {
         return Ok(Fate {
             table: Some(own),
@@ -134,13 +157,16 @@ fn from_table(
 
 /// What the configuration does with a route from the session of the name. V4 comes where no session has it, and
 /// V1 to V4 where a filter on the way gives them; the first fault on the way is the answer.
+#[tactic(auto, using(crate::proofs::Going::bind_fails))]
 pub fn walk(
     alloc: Global,
     c: &Config,
     session: &Name,
     route: &Route,
     roas: &[(Name, RoaTable)],
-) -> Result<Fate, EvalFault> {
+) -> Result<Fate, EvalFault>
+    ensures { Gives result (walk (config_view c.now) roas.now session.now route.now) }
+{
     let Some(sender) = session_named(c.items.as_slice(), session) else {
         return Err(EvalFault::NoFilter {
             name: session.copied(alloc)?,
