@@ -62,6 +62,7 @@ exprs_view = map expr_view
 abbrev pub stmts_view : List Stmt → List StmtTree
 stmts_view = map stmt_view
 
+-- the arms of a case
 abbrev pub arms_view : List (List Label × Vec Stmt Global) → ArmTrees
 arms_view [] = arms_end
 arms_view (a ∷ arms) = arms_more a.0 (stmts (stmts_view a.1.items)) (arms_view arms)

@@ -1,0 +1,93 @@
+//! Filters and functions run.
+ghost use Rattle.std.specs.Prelude.{◌≡◌, MatchResult, reverse};
+ghost use Rattle.ixp_lang.specs.Meaning.{fails, filter_end, function_end};
+ghost use Rattle.ixp_lang.specs.Views.{config_view};
+ghost use Rattle.ixp_eval.specs.Answers.{Fails, Gives};
+ghost use Rattle.ixp_eval.specs.Outcomes.{body_out};
+ghost use Rattle.ixp_eval.specs.Views.{body_view, end_of, environment_of};
+
+use crate::changes::copied_route;
+use crate::env::Env;
+use crate::fault::EvalFault;
+use crate::find::{filter_of, function_of};
+use crate::frames::{Frame, frame_of, step};
+use crate::tasks::How;
+use crate::val::{Val, into_value};
+use ixp_lang::{Config, Route, Value, Verdict};
+use ixp_lists::Stack;
+use ixp_num::{Items, Name};
+use std::alloc::Global;
+
+/// Runs a body to its end.
+fn run_body<'a>(
+    alloc: Global,
+    env: &Env<'_>,
+    mut frame: Frame<'a>,
+    mut route: Route,
+) -> Result<(How<'a>, Route), EvalFault>
+    ensures { MatchResult result (λ p. end_of p.0 p.1 ≡ body_out (environment_of env.now) (body_view frame.entry) route) (λ f. Fails fails (body_out (environment_of env.now) (body_view frame.entry) route) f) }
+{
+    let mut waiting = Stack::new(alloc);
+    'steps: loop {
+        match step(alloc, env, &mut frame, &mut waiting, &mut route)? {
+            Some(how) => return Ok((how, route)),
+            None => {}
+        }
+    }
+}
+
+/// What the filter of the name makes of a route. V1 to V4 come as [`EvalFault`] says.
+pub fn run_filter(
+    alloc: Global,
+    c: &Config,
+    name: &Name,
+    route: &Route,
+    env: &Env<'_>,
+) -> Result<Verdict, EvalFault>
+    ensures { Gives result (filter_end (environment_of env.now) (reverse (config_view c.now)) name.now route.now) }
+{
+    let Some(found) = filter_of(c.items.as_slice(), name) else {
+        return Err(EvalFault::NoFilter {
+            name: name.copied(alloc)?,
+        });
+    };
+    let frame = frame_of(alloc, found.before, &[], Items::new(alloc), found.body)?;
+    let (how, route) = run_body(alloc, env, frame, copied_route(alloc, route)?)?;
+    match how {
+        How::Falls | How::Returns(_) => Err(EvalFault::NoVerdict {
+            name: name.copied(alloc)?,
+        }),
+        How::Accepts => Ok(Verdict::Accept(route)),
+        How::Rejects => Ok(Verdict::Reject),
+    }
+}
+
+/// What the function of the name gives for one number, where the route is this one. V1, V2 and V4 come as
+/// [`EvalFault`] says, and V5 where the function accepts or rejects.
+pub fn call_function(
+    alloc: Global,
+    c: &Config,
+    name: &Name,
+    arg: u32,
+    route: &Route,
+    env: &Env<'_>,
+) -> Result<Value, EvalFault>
+    ensures { Gives result (function_end (environment_of env.now) (reverse (config_view c.now)) name.now arg route.now) }
+{
+    let Some(found) = function_of(c.items.as_slice(), name) else {
+        return Err(EvalFault::NoFilter {
+            name: name.copied(alloc)?,
+        });
+    };
+    let mut args = Items::new(alloc);
+    args.push(Val::Int(arg))?;
+    let frame = frame_of(alloc, found.before, found.params, args, found.body)?;
+    let (how, _) = run_body(alloc, env, frame, copied_route(alloc, route)?)?;
+    match how {
+        How::Falls => Err(EvalFault::NoReturn {
+            name: name.copied(alloc)?,
+        }),
+        How::Returns(value) => Ok(into_value(alloc, value)?),
+        How::Accepts | How::Rejects => Err(EvalFault::Ended),
+    }
+}

@@ -1,0 +1,187 @@
+//! A route's way through a configuration.
+ghost use Rattle.std.specs.Prelude.{◌≡◌, map};
+ghost use Rattle.std.specs.Option.{option_copied};
+ghost use Rattle.ixp_lang.specs.Views.{config_view, item_view};
+ghost use Rattle.ixp_lang.specs.Walks.{pipe_between, pipe_from, pipes_of, received, sent_to, session_named, sessions_of, through, to_primary, walk};
+ghost use Rattle.ixp_eval.specs.Answers.{Gives};
+ghost use Rattle.ixp_eval.specs.Views.{environment_of};
+
+use crate::changes::copied_route;
+use crate::env::Env;
+use crate::fault::EvalFault;
+use crate::names::same_name;
+use crate::run::run_filter;
+use ixp_lang::{Bgp, Config, Fate, Item, Pipe, Route, Use, Verdict};
+use ixp_num::{Items, Name};
+use ixp_roa::RoaTable;
+use std::alloc::Global;
+
+/// The session of the name.
+fn session_named<'a>(items: &'a [Item], name: &Name) -> Option<&'a Bgp>
+    ensures { option_copied result ≡ session_named (sessions_of (map item_view items.now)) name.now }
+{
+    'items: for item in items {
+        if let Item::Bgp(b) = item
+            && same_name(&b.name, name)
+        {
+            return Some(b);
+        }
+    }
+    None
+}
+
+/// The pipe that has the table as its peer.
+fn pipe_from<'a>(items: &'a [Item], table: &Name) -> Option<&'a Pipe>
+    ensures { option_copied result ≡ pipe_from (pipes_of (map item_view items.now)) table.now }
+{
+    'items: for item in items {
+        if let Item::Pipe(p) = item
+            && same_name(&p.peer, table)
+        {
+            return Some(p);
+        }
+    }
+    None
+}
+
+/// The pipe between a primary table and a peer.
+fn pipe_between<'a>(items: &'a [Item], primary: &Name, peer: &Name) -> Option<&'a Pipe>
+    ensures { option_copied result ≡ pipe_between (pipes_of (map item_view items.now)) primary.now peer.now }
+{
+    'items: for item in items {
+        if let Item::Pipe(p) = item
+            && same_name(&p.table, primary)
+            && same_name(&p.peer, peer)
+        {
+            return Some(p);
+        }
+    }
+    None
+}
+
+/// What a protocol lets through.
+fn through(
+    alloc: Global,
+    c: &Config,
+    what: &Use,
+    route: &Route,
+    env: &Env<'_>,
+) -> Result<Verdict, EvalFault>
+    ensures { Gives result (through (environment_of env.now) (config_view c.now) what.now route.now) }
+{
+    match what {
+        Use::All => Ok(Verdict::Accept(copied_route(alloc, route)?)),
+        Use::Nothing => Ok(Verdict::Reject),
+        Use::Named(name) => run_filter(alloc, c, name, route, env),
+    }
+}
+
+/// What a session is sent of a route in the primary table.
+#[tactic(auto, using(crate::proofs::Going::bind_fails))]
+fn received(
+    alloc: Global,
+    c: &Config,
+    primary: &Name,
+    receiver: &Bgp,
+    route: &Route,
+    env: &Env<'_>,
+) -> Result<Option<Route>, EvalFault>
+    ensures { Gives result (received (environment_of env.now) (config_view c.now) primary.now receiver.now route.now) }
+{
+    let Some(pipe) = pipe_between(c.items.as_slice(), primary, &receiver.table) else {
+        return Ok(None);
+    };
+    let Verdict::Accept(piped) = through(alloc, c, &pipe.export, route, env)? else {
+        return Ok(None);
+    };
+    match through(alloc, c, &receiver.export, &piped, env)? {
+        Verdict::Accept(sent) => Ok(Some(sent)),
+        Verdict::Reject => Ok(None),
+    }
+}
+
+/// What each session but the sender is sent.
+fn sent_to(
+    alloc: Global,
+    c: &Config,
+    sender: &Name,
+    primary: &Name,
+    route: &Route,
+    env: &Env<'_>,
+) -> Result<Items<(Name, Option<Route>)>, EvalFault>
+    ensures { Gives result (sent_to (environment_of env.now) (config_view c.now) sender.now primary.now (sessions_of (config_view c.now)) route.now) }
+{
+    let mut sent = Items::new(alloc);
+    'items: for item in c.items.as_slice() {
+        if let Item::Bgp(b) = item
+            && !same_name(&b.name, sender)
+        {
+            let got = received(alloc, c, primary, b, route, env)?;
+            sent.push((b.name.copied(alloc)?, got))?;
+        }
+    }
+    Ok(sent)
+}
+
+/// From a session's table on.
+#[tactic(auto, using(crate::proofs::Going::bind_fails))]
+fn from_table(
+    alloc: Global,
+    c: &Config,
+    sender: &Bgp,
+    own: Route,
+    env: &Env<'_>,
+) -> Result<Fate, EvalFault>
+    ensures { Gives result (to_primary (environment_of env.now) (config_view c.now) sender.now (pipe_from (pipes_of (config_view c.now)) sender.now.table) own) }
+{
+    let Some(pipe) = pipe_from(c.items.as_slice(), &sender.table) else {
+        return Ok(Fate {
+            table: Some(own),
+            passed: false,
+            sent: Items::new(alloc),
+        });
+    };
+    match through(alloc, c, &pipe.import, &own, env)? {
+        Verdict::Reject => Ok(Fate {
+            table: Some(own),
+            passed: false,
+            sent: Items::new(alloc),
+        }),
+        Verdict::Accept(passed) => Ok(Fate {
+            table: Some(own),
+            passed: true,
+            sent: sent_to(alloc, c, &sender.name, &pipe.table, &passed, env)?,
+        }),
+    }
+}
+
+/// What the configuration does with a route from the session of the name. V4 comes where no session has it, and
+/// V1 to V4 where a filter on the way gives them; the first fault on the way is the answer.
+#[tactic(auto, using(crate::proofs::Going::bind_fails))]
+pub fn walk(
+    alloc: Global,
+    c: &Config,
+    session: &Name,
+    route: &Route,
+    roas: &[(Name, RoaTable)],
+) -> Result<Fate, EvalFault>
+    ensures { Gives result (walk (config_view c.now) roas.now session.now route.now) }
+{
+    let Some(sender) = session_named(c.items.as_slice(), session) else {
+        return Err(EvalFault::NoFilter {
+            name: session.copied(alloc)?,
+        });
+    };
+    let env = Env {
+        from: sender.neighbor,
+        roas,
+    };
+    match through(alloc, c, &sender.import, route, &env)? {
+        Verdict::Reject => Ok(Fate {
+            table: None,
+            passed: false,
+            sent: Items::new(alloc),
+        }),
+        Verdict::Accept(own) => from_table(alloc, c, sender, own, &env),
+    }
+}
