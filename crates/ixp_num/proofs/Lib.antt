@@ -3,4 +3,5 @@ pub mod Digits
 pub mod FormLaws
 pub mod Groups
 pub mod PartedForms
+pub mod Places
 pub mod Stops

@@ -1,13 +1,20 @@
 -- In the forms of addresses numbers end where their digits do.
-use Rattle.std.proofs.Common.{◌≡◌, ℕ, ◌+◌, ◌*◌, ◌<◌, ◌⊎◌, inl, inr, List, [], ◌∷◌, ◌++◌, refl, subst, arith, lit<, lit≤}
+use Rattle.std.proofs.Common.{◌≡◌, ℕ, ◌+◌, ◌*◌, ◌<◌, ◌⊎◌, inl, inr, List, [], ◌∷◌, ◌++◌, refl, sym, ap, ◌∙◌, subst, arith, zero, suc, lit<, lit≤}
 use Rattle.ixp_num.specs.declared.family.Family.{Family}
 use Rattle.ixp_num.specs.declared.family.Family.TheVariants.{V4, V6}
 use Rattle.ixp_num.specs.declared.reading.Tail.{Tail}
 use Rattle.ixp_num.specs.declared.reading.Tail.TheVariants.{Nothing, Length, Bounds}
 use Rattle.ixp_num.specs.Families.{bits_of}
-use Rattle.ixp_num.specs.Forms.{Form, End, Mark, Decimal, Hex, Either, IsDigit, Said, Spelt, IsOf}
-use Rattle.ixp_num.specs.AddressForms.{numbers, bounds_form, tail_form, dotted_form, form4, asn_form}
+use Rattle.std.specs.List.{AllByRecursion}
+use Rattle.std.proofs.lemmas.Bool.Decides.{nat_tests}
+use Rattle.ixp_num.specs.Forms.{Form, IsDecimal, End, Mark, Decimal, Hex, Either, IsDigit, Said, Spelt, IsOf}
+use Rattle.ixp_num.specs.AddressForms.{numbers, bounds_form, tail_form, dotted_form, more_form, behind_form, gap_form, colon_form, groups_form, form4, form6, address_form, asn_form}
 use Rattle.ixp_num.specs.Reading.{cap}
+use Rattle.std.specs.Char.{digit_value}
+use Rattle.std.specs.Str.Parse.{AllDigits}
+use Rattle.std.specs.Net.Grammar.{IsGroup}
+use Rattle.ixp_num.proofs.Groups.{IsHexByte}
+use Rattle.ixp_num.proofs.Digits.{Ends}
 use Rattle.ixp_num.proofs.FormLaws.{Parted, Apart, NeverBegins}
 
 pub end_never : (P : ℕ → Type 0) (ns : List ℕ) → NeverBegins P (End ns)
@@ -77,3 +84,35 @@ form4_parted tail = dotted_parted 0 (tail_form tail V4) (tail_no_digit tail V4) 
 
 pub asn_parted : Parted asn_form
 asn_parted = (lit< tt, λ n. (end_never IsDigit (n ∷ []), tt))
+
+-- bytes that no end of an address begins with
+
+abbrev pub IsInAddress : ℕ → Type 0
+IsInAddress c = IsHexByte c ⊎ (c ≡ 46) ⊎ (c ≡ 58)
+
+digit_hex : (c : ℕ) → IsDigit c → IsHexByte c
+digit_hex c d = grind (arith, nat_tests)
+
+slash_outside : ¬ (IsInAddress 47)
+slash_outside (inl hex) = omega arith
+slash_outside (inr (inl dot)) = omega arith
+slash_outside (inr (inr colon)) = omega arith
+
+pub tail_ends : (tail : Tail) (family : Family) (value : ℕ) → NeverBegins IsInAddress (tail_form tail family value)
+tail_ends Nothing family value = end_never IsInAddress (numbers family value (bits_of family) (bits_of family) (bits_of family))
+tail_ends Length family value = mark_never IsInAddress 47 (Decimal (bits_of family) (λ len. End (numbers family value len len len))) slash_outside
+tail_ends Bounds family value = mark_never IsInAddress 47 (Decimal (bits_of family) (λ len. Either (End (numbers family value len len len)) (bounds_form (λ low high. End (numbers family value len low high))))) slash_outside
+
+
+module _ (form : ℕ → Form) (ends : (v : ℕ) → NeverBegins IsInAddress (form v)) (parted : (v : ℕ) → Parted (form v)) where
+  no_hex : (v : ℕ) → NeverBegins IsHexByte (form v)
+  no_hex v c rest p = ends v c rest (inl p)
+
+  no_digit_there : (v : ℕ) → NeverBegins IsDigit (form v)
+  no_digit_there v c rest d = ends v c rest (inl (digit_hex c d))
+
+  no_dot : (v : ℕ) → NeverBegins (λ c. c ≡ 46) (form v)
+  no_dot v c rest p = ends v c rest (inr (inl p))
+
+  no_colon : (v : ℕ) → NeverBegins (λ c. c ≡ 58) (form v)
+  no_colon v c rest p = ends v c rest (inr (inr p))

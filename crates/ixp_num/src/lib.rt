@@ -17,6 +17,7 @@ mod read;
 mod reading;
 mod roa;
 mod texts;
+mod texts6;
 
 pub use addr::Addr;
 pub use asn::Asn;
