@@ -28,5 +28,5 @@ pub use name::Name;
 pub use pattern::Pattern;
 pub use prefix::Prefix;
 pub use print::{print_addr, print_asn, print_pattern, print_pattern_bounds, print_prefix};
-pub use read::{read_addr4, read_asn, read_pattern4, read_prefix4};
+pub use read::{read_addr, read_asn, read_pattern, read_prefix};
 pub use roa::{Roa, Validity};
