@@ -2,6 +2,8 @@ pub mod AnswerLaws
 pub mod Digits
 pub mod FormLaws
 pub mod Groups
+pub mod OneAnswer
 pub mod PartedForms
 pub mod Places
+pub mod PrintedTexts
 pub mod Stops
