@@ -1,4 +1,5 @@
 pub mod AnswerLaws
+pub mod ColonTexts
 pub mod Digits
 pub mod FormLaws
 pub mod Groups

@@ -12,7 +12,7 @@ in_place_fits group room small low =
     let fits : group * 2 ^ (16 * room) < 2 ^ 128 = omega arith in
     mod-eq_of_lt fits
 
-next_power : (room : ℕ) → 2 ^ (16 * (room + 1)) ≡ 65536 * 2 ^ (16 * room)
+pub next_power : (room : ℕ) → 2 ^ (16 * (room + 1)) ≡ 65536 * 2 ^ (16 * room)
 next_power room =
     let e : 16 * (room + 1) ≡ 16 + 16 * room = omega arith in
     ap (λ k. 2 ^ k) e ∙ pow-add 2 16 (16 * room)
