@@ -6,5 +6,6 @@ pub mod Groups
 pub mod OneAnswer
 pub mod PartedForms
 pub mod Places
+pub mod PrintedAddresses
 pub mod PrintedTexts
 pub mod Stops
