@@ -103,7 +103,6 @@ tail_ends Nothing family value = end_never IsInAddress (numbers family value (bi
 tail_ends Length family value = mark_never IsInAddress 47 (Decimal (bits_of family) (λ len. End (numbers family value len len len))) slash_outside
 tail_ends Bounds family value = mark_never IsInAddress 47 (Decimal (bits_of family) (λ len. Either (End (numbers family value len len len)) (bounds_form (λ low high. End (numbers family value len low high))))) slash_outside
 
-
 colon_no_hex : ¬ (IsHexByte 58)
 colon_no_hex hex = omega arith
 
@@ -204,7 +203,7 @@ module _ (form : ℕ → Form) (ends : (v : ℕ) → NeverBegins IsInAddress (fo
   behind_parted zero base value = λ group. (no_hex (base + (value * 65536 + group)), parted (base + (value * 65536 + group)))
   behind_parted (suc room) base value = (
     dotted_apart (base + value * 2 ^ 32) form (λ group. Either (form (base + (value * 65536 + group))) (Mark 58 (behind_form room form base (value * 65536 + group))))
-    (λ group. colon_later (base + (value * 65536 + group)) (behind_form room form base (value * 65536 + group))),
+        (λ group. colon_later (base + (value * 65536 + group)) (behind_form room form base (value * 65536 + group))),
     dotted_here (base + value * 2 ^ 32),
     more_parted (behind_form room form base) base value (behind_parted room base),
   )

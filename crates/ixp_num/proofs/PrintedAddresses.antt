@@ -91,12 +91,16 @@ prefix_printed p =
 
 -- `{low,high}`
 braces_spelt : (form : ℕ → ℕ → Form) (low high : ℕ) (said : Said) → low < 256 → high < 256 → Spelt (form low high) said [] → Spelt (bounds_form form) said (123 ∷ (decimal low ++ 44 ∷ (decimal high ++ 125 ∷ [])))
-braces_spelt form low high said small big spelt =
-    (decimal low ++ 44 ∷ (decimal high ++ 125 ∷ []), refl,
-    number_spelt 255 low (λ low. Mark 44 (Decimal 255 (λ high. Mark 125 (form low high)))) said (44 ∷ (decimal high ++ 125 ∷ [])) (omega arith) (omega arith)
-    (decimal high ++ 125 ∷ [], refl,
+braces_spelt form low high said small big spelt = (
+  decimal low ++ 44 ∷ (decimal high ++ 125 ∷ []),
+  refl,
+  number_spelt 255 low (λ low. Mark 44 (Decimal 255 (λ high. Mark 125 (form low high)))) said (44 ∷ (decimal high ++ 125 ∷ [])) (omega arith) (omega arith) (
+    decimal high ++ 125 ∷ [],
+    refl,
     number_spelt 255 high (λ high. Mark 125 (form low high)) said (125 ∷ []) (omega arith) (omega arith)
-    ([], refl, spelt)))
+        ([], refl, spelt),
+  ),
+)
 
 pub bounds_printed : (p : Pattern) → p.low < 2 ^ 8 → p.high < 2 ^ 8 → PatternAnswer (bounds_text p) (Ok p)
 bounds_printed p low high =
@@ -121,10 +125,10 @@ plain_printed p low high =
 pub pattern_printed : (p : Pattern) → p.low < 2 ^ 8 → p.high < 2 ^ 8 → PatternAnswer (pattern_text p) (Ok p)
 pattern_printed p low high =
     elim (cases_Bool (p.low == p.prefix.len && p.high == p.prefix.len)) [
-      inl yes' ↦ (let parts = and_parts (p.low == p.prefix.len) (p.high == p.prefix.len) yes' in
-      subst (λ t. PatternAnswer t (Ok p)) (sym (cond-true (p.low == p.prefix.len && p.high == p.prefix.len) (prefix_text p.prefix) (bounds_text p) yes'))
-      (plain_printed p (eqb-true p.low p.prefix.len parts.0) (eqb-true p.high p.prefix.len parts.1)))
-    | inr no' ↦ subst (λ t. PatternAnswer t (Ok p)) (sym (cond-false (p.low == p.prefix.len && p.high == p.prefix.len) (prefix_text p.prefix) (bounds_text p) no')) (bounds_printed p low high)
+      | inl yes' ↦ (let parts = and_parts (p.low == p.prefix.len) (p.high == p.prefix.len) yes' in
+          subst (λ t. PatternAnswer t (Ok p)) (sym (cond-true (p.low == p.prefix.len && p.high == p.prefix.len) (prefix_text p.prefix) (bounds_text p) yes'))
+          (plain_printed p (eqb-true p.low p.prefix.len parts.0) (eqb-true p.high p.prefix.len parts.1)))
+      | inr no' ↦ subst (λ t. PatternAnswer t (Ok p)) (sym (cond-false (p.low == p.prefix.len && p.high == p.prefix.len) (prefix_text p.prefix) (bounds_text p) no')) (bounds_printed p low high)
     ]
 
 pub asn_printed : (n : ℕ) → n < 2 ^ 32 → AsnAnswer (decimal n) (Ok (record { 0 = n }))

@@ -22,13 +22,13 @@ more_digits n [] high number = absurd number
 more_digits n (d ∷ ds) high (digit, alone, digits, value) = (
   digit,
   (λ zero.
-  let none = alone zero in
-  let nothing : value_after 0 (d ∷ ds) ≡ 0 = ap (λ x. value_after 0 (d ∷ x)) none ∙ (let e : 0 * 10 + (d - 48) ≡ 0 = omega arith in e) in
-  absurd (omega arith)),
+      let none = alone zero in
+      let nothing : value_after 0 (d ∷ ds) ≡ 0 = ap (λ x. value_after 0 (d ∷ x)) none ∙ (let e : 0 * 10 + (d - 48) ≡ 0 = omega arith in e) in
+      absurd (omega arith)),
   digits_append ds (48 + n % 10) digits (omega arith, omega arith),
   (let whole = value_append (0 * 10 + (d - 48)) ds (48 + n % 10) in
-  let back : n ≡ value_after 0 (d ∷ ds) * 10 + (48 + n % 10 - 48) = omega arith in
-  back ∙ sym whole),
+      let back : n ≡ value_after 0 (d ∷ ds) * 10 + (48 + n % 10 - 48) = omega arith in
+      back ∙ sym whole),
 )
 
 pub decimal_spelt : (n : ℕ) → n < 2 ^ 64 → IsDecimal (decimal n) n
@@ -43,7 +43,13 @@ number_spelt bound n form said rest low fits spelt =
 pub dotted_spelt : (base a b c d : ℕ) (form : ℕ → Form) (said : Said) (rest : List ℕ) → a < 256 → b < 256 → c < 256 → d < 256 → Spelt (form (base + (((a * 256 + b) * 256 + c) * 256 + d))) said rest
     → Spelt (dotted_form base form) said (decimal a ++ 46 ∷ (decimal b ++ 46 ∷ (decimal c ++ 46 ∷ (decimal d ++ rest))))
 dotted_spelt base a b c d form said rest la lb lc ld spelt =
-    number_spelt 255 a (λ a. Mark 46 (Decimal 255 (λ b. Mark 46 (Decimal 255 (λ c. Mark 46 (Decimal 255 (λ d. form (base + (((a * 256 + b) * 256 + c) * 256 + d))))))))) said _ (omega arith) (omega arith)
-    (_, refl, number_spelt 255 b (λ b. Mark 46 (Decimal 255 (λ c. Mark 46 (Decimal 255 (λ d. form (base + (((a * 256 + b) * 256 + c) * 256 + d))))))) said _ (omega arith) (omega arith)
-    (_, refl, number_spelt 255 c (λ c. Mark 46 (Decimal 255 (λ d. form (base + (((a * 256 + b) * 256 + c) * 256 + d))))) said _ (omega arith) (omega arith)
-    (_, refl, number_spelt 255 d (λ d. form (base + (((a * 256 + b) * 256 + c) * 256 + d))) said rest (omega arith) (omega arith) spelt)))
+    number_spelt 255 a (λ a. Mark 46 (Decimal 255 (λ b. Mark 46 (Decimal 255 (λ c. Mark 46 (Decimal 255 (λ d. form (base + (((a * 256 + b) * 256 + c) * 256 + d))))))))) said _ (omega arith) (omega arith) (
+      _,
+      refl,
+      number_spelt 255 b (λ b. Mark 46 (Decimal 255 (λ c. Mark 46 (Decimal 255 (λ d. form (base + (((a * 256 + b) * 256 + c) * 256 + d))))))) said _ (omega arith) (omega arith) (
+        _,
+        refl,
+        number_spelt 255 c (λ c. Mark 46 (Decimal 255 (λ d. form (base + (((a * 256 + b) * 256 + c) * 256 + d))))) said _ (omega arith) (omega arith)
+            (_, refl, number_spelt 255 d (λ d. form (base + (((a * 256 + b) * 256 + c) * 256 + d))) said rest (omega arith) (omega arith) spelt),
+      ),
+    )

@@ -16,8 +16,7 @@ pub fn one_answer()
     ensures prefix { (t : List ℕ) (x y : Result Prefix NumFault) → PrefixAnswer t x → PrefixAnswer t y → x ≡ y }
     ensures pattern { (t : List ℕ) (x y : Result Pattern NumFault) → PatternAnswer t x → PatternAnswer t y → x ≡ y }
     ensures asn { (t : List ℕ) (x y : Result Asn NumFault) → AsnAnswer t x → AsnAnswer t y → x ≡ y }
-{
-}
+{}
 
 /// What is printed is read again, as the value that was printed.
 pub fn printed_is_read()
@@ -26,11 +25,9 @@ pub fn printed_is_read()
     ensures pattern { (p : Pattern) → p.low < 2 ^ 8 → p.high < 2 ^ 8 → PatternAnswer (pattern_text p) (Ok p) }
     ensures bounds { (p : Pattern) → p.low < 2 ^ 8 → p.high < 2 ^ 8 → PatternAnswer (bounds_text p) (Ok p) }
     ensures asn { (n : ℕ) → n < 2 ^ 32 → AsnAnswer (decimal n) (Ok (record { 0 = n })) }
-{
-}
+{}
 
 /// Every text that writes eight groups by RFC 4291 section 2.2 is read as the address of these groups.
 pub fn any_spelling()
     ensures { (t segments : List ℕ) (a : Addr) → IsColonHex t segments → a.family ≡ V6 → a.value ≡ groups_value 0 segments → AddrAnswer t (Ok a) }
-{
-}
+{}

@@ -17,6 +17,8 @@ mod print;
 mod read;
 mod reading;
 mod roa;
+#[cfg(test)]
+mod tests;
 mod texts;
 mod texts6;
 

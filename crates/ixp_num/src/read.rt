@@ -52,10 +52,7 @@ fn address_text(tail: Tail, bytes: &[u8]) -> Result<Reading, usize>
     ensures says { Gives said_of result (read (address_form tail) bytes.now) }
     ensures whole { IfOk result (λ r. IsWhole tail r) }
 {
-    farther_of(
-        dotted_text(tail, Family::V4, 0, bytes),
-        text6(tail, bytes),
-    )
+    farther_of(dotted_text(tail, Family::V4, 0, bytes), text6(tail, bytes))
 }
 
 /// Reads an IPv4 address, four decimal numbers with dots, or an IPv6 address in any spelling of RFC 4291

@@ -54,7 +54,10 @@ pub(crate) fn mark_of(mark: u8, bytes: &[u8]) -> Result<&[u8], usize>
 }
 
 /// The reading that came to the end, else how far the one that came farther did.
-pub(crate) fn farther_of(one: Result<Reading, usize>, other: Result<Reading, usize>) -> Result<Reading, usize>
+pub(crate) fn farther_of(
+    one: Result<Reading, usize>,
+    other: Result<Reading, usize>,
+) -> Result<Reading, usize>
     ensures { result ≡ farther one other }
 {
     match (one, other) {
@@ -146,7 +149,12 @@ fn pattern_text(family: Family, value: u128, bytes: &[u8]) -> Result<Reading, us
 }
 
 /// What stands behind an address.
-pub(crate) fn tail_text(tail: Tail, family: Family, value: u128, bytes: &[u8]) -> Result<Reading, usize>
+pub(crate) fn tail_text(
+    tail: Tail,
+    family: Family,
+    value: u128,
+    bytes: &[u8],
+) -> Result<Reading, usize>
     requires { value < 2 ^ bits_of family }
     ensures says { Gives said_of result (read (tail_form tail family value) bytes.now) }
     ensures whole { IfOk result (λ r. IsWhole tail r) }

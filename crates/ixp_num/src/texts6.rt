@@ -38,18 +38,17 @@ fn last_text(tail: Tail, base: u128, value: u128, bytes: &[u8]) -> Result<Readin
     ensures whole { IfOk result (λ r. IsWhole tail r) }
 {
     let (group, rest) = group_of(bytes)?;
-    tail_text(tail, Family::V6, base + (value * 65536 + u128::from(group)), rest)
+    tail_text(
+        tail,
+        Family::V6,
+        base + (value * 65536 + u128::from(group)),
+        rest,
+    )
 }
 
 /// One group, and then the end of the address or up to `room` more.
 #[cycle(behind)]
-fn more_text(
-    tail: Tail,
-    room: u8,
-    base: u128,
-    value: u128,
-    bytes: &[u8],
-) -> Result<Reading, usize>
+fn more_text(tail: Tail, room: u8, base: u128, value: u128, bytes: &[u8]) -> Result<Reading, usize>
     requires room { 0 < room }
     requires fits { base + (value + 1) * 2 ^ (16 * (room + 1)) ≤ 2 ^ 128 }
     ensures says { Gives said_of result (read (more_form (tail_form tail Family.V6) (behind_form (room - 1) (tail_form tail Family.V6) base) base value) bytes.now) }
@@ -65,13 +64,7 @@ fn more_text(
 
 /// A colon, and the groups behind it.
 #[cycle(behind)]
-fn next_text(
-    tail: Tail,
-    room: u8,
-    base: u128,
-    value: u128,
-    bytes: &[u8],
-) -> Result<Reading, usize>
+fn next_text(tail: Tail, room: u8, base: u128, value: u128, bytes: &[u8]) -> Result<Reading, usize>
     requires { base + (value + 1) * 2 ^ (16 * (room + 1)) ≤ 2 ^ 128 }
     ensures says { Gives said_of result (read (Mark 58 (behind_form room (tail_form tail Family.V6) base value)) bytes.now) }
     ensures whole { IfOk result (λ r. IsWhole tail r) }
