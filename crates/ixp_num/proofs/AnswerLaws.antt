@@ -12,7 +12,7 @@ use Rattle.ixp_num.specs.declared.reading.Reading.{Reading}
 use Rattle.ixp_num.specs.declared.reading.Tail.TheVariants.{Nothing, Length, Bounds}
 use Rattle.ixp_num.specs.Families.{bits_of}
 use Rattle.ixp_num.specs.Forms.{Form, Said, bounded, Spelt, IsOf, StopsAt}
-use Rattle.ixp_num.specs.AddressForms.{numbers, asn_form}
+use Rattle.ixp_num.specs.AddressForms.{numbers, address_form, asn_form}
 use Rattle.ixp_num.specs.Answers.{FaultAnswer, HasHostBits, AddrAnswer, PrefixAnswer, PatternAnswer, AsnAnswer}
 use Rattle.ixp_num.specs.Reading.{read, Gives, said_with, said_of, IsWhole, placed, placed_reading, IsAddrOf, IsPrefixOf, IsPatternOf, IsAsnOf}
 use Rattle.ixp_num.proofs.FormLaws.{Parted, read_sound}
@@ -41,36 +41,36 @@ pub whole_placed : (P : Reading → Type 0) (size : ℕ) (r : Result Reading ℕ
 whole_placed P size (Ok r) p = placed_whole P size r r.over p
 whole_placed P size (Err left) p = tt
 
-fault_prefix : (form : Form) (t : List ℕ) (fault : NumFault) → FaultAnswer form t fault → PrefixAnswer form t (Err fault)
-fault_prefix form t (Text place) h = h
-fault_prefix form t (Range place) h = h
-fault_prefix form t HostBits h = absurd h
+fault_prefix : (t : List ℕ) (fault : NumFault) → FaultAnswer (address_form Length) t fault → PrefixAnswer t (Err fault)
+fault_prefix t (Text place) h = h
+fault_prefix t (Range place) h = h
+fault_prefix t HostBits h = absurd h
 
-fault_pattern : (form : Form) (t : List ℕ) (fault : NumFault) → FaultAnswer form t fault → PatternAnswer form t (Err fault)
-fault_pattern form t (Text place) h = h
-fault_pattern form t (Range place) h = h
-fault_pattern form t HostBits h = absurd h
+fault_pattern : (t : List ℕ) (fault : NumFault) → FaultAnswer (address_form Bounds) t fault → PatternAnswer t (Err fault)
+fault_pattern t (Text place) h = h
+fault_pattern t (Range place) h = h
+fault_pattern t HostBits h = absurd h
 
-pub addr_answer : (form : Form) (t : List ℕ) (r : Result Reading NumFault) (result : Result Addr NumFault) → Placed form t r → IfOk r (IsWhole Nothing) → IsAddrOf r result → AddrAnswer form t result
-addr_answer form t (Ok r) (Ok a) spelt whole is =
+pub addr_answer : (t : List ℕ) (r : Result Reading NumFault) (result : Result Addr NumFault) → Placed (address_form Nothing) t r → IfOk r (IsWhole Nothing) → IsAddrOf r result → AddrAnswer t result
+addr_answer t (Ok r) (Ok a) spelt whole is =
     let same : numbers r.family r.value r.len r.low r.high ≡ numbers a.family a.value (bits_of a.family) (bits_of a.family) (bits_of a.family) = cc (is.0, is.1, whole.0, whole.1, whole.2) in
-    subst (λ ns. Spelt form (Ok ns) t) same spelt
-addr_answer form t (Ok r) (Err e) spelt whole is = absurd is
-addr_answer form t (Err f) result says whole is = subst (AddrAnswer form t) (sym is) says
+    subst (λ ns. Spelt (address_form Nothing) (Ok ns) t) same spelt
+addr_answer t (Ok r) (Err e) spelt whole is = absurd is
+addr_answer t (Err f) result says whole is = subst (AddrAnswer t) (sym is) says
 
-pub prefix_answer : (form : Form) (t : List ℕ) (r : Result Reading NumFault) (result : Result Prefix NumFault) → Placed form t r → IfOk r (IsWhole Length) → IsPrefixOf r result → PrefixAnswer form t result
-prefix_answer form t (Ok r) (Ok p) spelt whole is =
+pub prefix_answer : (t : List ℕ) (r : Result Reading NumFault) (result : Result Prefix NumFault) → Placed (address_form Length) t r → IfOk r (IsWhole Length) → IsPrefixOf r result → PrefixAnswer t result
+prefix_answer t (Ok r) (Ok p) spelt whole is =
     let same : numbers r.family r.value r.len r.low r.high ≡ numbers p.family p.value p.len p.len p.len = cc (is.0, is.1, is.2, whole.0, whole.1) in
-    subst (λ ns. Spelt form (Ok ns) t) same spelt
-prefix_answer form t (Ok r) (Err e) spelt whole is = subst (λ f. PrefixAnswer form t (Err f)) (sym is.0) (r.family, r.value, r.len, r.low, r.high, spelt, is.1)
-prefix_answer form t (Err f) result says whole is = subst (PrefixAnswer form t) (sym is) (fault_prefix form t f says)
+    subst (λ ns. Spelt (address_form Length) (Ok ns) t) same spelt
+prefix_answer t (Ok r) (Err e) spelt whole is = subst (λ f. PrefixAnswer t (Err f)) (sym is.0) (r.family, r.value, r.len, r.low, r.high, spelt, is.1)
+prefix_answer t (Err f) result says whole is = subst (PrefixAnswer t) (sym is) (fault_prefix t f says)
 
-pub pattern_answer : (form : Form) (t : List ℕ) (r : Result Reading NumFault) (result : Result Pattern NumFault) → Placed form t r → IsPatternOf r result → PatternAnswer form t result
-pattern_answer form t (Ok r) (Ok p) spelt is =
+pub pattern_answer : (t : List ℕ) (r : Result Reading NumFault) (result : Result Pattern NumFault) → Placed (address_form Bounds) t r → IsPatternOf r result → PatternAnswer t result
+pattern_answer t (Ok r) (Ok p) spelt is =
     let same : numbers r.family r.value r.len r.low r.high ≡ numbers p.prefix.family p.prefix.value p.prefix.len p.low p.high = cc (is.0.0, is.0.1, is.0.2, is.1, is.2) in
-    subst (λ ns. Spelt form (Ok ns) t) same spelt
-pattern_answer form t (Ok r) (Err e) spelt is = subst (λ f. PatternAnswer form t (Err f)) (sym is.0) (r.family, r.value, r.len, r.low, r.high, spelt, is.1)
-pattern_answer form t (Err f) result says is = subst (PatternAnswer form t) (sym is) (fault_pattern form t f says)
+    subst (λ ns. Spelt (address_form Bounds) (Ok ns) t) same spelt
+pattern_answer t (Ok r) (Err e) spelt is = subst (λ f. PatternAnswer t (Err f)) (sym is.0) (r.family, r.value, r.len, r.low, r.high, spelt, is.1)
+pattern_answer t (Err f) result says is = subst (PatternAnswer t) (sym is) (fault_pattern t f says)
 
 -- what the number of an AS says
 abbrev pub asn_said : ℕ → ℕ → Said

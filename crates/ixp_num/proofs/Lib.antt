@@ -1,6 +1,11 @@
 pub mod AnswerLaws
+pub mod ColonTexts
 pub mod Digits
 pub mod FormLaws
 pub mod Groups
+pub mod OneAnswer
 pub mod PartedForms
+pub mod Places
+pub mod PrintedAddresses
+pub mod PrintedTexts
 pub mod Stops

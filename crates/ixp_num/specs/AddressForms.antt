@@ -38,13 +38,17 @@ dotted_form base form =
 abbrev pub form4 : Tail → Form
 form4 tail = dotted_form 0 (tail_form tail V4)
 
--- One group behind `::`, and up to `room` more. `base` is the value of the groups before `::`, and `value` that of
--- those behind it. The last two may be written as an IPv4 address.
+-- One group behind `::`, and then the end of the address or a colon and what is behind it. `base` is the value of the
+-- groups before `::`, and `value` that of those behind it so far.
+abbrev pub more_form : (ℕ → Form) → (ℕ → Form) → ℕ → ℕ → Form
+more_form form next base value =
+    Hex (λ group. Either (form (base + (value * 65536 + group))) (Mark 58 (next (value * 65536 + group))))
+
+-- One group behind `::`, and up to `room` more. The last two may be written as an IPv4 address.
 abbrev pub behind_form : ℕ → (ℕ → Form) → ℕ → ℕ → Form
 behind_form zero form base value = Hex (λ group. form (base + (value * 65536 + group)))
 behind_form (suc room) form base value =
-    Either (dotted_form (base + value * 2 ^ 32) form)
-    (Hex (λ group. Either (form (base + (value * 65536 + group))) (Mark 58 (behind_form room form base (value * 65536 + group)))))
+    Either (dotted_form (base + value * 2 ^ 32) form) (more_form form (behind_form room form base) base value)
 
 -- up to `room` groups behind `::`
 abbrev pub gap_form : ℕ → (ℕ → Form) → ℕ → Form
@@ -52,12 +56,14 @@ gap_form zero form base = form base
 gap_form (suc room) form base = Either (form base) (behind_form room form base 0)
 
 -- A group and a colon, and then the `room` groups behind it; or a second colon, in place of at least one of them.
+-- `value` is that of the groups so far, in their places.
 abbrev pub colon_form : ℕ → (ℕ → Form) → (ℕ → Form) → ℕ → Form
 colon_form room form next value =
-    Hex (λ group. Mark 58 (Either (Mark 58 (gap_form (room - 1) form (value + group * 65536 ^ room))) (next (value + group * 65536 ^ room))))
+    Hex (λ group. Mark 58 (Either
+    (Mark 58 (gap_form (room - 1) form (value + group * 2 ^ (16 * room))))
+    (next (value + group * 2 ^ (16 * room)))))
 
--- A group and `room` more, where the groups before have the value `value` in their places. The last two may be
--- written as an IPv4 address.
+-- A group and `room` more. The last two may be written as an IPv4 address.
 abbrev pub groups_form : ℕ → (ℕ → Form) → ℕ → Form
 groups_form zero form value = Hex (λ group. form (value + group))
 groups_form (suc zero) form value = Either (dotted_form value form) (colon_form 1 form (groups_form zero form) value)

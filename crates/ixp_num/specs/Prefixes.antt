@@ -1,5 +1,5 @@
 -- Which addresses and prefixes lie in a prefix, and which prefixes a pattern matches.
-use Rattle.std.specs.Prelude.{ℕ, Bool, List, ◌&&◌, ◌==◌, ◌-◌, ◌/◌, ◌^◌, nat_le, min}
+use Rattle.std.specs.Prelude.{◌≡◌, ◌+◌, true, ℕ, Bool, List, ◌&&◌, ◌==◌, ◌-◌, ◌/◌, ◌^◌, nat_le, min}
 use Rattle.std.specs.List.{list_any}
 use Rattle.ixp_num.specs.declared.family.Family.{Family}
 use Rattle.ixp_num.specs.declared.addr.Addr.{Addr}
@@ -18,6 +18,10 @@ covers p q = same_family p.family q.family && nat_le p.len q.len && first_bits p
 -- the address lies in the prefix
 abbrev pub contains : Prefix → Addr → Bool
 contains p a = same_family p.family a.family && first_bits p.family p.len a.value == first_bits p.family p.len p.value
+
+-- `q` is the prefix that covers `p` and is one bit shorter
+abbrev pub IsParent : Prefix → Prefix → Type 0
+IsParent p q = (q.len + 1 ≡ p.len) × (covers q p ≡ true)
 
 -- the prefix agrees with the pattern's as far as both go, and has a length within its bounds (BIRD 2 User's
 -- Guide, data types, prefix sets)

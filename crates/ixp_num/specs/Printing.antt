@@ -1,5 +1,5 @@
 -- The one printed text of each value.
-use Rattle.std.specs.Prelude.{◌≡◌, ℕ, ◌/◌, ◌%◌, ◌^◌, Bool, ◌&&◌, ◌==◌, List, [], ◌∷◌, ◌++◌, decimal, if◌then◌else◌}
+use Rattle.std.specs.Prelude.{◌≡◌, ℕ, ◌+◌, ◌*◌, ◌/◌, ◌%◌, ◌^◌, Bool, ◌&&◌, ◌==◌, List, [], ◌∷◌, ◌++◌, decimal, if◌then◌else◌}
 use Rattle.std.specs.Net.Text.{hex_groups_text}
 use Rattle.ixp_num.specs.declared.family.Family.{Family}
 use Rattle.ixp_num.specs.declared.family.Family.TheVariants.{V4, V6}
@@ -17,6 +17,11 @@ abbrev pub groups_of : ℕ → List ℕ
 groups_of value =
     (value / 2 ^ 112) ∷ (value / 2 ^ 96 % 65536) ∷ (value / 2 ^ 80 % 65536) ∷ (value / 2 ^ 64 % 65536)
     ∷ (value / 2 ^ 48 % 65536) ∷ (value / 2 ^ 32 % 65536) ∷ (value / 2 ^ 16 % 65536) ∷ (value % 65536) ∷ []
+
+-- the value of groups of 16 bits behind those of n
+abbrev pub groups_value : ℕ → List ℕ → ℕ
+groups_value n [] = n
+groups_value n (g ∷ gs) = groups_value (n * 65536 + g) gs
 
 -- An IPv4 address as above. An IPv6 address by RFC 5952 section 4: groups in lower-case hexadecimal without
 -- leading zeros, and `::` for the longest run of at least two zero groups, the first one of equal runs; no part is

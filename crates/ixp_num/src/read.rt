@@ -1,13 +1,14 @@
 //! Reading of addresses, prefixes, patterns and AS numbers.
-ghost use Rattle.std.specs.Prelude.{◌≡◌, [], ◌∷◌, length, min};
+ghost use Rattle.std.specs.Prelude.{◌≡◌, [], ◌∷◌, length, min, IfOk};
 ghost use Rattle.ixp_num.specs.Forms.{bounded};
-ghost use Rattle.ixp_num.specs.AddressForms.{form4, asn_form};
+ghost use Rattle.ixp_num.specs.AddressForms.{address_form, asn_form};
 ghost use Rattle.ixp_num.specs.Answers.{AddrAnswer, PrefixAnswer, PatternAnswer, AsnAnswer};
-ghost use Rattle.ixp_num.specs.Reading.{read, Gives, placed, IsAddrOf, IsPrefixOf, IsPatternOf, IsAsnOf};
+ghost use Rattle.ixp_num.specs.Reading.{read, Gives, said_of, IsWhole, placed, IsAddrOf, IsPrefixOf, IsPatternOf, IsAsnOf};
 
 use crate::bits::host_bits;
 use crate::reading::{Reading, Tail};
-use crate::texts::{dotted_text, number_of, placed_in};
+use crate::texts::{dotted_text, farther_of, number_of, placed_in};
+use crate::texts6::text6;
 use crate::{Addr, Asn, Family, NumFault, Pattern, Prefix};
 
 fn addr_of(t: &[u8], reading: Result<Reading, usize>) -> Result<Addr, NumFault>
@@ -46,25 +47,36 @@ fn pattern_of(t: &[u8], reading: Result<Reading, usize>) -> Result<Pattern, NumF
     })
 }
 
-/// Reads an IPv4 address: four decimal numbers with dots, none above 255 and none with a leading zero.
-pub fn read_addr4(t: &[u8]) -> Result<Addr, NumFault>
-    ensures { AddrAnswer (form4 Tail.Nothing) t.now result }
+/// An address of either family, and what stands behind it.
+fn address_text(tail: Tail, bytes: &[u8]) -> Result<Reading, usize>
+    ensures says { Gives said_of result (read (address_form tail) bytes.now) }
+    ensures whole { IfOk result (λ r. IsWhole tail r) }
 {
-    addr_of(t, dotted_text(Tail::Nothing, Family::V4, 0, t))
+    farther_of(dotted_text(tail, Family::V4, 0, bytes), text6(tail, bytes))
 }
 
-/// Reads an IPv4 prefix: an address, a slash and a length of at most 32.
-pub fn read_prefix4(t: &[u8]) -> Result<Prefix, NumFault>
-    ensures { PrefixAnswer (form4 Tail.Length) t.now result }
+/// Reads an IPv4 address, four decimal numbers with dots, or an IPv6 address in any spelling of RFC 4291
+/// section 2.2. `Range` is at a number with dots above 255.
+pub fn read_addr(t: &[u8]) -> Result<Addr, NumFault>
+    ensures { AddrAnswer t.now result }
 {
-    prefix_of(t, dotted_text(Tail::Length, Family::V4, 0, t))
+    addr_of(t, address_text(Tail::Nothing, t))
 }
 
-/// Reads an IPv4 pattern: a prefix, and perhaps two bounds of at most 255 in braces.
-pub fn read_pattern4(t: &[u8]) -> Result<Pattern, NumFault>
-    ensures { PatternAnswer (form4 Tail.Bounds) t.now result }
+/// Reads a prefix: an address, a slash, and a length of at most 32 or 128. `HostBits` comes only of a text
+/// in which all is within its bounds.
+pub fn read_prefix(t: &[u8]) -> Result<Prefix, NumFault>
+    ensures { PrefixAnswer t.now result }
 {
-    pattern_of(t, dotted_text(Tail::Bounds, Family::V4, 0, t))
+    prefix_of(t, address_text(Tail::Length, t))
+}
+
+/// Reads a pattern: a prefix, and perhaps `{low,high}`, each at most 255; without them both bounds are the
+/// prefix's length. A low bound above the high one, or bounds above the family's length, are read.
+pub fn read_pattern(t: &[u8]) -> Result<Pattern, NumFault>
+    ensures { PatternAnswer t.now result }
+{
+    pattern_of(t, address_text(Tail::Bounds, t))
 }
 
 fn asn_text(t: &[u8]) -> Result<u64, usize>

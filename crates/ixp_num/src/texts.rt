@@ -44,7 +44,7 @@ pub(crate) fn number_of(bytes: &[u8]) -> Result<(u64, &[u8]), usize>
 
 /// What follows this byte at the front.
 #[tactic(auto, unfolding(crate::specs::Reading::mark_at))]
-fn mark_of(mark: u8, bytes: &[u8]) -> Result<&[u8], usize>
+pub(crate) fn mark_of(mark: u8, bytes: &[u8]) -> Result<&[u8], usize>
     ensures { Gives (λ x. x.now) result (mark_at mark bytes.now) }
 {
     match bytes {
@@ -54,7 +54,10 @@ fn mark_of(mark: u8, bytes: &[u8]) -> Result<&[u8], usize>
 }
 
 /// The reading that came to the end, else how far the one that came farther did.
-fn farther_of(one: Result<Reading, usize>, other: Result<Reading, usize>) -> Result<Reading, usize>
+pub(crate) fn farther_of(
+    one: Result<Reading, usize>,
+    other: Result<Reading, usize>,
+) -> Result<Reading, usize>
     ensures { result ≡ farther one other }
 {
     match (one, other) {
@@ -146,7 +149,12 @@ fn pattern_text(family: Family, value: u128, bytes: &[u8]) -> Result<Reading, us
 }
 
 /// What stands behind an address.
-fn tail_text(tail: Tail, family: Family, value: u128, bytes: &[u8]) -> Result<Reading, usize>
+pub(crate) fn tail_text(
+    tail: Tail,
+    family: Family,
+    value: u128,
+    bytes: &[u8],
+) -> Result<Reading, usize>
     requires { value < 2 ^ bits_of family }
     ensures says { Gives said_of result (read (tail_form tail family value) bytes.now) }
     ensures whole { IfOk result (λ r. IsWhole tail r) }
@@ -207,8 +215,9 @@ fn hex_of(bytes: &[u8]) -> Option<(u16, &[u8])>
 
 /// The value of the one to four hexadecimal digits at the front, and what is behind them.
 #[tactic(auto, unfolding(crate::specs::Reading::group_at))]
-fn group_of(bytes: &[u8]) -> Result<(u16, &[u8]), usize>
-    ensures { Gives (λ x. (x.0, x.1.now)) result (group_at bytes.now) }
+pub(crate) fn group_of(bytes: &[u8]) -> Result<(u16, &[u8]), usize>
+    ensures reads { Gives (λ x. (x.0, x.1.now)) result (group_at bytes.now) }
+    ensures small { IfOk result (λ x. x.0 < 65536) }
 {
     let Some((first, rest)) = hex_of(bytes) else {
         return Err(bytes.len());
