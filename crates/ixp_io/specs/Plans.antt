@@ -1,5 +1,5 @@
 -- Which calls of an object in memory fail.
-use Rattle.std.specs.Prelude.{ℕ, Bool, ◌||◌, ◌==◌, if◌then◌else◌}
+use Rattle.std.specs.Prelude.{Bool, ◌||◌, ◌==◌, if◌then◌else◌}
 use Rattle.std.specs.List.{list_any}
 use Rattle.ixp_io.specs.declared.plan.Plan.{Plan}
 use Rattle.ixp_io.specs.Faults.{last_count, counted}
