@@ -10,4 +10,7 @@ fails_next plan = plan.faults == last_count || list_any (λ number. number == co
 
 -- the plan after one more call
 abbrev pub after_call : Plan → Plan
-after_call plan = record plan { calls = counted plan.calls; faults = if fails_next plan then counted plan.faults else plan.faults }
+after_call plan = record plan {
+  calls = counted plan.calls;
+  faults = if fails_next plan then counted plan.faults else plan.faults;
+}
