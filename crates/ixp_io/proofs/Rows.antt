@@ -1,19 +1,19 @@
 -- Tables of rows: their laws, and that an ordered map in memory is one.
-use Rattle.std.proofs.Common.{◌≡◌, ◌∙◌, Option, None, Some, List, [], ◌∷◌, ◌++◌, ℕ, Bool, true, false, ◌&&◌, cond, filter, map, slice_get, refl, sym, ap, subst, T, append_assoc, rules, arith}
+use Rattle.std.proofs.Common.{◌≡◌, ◌∙◌, Option, None, Some, List, [], ◌∷◌, ◌++◌, ℕ, Bool, true, false, ◌&&◌, cond, slice_get, refl, sym, ap, subst, T}
 use Rattle.std.specs.List.{AllByRecursion}
 use Rattle.std.specs.List.Sorted.{IsStrictlySortedBy}
 use Rattle.std.specs.Cmp.{IsTotalOrder, on_total, eq_by_cmp_equiv}
 use Rattle.std.specs.Cmp.Lexicographic.{nat_list_cmp_total}
-use Rattle.std.specs.BTreeMap.{BTreeMap, is_at}
+use Rattle.std.specs.BTreeMap.{is_at}
 use Rattle.std.specs.Map.{keys_of, lookup}
 use Rattle.std.specs.Ordering.{is_lt, eq_by_cmp, ordering_reverse}
-use Rattle.std.specs.FinMap.{FinMap, IsAntisymmetric, empty, get-empty, slice_cmp-IsAntisymmetric, nat_cmp-IsAntisymmetric, get, insert, remove, entries, entries_sorted, from_sorted, from_entries, get-insert, get-remove, get-from_sorted, get-from_entries, entries-from_sorted, same_map, find, is_sorted}
+use Rattle.std.specs.FinMap.{IsAntisymmetric, empty, get-empty, slice_cmp-IsAntisymmetric, nat_cmp-IsAntisymmetric, get, entries_sorted, from_sorted, from_entries, get-insert, get-remove, get-from_sorted, get-from_entries, entries-from_sorted, same_map, find, is_sorted}
 use Rattle.std.specs.FinMap.Entries.{below_all}
 use Rattle.std.specs.Cmp.{tied_itself}
 use Rattle.std.specs.declared.cmp.Ordering.{Ordering}
 use Rattle.std.specs.declared.cmp.Ordering.TheVariants.{Less, Equal, Greater}
 use Rattle.ixp_io.specs.declared.keeper.RowName.{RowName}
-use Rattle.ixp_io.specs.Tables.{Table, name_bytes, name_cmp, set, rows_after, next_after, table_of, RowsInOrder}
+use Rattle.ixp_io.specs.Tables.{Table, name_bytes, name_cmp, set, rows_after, next_after, RowsInOrder}
 
 -- the order of names is total
 pub name_total : IsTotalOrder name_cmp

@@ -1,10 +1,10 @@
 -- Two calls of a source or a sink in a row.
-use Rattle.std.proofs.Common.{◌≡◌, ◌≤◌, ◌<◌, ◌+◌, ℕ, Option, None, Some, List, [], ◌++◌, take, drop, length, ◌-◌, append_assoc, refl, sym, arith}
+use Rattle.std.proofs.Common.{◌≤◌, ◌+◌, ℕ, Option, None, Some, List, [], ◌++◌, take, drop, length, ◌-◌, append_assoc, refl, sym, arith}
 use Rattle.std.proofs.lemmas.List.{append-nil}
 use Rattle.ixp_io.proofs.Pieces.{from_place}
 use Rattle.std.proofs.Math.Seq.{take-add}
-use Rattle.ixp_io.specs.Told.{Told, Moves, Takes}
-use Rattle.ixp_io.specs.Faults.{Rose, last_count}
+use Rattle.ixp_io.specs.Told.{Moves, Takes}
+use Rattle.ixp_io.specs.Faults.{Rose}
 
 -- what two writes took stands in their order
 pub Takes-then : (a b c : Option (List ℕ)) (x y : List ℕ) → Takes a b x → Takes b c y → Takes a c (x ++ y)

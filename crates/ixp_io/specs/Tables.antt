@@ -50,4 +50,7 @@ table_of rows = from_sorted rows.entries
 
 -- after a row comes the one that stands behind it in the order of the names, or none
 abbrev pub RowsInOrder : Type 0
-RowsInOrder = (rows : Table) (before after : List (RowName × List ℕ)) (row : RowName × List ℕ) → entries rows ≡ before ++ row ∷ after → next_after (Some row.0) rows ≡ slice_get after 0
+RowsInOrder =
+    (rows : Table) (before after : List (RowName × List ℕ)) (row : RowName × List ℕ)
+    → entries rows ≡ before ++ row ∷ after
+    → next_after (Some row.0) rows ≡ slice_get after 0

@@ -23,8 +23,8 @@ pub enum KeepFault {
     NoMemory,
 }
 
-/// The name of a row: its kind, and its key among the rows of this kind. Names are ordered by kind, then by the bytes of
-/// the key.
+/// The name of a row: its kind, and its key among the rows of this kind. Names are ordered by kind, then by the
+/// bytes of the key.
 #[derive(Debug, Drop)]
 pub struct RowName {
     pub kind: u8,
@@ -68,7 +68,8 @@ pub trait Keeper {
 
     /// Makes all the changes, one after the other, or none where it answers a fault.
     fn commit(&mut self, alloc: Global, batch: &[Change]) -> Result<(), KeepFault>
-        ensures made { OnOk result (Told (table self.old) (table self.new) (λ before now. now ≡ changed before batch.now)) }
+        ensures made { OnOk result (Told (table self.old) (table self.new)
+            (λ before now. now ≡ changed before batch.now)) }
         ensures kept { OnErr result (table self.new ≡ table self.old) }
         ensures counts { faults self.old ≤ faults self.new }
         ensures cause { IsErrOf result KeepFault.Failed → Rose (faults self.old) (faults self.new) }
@@ -77,7 +78,8 @@ pub trait Keeper {
     /// The row with the least name that is greater than `after`, or the least of all where there is no `after`; None
     /// exactly where there is no such row.
     fn next_row(&mut self, alloc: Global, after: Option<&RowName>) -> Result<Option<Row>, KeepFault>
-        ensures row { IfOk result (λ row. WhereTold (table self.old) (λ rows. option_map row_entry row ≡ next_after (option_copied after.entry) rows)) }
+        ensures row { IfOk result (λ row. WhereTold (table self.old)
+            (λ rows. option_map row_entry row ≡ next_after (option_copied after.entry) rows)) }
         ensures kept { table self.new ≡ table self.old }
         ensures counts { faults self.old ≤ faults self.new }
         ensures cause { IsErrOf result KeepFault.Failed → Rose (faults self.old) (faults self.new) }
@@ -88,7 +90,7 @@ pub trait Keeper {
         ensures { result ≡ faults self.now };
 }
 
-/// A law of the rows: who asks for the row after each that it was given, from the first on, gets all of them in order.
+/// A law of the rows: who asks for the row after each one that it was given gets all of them in order.
 #[tactic(auto, using(crate::proofs::Rows::rows_in_order))]
 pub fn rows_in_order()
     ensures { RowsInOrder }

@@ -37,8 +37,8 @@ impl Sink for MemLink {
     }
 }
 
-/// A door that gives links from memory, the first one first. With none left `accept` counts a fault. Its plan counts `listen`
-/// and `accept` together.
+/// A door that gives links from memory, the first one first. With none left `accept` counts a fault. Its plan counts
+/// the calls of `listen` and `accept` together.
 #[derive(Drop)]
 pub struct MemDoor {
     /// The links that are left.
@@ -84,7 +84,8 @@ impl Door for MemDoor {
         ensures fails { IsTrue (fails_next self.old.plan) → IsErr result }
         ensures gives { IfOk result (λ link. self.old.links.items ≡ link ∷ self.new.links.items) }
         ensures given { OnOk result (self.new.given ≡ self.old.given + 1) }
-        ensures only { OnErr result (IsTrue (fails_next self.old.plan) ⊎ (self.old.links.items ≡ []) ⊎ (self.old.given ≡ last_count)) }
+        ensures only { OnErr result (IsTrue (fails_next self.old.plan)
+            ⊎ (self.old.links.items ≡ []) ⊎ (self.old.given ≡ last_count)) }
         ensures kept { OnErr result (self.new.links.items ≡ self.old.links.items) }
         ensures kept_given { OnErr result (self.new.given ≡ self.old.given) }
         ensures counts { self.old.plan.faults ≤ self.new.plan.faults }

@@ -61,7 +61,8 @@ impl Keeper for MemKeeper {
     fn next_row(&mut self, alloc: Global, after: Option<&RowName>) -> Result<Option<Row>, KeepFault>
         ensures fails { IsErrOf result KeepFault.Failed ↔ IsTrue (fails_next self.old.plan) }
         ensures plan { self.new.plan ≡ after_call self.old.plan }
-        ensures row { IfOk result (λ row. option_map row_entry row ≡ next_after (option_copied after.entry) (table_of self.old.rows)) }
+        ensures row { IfOk result (λ row.
+            option_map row_entry row ≡ next_after (option_copied after.entry) (table_of self.old.rows)) }
         ensures kept { table_of self.new.rows ≡ table_of self.old.rows }
         ensures counts { self.old.plan.faults ≤ self.new.plan.faults }
         ensures cause { IsErrOf result KeepFault.Failed → Rose self.old.plan.faults self.new.plan.faults }
@@ -99,7 +100,7 @@ fn make(alloc: Global, rows: &mut Rows, change: &Change) -> Result<(), AllocErro
 fn take_out(rows: &mut Rows, name: &RowName)
     ensures { table_of rows.new ≡ remove (table_of rows.old) name.now }
 {
-    let _ordered = rows.len();
+    let _ordered = rows.len(); // whose clause says that the names rise
     rows.remove(name);
 }
 
@@ -133,17 +134,19 @@ fn copy_rows(alloc: Global, rows: &Rows) -> Result<Rows, AllocError>
 
 // The row with the least name that is greater.
 fn find_next<'a>(rows: &'a Rows, after: Option<&RowName>) -> Option<(&'a RowName, &'a Items<u8>)>
-    ensures { option_map (λ row. (row.0.now, row.1.now)) result ≡ next_after (option_copied after.entry) (table_of rows.now) }
+    ensures { option_map (λ row. (row.0.now, row.1.now)) result
+        ≡ next_after (option_copied after.entry) (table_of rows.now) }
 {
     seek(rows, after)
 }
 
 // The first entry whose name is greater.
 fn seek<'a>(rows: &'a Rows, after: Option<&RowName>) -> Option<(&'a RowName, &'a Items<u8>)>
-    ensures first { option_map (λ row. (row.0.now, row.1.now)) result ≡ slice_get (rows_after (option_copied after.entry) rows.now.entries) 0 }
+    ensures first { option_map (λ row. (row.0.now, row.1.now)) result
+        ≡ slice_get (rows_after (option_copied after.entry) rows.now.entries) 0 }
     ensures ordered { IsOrdered name_cmp rows.now }
 {
-    let _ordered = rows.len();
+    let _ordered = rows.len(); // whose clause says that the names rise
     match after {
         None => rows.first_key_value(),
         Some(name) => rows.range((Bound::Excluded(name), Bound::Unbounded)).next(),

@@ -65,9 +65,11 @@ impl Source for MemSource {
         requires { 0 < length buf.old }
         ensures fails { is_err result ≡ fails_next self.old.plan }
         ensures plan { self.new.plan ≡ after_call self.old.plan }
-        ensures gives { IfOk result (λ n. n ≡ min (min (length self.old.bytes - self.old.at) self.old.most) (length buf.old)) }
+        ensures gives { IfOk result (λ n.
+            n ≡ min (min (length self.old.bytes - self.old.at) self.old.most) (length buf.old)) }
         ensures within { IfOk result (λ n. n ≤ length buf.new) }
-        ensures moved { IfOk result (λ n. drop self.old.at self.old.bytes ≡ take n buf.new ++ drop self.new.at self.new.bytes) }
+        ensures moved { IfOk result (λ n.
+            drop self.old.at self.old.bytes ≡ take n buf.new ++ drop self.new.at self.new.bytes) }
         ensures ended { result ≡ Ok 0 → drop self.new.at self.new.bytes ≡ [] }
         ensures kept { OnErr result (self.new.at ≡ self.old.at) }
         ensures bytes { self.new.bytes ≡ self.old.bytes }

@@ -1,7 +1,7 @@
 //! Which calls of an object in memory are to fail.
 ghost use Rattle.std.specs.Prelude.{◌≡◌, ◌==◌, ◌<◌, ◌≤◌, [], IfOk, OnOk, OnErr, is_err};
 ghost use Rattle.std.specs.List.{list_any};
-ghost use Rattle.ixp_io.specs.Faults.{Rose};
+ghost use Rattle.ixp_io.specs.Faults.{Rose, last_count};
 ghost use Rattle.ixp_io.specs.Plans.{fails_next, after_call};
 
 use crate::Failed;
@@ -49,7 +49,7 @@ impl Plan {
         ensures counts { self.old.faults ≤ self.new.faults }
         ensures cause { OnErr result (Rose self.old.faults self.new.faults) }
         ensures smooth { OnOk result (self.new.faults ≡ self.old.faults) }
-        ensures open_count { OnOk result (self.new.faults < 18446744073709551615) }
+        ensures open_count { OnOk result (self.new.faults < last_count) }
     {
         self.calls = self.calls.saturating_add(1);
         if self.faults == u64::MAX || contains(self.failing.as_slice(), self.calls) {

@@ -46,7 +46,8 @@ pub fn read_whole<S: Source>(
     ensures bytes { IfOk result (λ bytes. Moves (S.left source.old) (S.left source.new) bytes) }
     ensures done { OnOk result (IsDone (S.left source.new)) }
     ensures limit { IfOk result (λ bytes. length bytes ≤ limit) }
-    ensures too_long { IsErrOf result WholeFault.TooLong → Told (S.left source.old) (S.left source.new) (λ left rest. limit < length left) }
+    ensures too_long { IsErrOf result WholeFault.TooLong
+        → Told (S.left source.old) (S.left source.new) (λ left rest. limit < length left) }
     ensures failed { IsErrOf result WholeFault.Failed → Rose (S.read_faults source.old) (S.read_faults source.new) }
     ensures most { MovesUpTo (limit + 1) (S.left source.old) (S.left source.new) }
     ensures counts { S.read_faults source.old ≤ S.read_faults source.new }

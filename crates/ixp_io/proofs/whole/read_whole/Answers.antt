@@ -1,4 +1,4 @@
-use Rattle.std.proofs.Common.{◌++◌, ◌≤◌, ◌+◌, take, length, arith}
+use Rattle.std.proofs.Common.{◌++◌, take, arith}
 use Rattle.std.proofs.lemmas.Grind.{common_steps}
 use Rattle.ixp_io.proofs.Streams.{Moves-then}
 use Rattle.ixp_io.proofs.whole.read_whole.Goals as goal
