@@ -1,2 +1,3 @@
+pub mod Runs
 pub mod SmallGeneration
 pub mod SmallTexts

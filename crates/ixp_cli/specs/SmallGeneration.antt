@@ -76,12 +76,12 @@ abbrev pub pipe_of : ℕ → Pipe
 pipe_of k =
     record { name = named (codes "pp_") k; table = codes "master4"; peer = named (codes "t_") k; «import» = Named (codes "ixp_up"); export = All }
 
-abbrev pub session_of : Small → ℕ → Asn → Addr → Bgp
-session_of s k asn addr =
+abbrev pub session_of : Asn → ℕ → Asn → Addr → Bgp
+session_of rs k asn addr =
     record {
       name = named (codes "b_") k;
       local = Some router_addr;
-      own = s.rs;
+      own = rs;
       neighbor = addr;
       asn = asn;
       rs_client = true;
@@ -97,7 +97,7 @@ session_of s k asn addr =
 abbrev pub member_items : Small → ℕ → Asn → Addr → List ItemTree
 member_items s k asn addr =
     table_item Ipv4 (named (codes "t_") k) ∷ filter_item (named (codes "in_") k) (stmts (in_body s k asn)) ∷ pipe_item (pipe_of k)
-    ∷ bgp_item (session_of s k asn addr) ∷ []
+    ∷ bgp_item (session_of s.rs k asn addr) ∷ []
 
 abbrev pub all_members : Small → ℕ → List Asn → List Addr → List ItemTree
 all_members s k [] addrs = []

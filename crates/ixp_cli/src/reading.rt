@@ -8,7 +8,7 @@ ghost use Rattle.ixp_cli.specs.SmallTexts.{numbered, member_line, port_line, int
 
 use crate::small::{RouteLine, Small, Version};
 use crate::text;
-use ixp_num::{Addr, Asn, Items, NumFault, Prefix, read_addr4, read_asn, read_prefix4};
+use ixp_num::{Addr, Asn, Family, Items, Prefix, read_addr, read_asn, read_prefix};
 use std::alloc::{AllocError, AllocFailed, Global};
 
 /// The greatest number of members.
@@ -201,11 +201,11 @@ fn take_lines<'a, L: Lines>(alloc: Global, rest: &'a [u8], asns: &[Asn]) -> Resu
 fn is_usable(addr: &Addr) -> bool {
     let first = 167837697;
     let last = 167837949;
-    first <= addr.value && addr.value <= last
+    addr.family == Family::V4 && first <= addr.value && addr.value <= last
 }
 
 fn usable_addr(line: &[u8], others: &[Addr]) -> Option<Addr> {
-    let addr = match read_addr4(word(line, 2)) {
+    let addr = match read_addr(word(line, 2)) {
         Ok(addr) => addr,
         Err(_) => return None,
     };
@@ -245,7 +245,7 @@ fn take_addresses(alloc: Global, rest: &[u8], count: usize) -> Result<(Items<Add
 /// A prefix that comes after the last one, of a member that is there.
 fn next_prefix(line: &[u8], members: usize, last: Option<&(u32, Prefix)>) -> Option<(u32, Prefix)> {
     let member = number_in(line, 1)?;
-    let prefix = match read_prefix4(word(line, 2)) {
+    let prefix = match read_prefix(word(line, 2)) {
         Ok(prefix) => prefix,
         Err(_) => return None,
     };
@@ -254,7 +254,7 @@ fn next_prefix(line: &[u8], members: usize, last: Option<&(u32, Prefix)>) -> Opt
         None => true,
         Some(last) => last.0 < member || last.0 == member && last.1 < prefix,
     };
-    if is_there && is_next {
+    if prefix.family == Family::V4 && is_there && is_next {
         Some((member, prefix))
     } else {
         None
@@ -425,12 +425,15 @@ fn take_lists<'a>(
 fn route_in(line: &[u8], addrs: &[Addr]) -> Option<RouteLine> {
     let member = number_in(line, 2)?;
     let asn = Asn(number_in(line, 4)?);
-    let net = match read_prefix4(word(line, 3)) {
+    let net = match read_prefix(word(line, 3)) {
         Ok(net) => net,
         Err(_) => return None,
     };
     let at = (member as usize).checked_sub(1)?;
     let hop = *addrs.get(at)?;
+    if net.family != Family::V4 {
+        return None;
+    }
     Some(RouteLine {
         member,
         net,
@@ -458,7 +461,8 @@ fn take_route(alloc: Global, text: &[u8], addrs: &[Addr]) -> Result<RouteLine, S
 
 /// The registry and the route that the text is.
 pub fn read_small(alloc: Global, text: &[u8]) -> Result<(Small, RouteLine), Stop>
-    ensures { IfOk result (λ x. text.now ≡ small_text x.0 ++ route_line x.1) }
+    ensures text { IfOk result (λ x. text.now ≡ small_text x.0 ++ route_line x.1) }
+    ensures few { IfOk result (λ x. length x.0.asns ≤ 64) }
 {
     let front = take_front(alloc, text)?;
     let (router, rest) = take_router(alloc, front.rest, front.version, front.asns.as_slice())?;

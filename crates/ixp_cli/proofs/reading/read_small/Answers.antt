@@ -4,8 +4,8 @@ use Rattle.ixp_cli.specs.SmallTexts.{front_text, router_line, lists_text, route_
 use Rattle.ixp_cli.proofs.Numbering.{four_texts}
 use Rattle.ixp_cli.proofs.reading.read_small.Goals as goal
 
-pub returns : goal.returns
-returns c =
+pub returns-clause-text : goal.returns-clause-text
+returns-clause-text c =
     let front = c.in_ok-front.front in
     let router = c.in_ok-router.router in
     four_texts c.args.text.now (front_text front.version front.asns front.addrs) (router_line front.version router.rs router.low router.high)

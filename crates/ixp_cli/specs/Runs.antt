@@ -1,0 +1,50 @@
+-- What a run of the program does.
+use Rattle.std.specs.Prelude.{◌≡◌, ℕ, List, [], ◌∷◌, ◌++◌, Option, Some, None, Ok, codes, decimal}
+use Rattle.ixp_num.specs.declared.asn.Asn.{Asn}
+use Rattle.ixp_lang.specs.declared.fate.Fate.{Fate}
+use Rattle.ixp_lang.specs.declared.route.Route.{Route}
+use Rattle.ixp_lang.specs.Texts.{fate_text}
+use Rattle.ixp_lang.specs.Trees.{ItemTree}
+use Rattle.ixp_lang.specs.Walks.{walk}
+use Rattle.ixp_io.specs.Told.{Moves, IsDone, Takes}
+use Rattle.ixp_print.specs.Texts.{config_text}
+use Rattle.ixp_cli.specs.declared.end.End.{End}
+use Rattle.ixp_cli.specs.declared.end.End.TheVariants.{Done, Usage, BadLine, TooLong, ReadFault, WriteFault, NoMemory}
+use Rattle.ixp_cli.specs.declared.small.RouteLine.{RouteLine}
+use Rattle.ixp_cli.specs.declared.small.Small.{Small}
+use Rattle.ixp_cli.specs.SmallGeneration.{named, small_config}
+use Rattle.ixp_cli.specs.SmallTexts.{small_text, route_line}
+
+-- the status of a run that ends so
+abbrev pub status_of : End → ℕ
+status_of Done = 0
+status_of Usage = 1
+status_of (BadLine line) = 2
+status_of TooLong = 2
+status_of ReadFault = 3
+status_of WriteFault = 4
+status_of NoMemory = 8
+
+-- the route of the line, without communities
+abbrev pub route_of : RouteLine → Route
+route_of r = record { net = r.net; path = r.asn ∷ []; next_hop = r.hop; pairs = []; triples = [] }
+
+-- The input is the dump of a small registry and a route. The output is the text of the registry's configuration, and
+-- the fate of the route from its member's session in these items, by the meaning of filters.
+pub record Compiles (input output : List ℕ) : Type 0 where
+  pub registry : Small
+  pub route : RouteLine
+  pub items : List ItemTree
+  pub fate : Fate
+  pub read : input ≡ small_text registry ++ route_line route
+  pub walked : walk items [] (named (codes "b_") route.member) (route_of route) ≡ Ok fate
+  pub written : output ≡ config_text (small_config registry) ++ fate_text fate (Some registry.rs)
+
+-- All of the input was read, and the output took what it is compiled to. What isn't told isn't spoken of.
+pub record Answers (left rest written now : Option (List ℕ)) : Type 0 where
+  pub input : List ℕ
+  pub output : List ℕ
+  pub compiled : Compiles input output
+  pub read : Moves left rest input
+  pub ended : IsDone rest
+  pub took : Takes written now output
