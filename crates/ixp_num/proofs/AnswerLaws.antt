@@ -1,7 +1,6 @@
 -- A reading, placed in its text, is an answer.
-use Rattle.std.proofs.Common.{◌≡◌, ◌≢◌, ℕ, ◌+◌, ◌-◌, ◌*◌, ◌<◌, ◌%◌, ◌^◌, ◌⊎◌, inl, inr, List, [], ◌∷◌, ◌++◌, length, Option, Some, None, Result, Ok, Err, IfOk, refl, sym, ap, ◌∙◌, subst, arith, min, nat_le, le-leb}
+use Rattle.std.proofs.Common.{◌≡◌, ℕ, ◌-◌, List, [], ◌∷◌, length, Option, Some, None, Result, Ok, Err, IfOk, refl, sym, ap, ◌∙◌, subst, arith, min, nat_le, le-leb}
 use Rattle.std.proofs.lemmas.Bool.{cond-true, cond-false, lt-leb}
-use Rattle.ixp_num.specs.declared.family.Family.{Family}
 use Rattle.ixp_num.specs.declared.addr.Addr.{Addr}
 use Rattle.ixp_num.specs.declared.asn.Asn.{Asn}
 use Rattle.ixp_num.specs.declared.prefix.Prefix.{Prefix}
@@ -11,9 +10,9 @@ use Rattle.ixp_num.specs.declared.fault.NumFault.TheVariants.{Text, Range, HostB
 use Rattle.ixp_num.specs.declared.reading.Reading.{Reading}
 use Rattle.ixp_num.specs.declared.reading.Tail.TheVariants.{Nothing, Length, Bounds}
 use Rattle.ixp_num.specs.Families.{bits_of}
-use Rattle.ixp_num.specs.Forms.{Form, Said, bounded, Spelt, IsOf, StopsAt}
+use Rattle.ixp_num.specs.Forms.{Form, Said, bounded, Spelt}
 use Rattle.ixp_num.specs.AddressForms.{numbers, address_form, asn_form}
-use Rattle.ixp_num.specs.Answers.{FaultAnswer, HasHostBits, AddrAnswer, PrefixAnswer, PatternAnswer, AsnAnswer}
+use Rattle.ixp_num.specs.Answers.{FaultAnswer, AddrAnswer, PrefixAnswer, PatternAnswer, AsnAnswer}
 use Rattle.ixp_num.specs.Reading.{read, Gives, said_with, said_of, IsWhole, placed, placed_reading, IsAddrOf, IsPrefixOf, IsPatternOf, IsAsnOf}
 use Rattle.ixp_num.proofs.FormLaws.{Parted, read_sound}
 use Rattle.ixp_num.proofs.PartedForms.{asn_parted}

@@ -1,13 +1,13 @@
 -- Each text of RFC 4291 section 2.2, as std's grammar has it, is of the form of IPv6 addresses, and says its groups.
-use Rattle.std.proofs.Common.{◌≡◌, ◌≢◌, ℕ, zero, suc, ◌+◌, ◌-◌, ◌*◌, ◌<◌, ◌≤◌, ◌^◌, ◌⊎◌, inl, inr, Bool, true, false, IsTrue, List, [], ◌∷◌, ◌++◌, length, replicate, decimal, Result, Ok, Err, refl, sym, ap, ◌∙◌, subst, arith, append_assoc, mul_assoc, add-mul}
+use Rattle.std.proofs.Common.{◌≡◌, ℕ, zero, suc, ◌+◌, ◌-◌, ◌*◌, ◌<◌, ◌≤◌, ◌^◌, inl, inr, Bool, true, false, List, [], ◌∷◌, ◌++◌, length, replicate, decimal, refl, sym, ap, ◌∙◌, subst, arith, append_assoc, mul_assoc, add-mul}
 use Rattle.std.proofs.lemmas.Nat.{pow-add}
 use Rattle.std.specs.Net.Addr.{segments_of}
 use Rattle.std.specs.Net.Text.{dotted_text}
-use Rattle.std.specs.Net.Grammar.{IsDotted, IsGroup, IsGroupsAfter, IsGroups, IsElided, IsColonHex}
-use Rattle.ixp_num.specs.declared.family.Family.TheVariants.{V4, V6}
+use Rattle.std.specs.Net.Grammar.{IsDotted, IsGroup, IsGroupsAfter, IsGroups, IsColonHex}
+use Rattle.ixp_num.specs.declared.family.Family.TheVariants.{V6}
 use Rattle.ixp_num.specs.declared.reading.Tail.{Tail}
 use Rattle.ixp_num.specs.Forms.{Form, Mark, Hex, Either, Said, Spelt}
-use Rattle.ixp_num.specs.AddressForms.{tail_form, dotted_form, more_form, behind_form, gap_form, colon_form, groups_form, form6}
+use Rattle.ixp_num.specs.AddressForms.{tail_form, dotted_form, behind_form, gap_form, colon_form, groups_form, form6}
 use Rattle.ixp_num.specs.Printing.{groups_value}
 use Rattle.ixp_num.proofs.Places.{next_power}
 use Rattle.ixp_num.proofs.PrintedTexts.{dotted_spelt}

@@ -1,5 +1,5 @@
 -- Digits, and the decimal number at the front of a text.
-use Rattle.std.proofs.Common.{◌≡◌, ◌≢◌, ℕ, suc, ◌+◌, ◌-◌, ◌*◌, ◌<◌, ◌≤◌, ◌⊎◌, inl, inr, Bool, true, false, cond, List, [], ◌∷◌, ◌++◌, length, min, nat_le, ◌==◌, Result, Ok, Err, refl, sym, ap, ◌∙◌, subst, arith, le-leb, leb-true, eqb-true, ne_eqb, eq-eqb, append_assoc}
+use Rattle.std.proofs.Common.{◌≡◌, ◌≢◌, ℕ, ◌+◌, ◌-◌, ◌*◌, ◌≤◌, ◌⊎◌, inl, inr, true, false, List, [], ◌∷◌, ◌++◌, length, min, nat_le, ◌==◌, Ok, Err, refl, sym, ap, ◌∙◌, arith, le-leb, leb-true, ne_eqb, eq-eqb}
 use Rattle.std.specs.List.{AllByRecursion}
 use Rattle.std.proofs.lemmas.Bool.{cases_Bool, and_parts, and_from, cond-true, cond-false, false_from_ne_true, both_ways, cases_eq}
 use Rattle.ixp_num.specs.Forms.{IsDigit, value_after, IsDecimal}

@@ -1,12 +1,10 @@
 -- The reader against the forms: what is read is spelt so, what is spelt is read, and a reader stops where it must.
-use Rattle.std.proofs.Common.{◌≡◌, ◌≢◌, ℕ, suc, ◌+◌, ◌-◌, ◌*◌, ◌<◌, ◌≤◌, ◌⊎◌, inl, inr, Bool, true, false, cond, List, [], ◌∷◌, ◌++◌, length, take, min, nat_le, ◌==◌, Result, Ok, Err, refl, sym, ap, ◌∙◌, subst, arith, append_assoc, append-nil, length-append}
-use Rattle.std.specs.List.{AllByRecursion}
-use Rattle.std.proofs.lemmas.Bool.{cases_lt}
+use Rattle.std.proofs.Common.{◌≡◌, ℕ, suc, ◌<◌, ◌⊎◌, inl, inr, cond, List, [], ◌∷◌, length, min, nat_le, Result, Ok, Err, refl, sym, ap, ◌∙◌, arith}
 use Rattle.std.proofs.lemmas.Bool.Decides.{nat_tests}
-use Rattle.ixp_num.specs.Forms.{Form, End, Mark, Decimal, Hex, Either, IsDigit, IsDecimal, Said, bounded, Spelt, IsOf, Begins, StopsAt}
+use Rattle.ixp_num.specs.Forms.{Form, End, Mark, Decimal, Hex, Either, IsDigit, Said, bounded, Spelt, IsOf}
 use Rattle.ixp_num.specs.Reading.{◌>>=◌, cap, group_at, number_at, mark_at, end_at, farther, read}
 use Rattle.ixp_num.proofs.Groups.{IsHexByte, group_again, Grouped, group_split, group_missing}
-use Rattle.ixp_num.proofs.Digits.{pair, Ends, same_head, Closed, number_again, Numbered, number_split, number_missing, decimal_begins, mark_again, mark_split, mark_missing}
+use Rattle.ixp_num.proofs.Digits.{pair, Ends, number_again, Numbered, number_split, number_missing, mark_again, mark_split, mark_missing}
 
 -- no text of the form begins with such a byte
 abbrev pub NeverBegins : (ℕ → Type 0) → Form → Type 0

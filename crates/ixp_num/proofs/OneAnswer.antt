@@ -1,5 +1,5 @@
 -- No text has two answers.
-use Rattle.std.proofs.Common.{◌≡◌, ◌≢◌, ℕ, ◌+◌, ◌-◌, ◌*◌, ◌<◌, ◌≤◌, ◌%◌, ◌^◌, ◌⊎◌, inl, inr, List, [], ◌∷◌, ◌++◌, length, Result, Ok, Err, refl, sym, ap, ◌∙◌, subst, arith}
+use Rattle.std.proofs.Common.{◌≡◌, ℕ, ◌-◌, ◌<◌, ◌≤◌, ◌%◌, ◌^◌, List, [], ◌∷◌, length, Result, Ok, Err, refl, sym, ap, ◌∙◌, subst, arith}
 use Rattle.std.proofs.Math.Bridge.{le_prop}
 use Rattle.std.proofs.Math.Nat.{ℕ_set}
 use Rattle.ixp_num.specs.declared.family.Family.{Family}
@@ -12,10 +12,9 @@ use Rattle.ixp_num.specs.declared.fault.NumFault.{NumFault}
 use Rattle.ixp_num.specs.declared.fault.NumFault.TheVariants.{Text, Range, HostBits}
 use Rattle.ixp_num.specs.declared.reading.Tail.TheVariants.{Nothing, Length, Bounds}
 use Rattle.ixp_num.specs.Families.{bits_of}
-use Rattle.ixp_num.specs.Forms.{Form, Said, Spelt, IsOf, StopsAt}
+use Rattle.ixp_num.specs.Forms.{Form, Said, Spelt, IsOf}
 use Rattle.ixp_num.specs.AddressForms.{version_of, numbers, address_form, asn_form}
 use Rattle.ixp_num.specs.Answers.{FaultAnswer, HasHostBits, AddrAnswer, PrefixAnswer, PatternAnswer, AsnAnswer}
-use Rattle.ixp_num.specs.Reading.{read}
 use Rattle.ixp_num.proofs.FormLaws.{Parted, read_again}
 use Rattle.ixp_num.proofs.PartedForms.{address_parted, asn_parted}
 use Rattle.ixp_num.proofs.Stops.{one_place}

@@ -1,5 +1,5 @@
 -- In the forms of addresses numbers end where their digits do.
-use Rattle.std.proofs.Common.{◌≡◌, ℕ, ◌+◌, ◌-◌, ◌*◌, ◌^◌, ◌<◌, ◌⊎◌, inl, inr, List, [], ◌∷◌, ◌++◌, refl, sym, ap, ◌∙◌, subst, arith, zero, suc, lit<, lit≤}
+use Rattle.std.proofs.Common.{◌≡◌, ℕ, ◌+◌, ◌-◌, ◌*◌, ◌^◌, ◌<◌, ◌⊎◌, inl, inr, List, [], ◌∷◌, ◌++◌, refl, sym, ap, ◌∙◌, subst, arith, zero, suc, lit<}
 use Rattle.ixp_num.specs.declared.family.Family.{Family}
 use Rattle.ixp_num.specs.declared.family.Family.TheVariants.{V4, V6}
 use Rattle.ixp_num.specs.declared.reading.Tail.{Tail}
@@ -7,12 +7,10 @@ use Rattle.ixp_num.specs.declared.reading.Tail.TheVariants.{Nothing, Length, Bou
 use Rattle.ixp_num.specs.Families.{bits_of}
 use Rattle.std.specs.List.{AllByRecursion}
 use Rattle.std.proofs.lemmas.Bool.Decides.{nat_tests}
-use Rattle.ixp_num.specs.Forms.{Form, IsDecimal, End, Mark, Decimal, Hex, Either, IsDigit, Said, Spelt, IsOf}
+use Rattle.ixp_num.specs.Forms.{Form, IsDecimal, End, Mark, Decimal, Hex, Either, IsDigit, Spelt, IsOf}
 use Rattle.ixp_num.specs.AddressForms.{numbers, bounds_form, tail_form, dotted_form, more_form, behind_form, gap_form, colon_form, groups_form, form4, form6, address_form, asn_form}
 use Rattle.ixp_num.specs.Reading.{cap}
-use Rattle.std.specs.Char.{digit_value}
 use Rattle.std.specs.Str.Parse.{AllDigits}
-use Rattle.std.specs.Net.Grammar.{IsGroup}
 use Rattle.ixp_num.proofs.Groups.{IsHexByte, group_begins}
 use Rattle.ixp_num.proofs.Digits.{Ends, decimal_begins}
 use Rattle.ixp_num.proofs.FormLaws.{Parted, Apart, NeverBegins, ends_from}

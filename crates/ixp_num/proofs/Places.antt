@@ -1,5 +1,5 @@
 -- The places of groups in an address, and the forms with room for one group or more.
-use Rattle.std.proofs.Common.{◌≡◌, ℕ, zero, suc, ◌+◌, ◌-◌, ◌*◌, ◌%◌, ◌^◌, ◌<◌, ◌≤◌, List, Result, Ok, Err, refl, sym, ap, ◌∙◌, subst, arith, mul-le-mul_left, mul-le-mul_right, mod-eq_of_lt, pow_mono, lit≤}
+use Rattle.std.proofs.Common.{◌≡◌, ℕ, zero, suc, ◌+◌, ◌-◌, ◌*◌, ◌%◌, ◌^◌, ◌<◌, ◌≤◌, Result, Ok, Err, ap, ◌∙◌, arith, mul-le-mul_left, mul-le-mul_right, mod-eq_of_lt, pow_mono}
 use Rattle.std.proofs.lemmas.Nat.{pow-add}
 use Rattle.ixp_num.specs.Forms.{Form, Either}
 use Rattle.ixp_num.specs.AddressForms.{dotted_form, more_form, behind_form, gap_form, colon_form, groups_form}

@@ -1,5 +1,5 @@
 -- A printed address is of the form of addresses, and says its number.
-use Rattle.std.proofs.Common.{◌≡◌, ℕ, zero, suc, ◌+◌, ◌-◌, ◌*◌, ◌<◌, ◌≤◌, ◌/◌, ◌%◌, ◌^◌, inl, inr, List, [], ◌∷◌, ◌++◌, get_or, decimal, Result, Ok, Err, refl, sym, ap, ◌∙◌, subst, arith, append_assoc, append-nil, lit<, cond, Bool, ◌&&◌, ◌==◌}
+use Rattle.std.proofs.Common.{◌≡◌, ℕ, zero, suc, ◌+◌, ◌*◌, ◌<◌, ◌≤◌, ◌/◌, ◌%◌, ◌^◌, inl, inr, List, [], ◌∷◌, ◌++◌, get_or, decimal, Ok, refl, sym, ap, ◌∙◌, subst, arith, append_assoc, append-nil, lit<, ◌&&◌, ◌==◌}
 use Rattle.std.proofs.lemmas.Bool.{cases_Bool, cond-true, cond-false, and_parts, eqb-true}
 use Rattle.std.specs.Net.Text.{hex_groups_text}
 use Rattle.std.specs.Net.Grammar.{IsColonHex}
@@ -13,7 +13,7 @@ use Rattle.ixp_num.specs.declared.reading.Tail.{Tail}
 use Rattle.ixp_num.specs.declared.reading.Tail.TheVariants.{Nothing, Length, Bounds}
 use Rattle.ixp_num.specs.Families.{bits_of}
 use Rattle.ixp_num.specs.Forms.{Form, End, Mark, Decimal, Either, Said, Spelt}
-use Rattle.ixp_num.specs.AddressForms.{numbers, bounds_form, tail_form, form4, form6, address_form, asn_form}
+use Rattle.ixp_num.specs.AddressForms.{numbers, bounds_form, tail_form, form4, address_form, asn_form}
 use Rattle.ixp_num.specs.Answers.{AddrAnswer, PrefixAnswer, PatternAnswer, AsnAnswer}
 use Rattle.ixp_num.specs.Printing.{text4, groups_of, groups_value, value_text, addr_text, prefix_text, bounds_text, pattern_text}
 use Rattle.ixp_num.proofs.PrintedTexts.{number_spelt, dotted_spelt}

@@ -1,9 +1,9 @@
 -- What is printed is of the form, and says its value.
-use Rattle.std.proofs.Common.{◌≡◌, ◌≢◌, ℕ, suc, ◌+◌, ◌-◌, ◌*◌, ◌<◌, ◌≤◌, ◌/◌, ◌%◌, ◌^◌, ◌⊎◌, inl, inr, List, [], ◌∷◌, ◌++◌, length, min, nat_le, decimal, Result, Ok, Err, refl, sym, ap, ◌∙◌, subst, arith, append_assoc, le-leb}
+use Rattle.std.proofs.Common.{◌≡◌, ℕ, ◌+◌, ◌-◌, ◌*◌, ◌<◌, ◌≤◌, ◌/◌, ◌%◌, ◌^◌, List, [], ◌∷◌, ◌++◌, length, min, nat_le, decimal, Err, refl, sym, ap, ◌∙◌, subst, arith, le-leb}
 use Rattle.std.specs.List.{AllByRecursion}
 use Rattle.std.proofs.lemmas.Fmt.{decimal_by_steps}
 use Rattle.std.proofs.lemmas.Bool.{cond-true}
-use Rattle.ixp_num.specs.Forms.{Form, Mark, Decimal, IsDigit, value_after, IsDecimal, Said, bounded, Spelt}
+use Rattle.ixp_num.specs.Forms.{Form, Mark, Decimal, IsDigit, value_after, IsDecimal, Said, Spelt}
 use Rattle.ixp_num.specs.AddressForms.{dotted_form}
 
 value_append : (n : ℕ) (ds : List ℕ) (d : ℕ) → value_after n (ds ++ d ∷ []) ≡ value_after n ds * 10 + (d - 48)

@@ -1,14 +1,13 @@
 -- Where a reader stops no text of the form goes on.
-use Rattle.std.proofs.Common.{◌≡◌, ◌≢◌, ℕ, suc, ◌+◌, ◌-◌, ◌*◌, ◌<◌, ◌≤◌, ◌⊎◌, inl, inr, cond, List, [], ◌∷◌, ◌++◌, length, take, drop, min, nat_le, Result, Ok, Err, refl, sym, ap, ◌∙◌, subst, arith, append_assoc, append-nil, length-append, take-append-drop, lit≤, lit<}
-use Rattle.std.specs.List.{AllByRecursion}
+use Rattle.std.proofs.Common.{◌≡◌, ℕ, suc, ◌+◌, ◌-◌, ◌<◌, ◌≤◌, ◌⊎◌, inl, inr, List, [], ◌∷◌, ◌++◌, length, take, drop, min, Result, Ok, Err, refl, sym, ap, ◌∙◌, subst, arith, append_assoc, append-nil, length-append, take-append-drop, lit≤, lit<}
 use Rattle.std.specs.Net.Grammar.{IsGroup}
 use Rattle.std.proofs.lemmas.Bool.{cases_lt}
 use Rattle.std.proofs.lemmas.List.{take-take}
 use Rattle.ixp_num.specs.Forms.{Form, End, Mark, Decimal, Hex, Either, IsDigit, IsDecimal, Said, bounded, Spelt, IsOf, Begins, StopsAt}
-use Rattle.ixp_num.specs.Reading.{◌>>=◌, cap, group_at, number_at, mark_at, end_at, farther, read}
+use Rattle.ixp_num.specs.Reading.{◌>>=◌, cap, group_at, number_at, mark_at, farther, read}
 use Rattle.ixp_num.proofs.Groups.{IsHexByte, ClosedHex, Grouped, group_again, group_split, group_missing, group_begins}
 use Rattle.ixp_num.proofs.Digits.{pair, Ends, same_head, Closed, number_again, Numbered, number_split, number_missing, decimal_begins, mark_again, mark_split, mark_missing}
-use Rattle.ixp_num.proofs.FormLaws.{Parted, Apart, NeverBegins, ends_from, result_cases, decimal_read, hex_read, grouping, read_again, going}
+use Rattle.ixp_num.proofs.FormLaws.{Parted, NeverBegins, ends_from, result_cases, decimal_read, hex_read, grouping, read_again, going}
 
 -- `left` bytes are left behind the longest front with which a text of L begins
 pub record Stuck (L : List ℕ → Type 0) (t : List ℕ) (left : ℕ) : Type 0 where

@@ -41,6 +41,7 @@ PatternAnswer t (Ok p) = Spelt (address_form Bounds) (Ok (numbers p.prefix.famil
 PatternAnswer t (Err HostBits) = HasHostBits (address_form Bounds) t
 PatternAnswer t (Err fault) = FaultAnswer (address_form Bounds) t fault
 
+-- an AS number
 abbrev pub AsnAnswer : List ℕ → Result Asn NumFault → Type 0
 AsnAnswer t (Ok a) = Spelt asn_form (Ok (a.0 ∷ [])) t
 AsnAnswer t (Err fault) = FaultAnswer asn_form t fault

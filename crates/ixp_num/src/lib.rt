@@ -2,6 +2,11 @@
 //!
 //! Every value of a type here is lawful: an address fits its family, a prefix has no host bits, a name has
 //! its alphabet and length. Texts are read and printed; the printed text of a value is its one spelling.
+//!
+//! A form (`specs/Forms.antt`) says how a text goes on, and so which texts there are and what each says. The
+//! readers answer by it: the value, the place where no text of the form goes on, or the first number above
+//! its bound. `one_answer` says that no text has two answers, `printed_is_read` that what is printed is read
+//! as what it was, and `any_spelling` that every IPv6 text of RFC 4291 is read as its eight groups.
 #![tactic(auto)]
 
 mod addr;

@@ -1,4 +1,4 @@
-use Rattle.std.proofs.Common.{rules, ◌≡◌, List, ℕ, [], ◌++◌, Result, OnErr, Ok, Err, sym, append-nil}
+use Rattle.std.proofs.Common.{List, ℕ, [], Result, OnErr, Ok, Err, sym, append-nil}
 use Rattle.ixp_num.specs.Printing.{Grown}
 use Rattle.ixp_num.proofs.print.append_text6.Goals as goal
 

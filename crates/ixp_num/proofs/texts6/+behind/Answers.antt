@@ -1,5 +1,5 @@
-use Rattle.std.proofs.Common.{◌≡◌, ℕ, ◌+◌, ◌-◌, ◌*◌, ◌^◌, ◌<◌, ◌≤◌, arith, subst, sym}
-use Rattle.ixp_num.specs.declared.family.Family.TheVariants.{V4, V6}
+use Rattle.std.proofs.Common.{◌≡◌, ◌+◌, ◌-◌, ◌*◌, ◌^◌, ◌<◌, ◌≤◌, arith, subst, sym}
+use Rattle.ixp_num.specs.declared.family.Family.TheVariants.{V6}
 use Rattle.ixp_num.specs.AddressForms.{tail_form, dotted_form, more_form, behind_form}
 use Rattle.ixp_num.specs.Reading.{Gives, farther, read, said_of}
 use Rattle.ixp_num.proofs.Places.{more_fits, fits_group, fits_dotted, behind_more, farther_gives}

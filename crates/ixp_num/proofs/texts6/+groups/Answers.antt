@@ -1,5 +1,5 @@
-use Rattle.std.proofs.Common.{◌≡◌, ℕ, ◌+◌, ◌-◌, ◌*◌, ◌^◌, ◌<◌, ◌≤◌, arith, subst, sym, pow_pos, pow_mono}
-use Rattle.ixp_num.specs.declared.family.Family.TheVariants.{V4, V6}
+use Rattle.std.proofs.Common.{◌≡◌, ◌+◌, ◌-◌, ◌*◌, ◌^◌, ◌<◌, ◌≤◌, arith, subst, sym, pow_pos, pow_mono}
+use Rattle.ixp_num.specs.declared.family.Family.TheVariants.{V6}
 use Rattle.ixp_num.specs.AddressForms.{tail_form}
 use Rattle.ixp_num.specs.Reading.{Gives, read, said_of}
 use Rattle.ixp_num.proofs.Places.{next_fits, groups_more}
