@@ -1,5 +1,5 @@
 -- The tree of a `case`, part by part.
-use Rattle.std.proofs.Common.{◌≡◌, ℕ, List, [], ◌∷◌, map, refl, sym, ap, ◌∙◌, Vec}
+use Rattle.std.proofs.Common.{◌≡◌, List, [], ◌∷◌, map, refl, sym, ap, ◌∙◌, Vec}
 use Rattle.std.specs.declared.alloc.Global.{Global}
 use Rattle.ixp_lang.specs.declared.expr.Expr.{Expr}
 use Rattle.ixp_lang.specs.declared.stmt.Stmt.{Stmt, Case}
@@ -7,7 +7,7 @@ use Rattle.ixp_lang.specs.declared.stmt.Stmt.TheVariants.{rolls-Case}
 use Rattle.ixp_lang.specs.declared.stmt.Stmt.TheOpen.{Stmt-F}
 use Rattle.ixp_lang.specs.declared.stmt.Stmt.TheFolds.{fold-roll-Stmt}
 use Rattle.ixp_lang.specs.declared.stmt.Label.{Label}
-use Rattle.ixp_lang.specs.Trees.{StmtTree, stmts, ArmTrees, arms_more, case_of}
+use Rattle.ixp_lang.specs.Trees.{StmtTree, stmts, arms_more, case_of}
 use Rattle.ixp_lang.specs.Views.{expr_view, stmt_view, stmts_view, stmt_step, arms_of, arms_view}
 
 arms_by :

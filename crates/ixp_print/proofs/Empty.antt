@@ -1,5 +1,5 @@
 -- Whether there is a statement.
-use Rattle.std.proofs.Common.{◌≡◌, ℕ, suc, Bool, true, false, List, [], ◌∷◌, length, refl, sym, ◌==◌, arith}
+use Rattle.std.proofs.Common.{◌≡◌, ℕ, suc, false, List, [], ◌∷◌, length, refl, sym, ◌==◌, arith}
 use Rattle.std.proofs.lemmas.Bool.Decides.{nat_tests}
 use Rattle.ixp_lang.specs.declared.stmt.Stmt.{Stmt}
 use Rattle.ixp_lang.specs.Trees.{stmts}

@@ -1,5 +1,5 @@
 -- How much there is to write: the printer goes down it.
-use Rattle.std.proofs.Common.{◌≡◌, ℕ, suc, zero, ◌+◌, ◌<◌, ◌≤◌, List, [], ◌∷◌, length, get_or, Vec, arith}
+use Rattle.std.proofs.Common.{ℕ, suc, zero, ◌+◌, ◌<◌, List, [], ◌∷◌, length, get_or, Vec, arith}
 use Rattle.std.specs.declared.alloc.Global.{Global}
 use Rattle.ixp_lang.specs.declared.stmt.Stmt.{Stmt}
 use Rattle.ixp_lang.specs.declared.stmt.Label.{Label}

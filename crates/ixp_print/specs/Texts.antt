@@ -1,10 +1,9 @@
 -- The canonical text of a configuration: one item or statement a line, two blanks a level, one blank round
 -- operators, parentheses only where they are needed.
-use Rattle.std.specs.Prelude.{ℕ, Bool, true, false, ◌+◌, ◌==◌, ◌&&◌, List, [], ◌∷◌, ◌++◌, Option, Some, None, codes, decimal, if◌then◌else◌}
+use Rattle.std.specs.Prelude.{ℕ, Bool, true, false, ◌==◌, List, [], ◌∷◌, ◌++◌, Option, Some, None, codes, decimal, if◌then◌else◌}
 use Rattle.ixp_num.specs.declared.addr.Addr.{Addr}
 use Rattle.ixp_num.specs.declared.family.Family.{Family}
 use Rattle.ixp_num.specs.declared.family.Family.TheVariants.{V4, V6}
-use Rattle.ixp_num.specs.declared.pattern.Pattern.{Pattern}
 use Rattle.ixp_num.specs.declared.roa.Validity.{Validity}
 use Rattle.ixp_num.specs.declared.roa.Validity.TheVariants.{Valid, Invalid, Unknown}
 use Rattle.ixp_num.specs.Printing.{addr_text, prefix_text, pattern_text}

@@ -1,4 +1,4 @@
-use Rattle.std.proofs.Common.{◌≡◌, ◌++◌, drop, Bool, true, false, List, ℕ, codes}
+use Rattle.std.proofs.Common.{◌≡◌, ◌++◌, drop, Bool, true, false, List, ℕ}
 use Rattle.ixp_lang.specs.Trees.{ExprTrees, exprs}
 use Rattle.ixp_lang.specs.Views.{exprs_view}
 use Rattle.ixp_print.specs.Texts.{exprs_text, more_exprs_text, chain_text, more_chain_text}

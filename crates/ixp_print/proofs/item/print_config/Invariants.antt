@@ -1,5 +1,5 @@
 use Rattle.std.proofs.Common.{◌≡◌, ◌++◌, drop, map}
-use Rattle.ixp_lang.specs.Views.{item_view, config_view}
+use Rattle.ixp_lang.specs.Views.{item_view}
 use Rattle.ixp_print.specs.Texts.{config_text}
 use Rattle.ixp_print.proofs.item.print_config.Given as goal
 

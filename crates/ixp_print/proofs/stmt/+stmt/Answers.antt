@@ -1,4 +1,4 @@
-use Rattle.std.proofs.Common.{rules, ◌≡◌, ◌++◌, ℕ, ◌<◌, ◌≤◌, length, arith, ap, ◌∙◌, List, Vec, subst, sym, OnOk, append_assoc}
+use Rattle.std.proofs.Common.{rules, ◌≡◌, ◌++◌, arith, ap, ◌∙◌, List, Vec, subst, sym, OnOk, append_assoc}
 use Rattle.std.proofs.lemmas.Grind.{common_steps}
 use Rattle.std.specs.declared.alloc.Global.{Global}
 use Rattle.ixp_lang.specs.declared.stmt.Label.{Label}
