@@ -1,0 +1,91 @@
+//! The program `ixpm`: it makes the objects of the outside over the system, and runs the command that its words are.
+#![tactic(auto)]
+
+#[cfg(test)]
+mod tests;
+
+use ixp_cli::run;
+use ixp_io::{FreeGate, MemDoor, MemKeeper, Plan, ReadSource, SetClock, WriteSink};
+use std::collections::VecDeque;
+use std::env;
+use std::io;
+use std::process::ExitCode;
+
+const HELP: &str = "ixpm: the registry of an internet exchange, and its route servers' configuration
+
+  ixpm fate        reads a small registry's dump and a route on standard input, and writes the configuration
+                   of its route server and the route's fate
+  ixpm --help      writes this
+  ixpm --version   writes the version
+
+Status: 0 done, 1 usage, 2 bad input, 3 read fault, 4 write fault, 8 no memory. A line on standard error says why.
+";
+
+const VERSION: &str = "ixpm 0.1.0\n";
+
+/// The words behind the program's name.
+fn words_of(rt: &HostRuntime) -> io::Result<Vec<String>> {
+    let mut words = Vec::new(rt.alloc());
+    for word in env::args(rt)?.skip(1) {
+        words.push(word)?;
+    }
+    Ok(words)
+}
+
+/// Writes a text that the program has of its own.
+fn show(rt: &HostRuntime, text: &str) -> u8 {
+    match rt.print(text) {
+        Ok(()) => 0,
+        Err(_) => 4,
+    }
+}
+
+/// Runs a command over the standard streams.
+fn command(rt: &HostRuntime, words: &[&str]) -> u8 {
+    let alloc = rt.alloc();
+    let mut input = ReadSource::new(rt.stdin());
+    let mut output = WriteSink::new(rt.stdout());
+    let mut errors = WriteSink::new(rt.stderr());
+    let mut keeper = MemKeeper::new(alloc, Plan::smooth(alloc));
+    let mut clock = SetClock::new(0);
+    let mut door = MemDoor::new(VecDeque::new(alloc), Plan::smooth(alloc));
+    run(
+        rt,
+        alloc,
+        words,
+        &mut input,
+        &mut output,
+        &mut errors,
+        &mut keeper,
+        &mut clock,
+        &mut door,
+        &FreeGate,
+    )
+}
+
+/// What the words ask for: one of the program's own texts, or a command.
+fn answer(rt: &HostRuntime, words: &[&str]) -> u8 {
+    match words {
+        ["--help"] => show(rt, HELP),
+        ["--version"] => show(rt, VERSION),
+        _ => command(rt, words),
+    }
+}
+
+fn status_of(rt: &HostRuntime) -> io::Result<u8> {
+    let words = words_of(rt)?;
+    let mut texts = Vec::new(rt.alloc());
+    for word in &words {
+        texts.push(word.as_str())?;
+    }
+    Ok(answer(rt, texts.as_slice()))
+}
+
+fn main(rt: HostRuntime) -> ExitCode {
+    match status_of(&rt) {
+        Ok(status) => ExitCode::from(status),
+        Err(e) if e.kind() == io::ErrorKind::OutOfMemory => ExitCode::from(8),
+        // A word that is no text is a word of no command.
+        Err(_) => ExitCode::from(command(&rt, &[])),
+    }
+}
