@@ -12,5 +12,5 @@ nothing_left s k (a ∷ asns) [] h = refl
 nothing_left s k (a ∷ asns) (b ∷ addrs) h = absurd (omega arith)
 
 pub members_end :
-  (s : Small) (k : ℕ) (asns : List Asn) (addrs : List Addr) (n : ℕ) → n ≡ min (length asns) (length addrs) → all_members s k (drop n asns) (drop n addrs) ≡ []
+    (s : Small) (k : ℕ) (asns : List Asn) (addrs : List Addr) (n : ℕ) → n ≡ min (length asns) (length addrs) → all_members s k (drop n asns) (drop n addrs) ≡ []
 members_end s k asns addrs n h = nothing_left s k (drop n asns) (drop n addrs) (omega (arith, length-drop n asns, length-drop n addrs))

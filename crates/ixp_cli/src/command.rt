@@ -44,7 +44,11 @@ pub fn run_plain<S: Source, K: Sink, E: Sink, P: Keeper, C: Clock>(
     ensures write_fault { result ≡ Some 4 → Rose (K.write_faults output.old) (K.write_faults output.new) }
     ensures statuses { IsStatus result }
 {
-    let end = if is_fate(words) { fate(alloc, input, output) } else { End::Usage };
+    let end = if is_fate(words) {
+        fate(alloc, input, output)
+    } else {
+        End::Usage
+    };
     let _ = report(errors, end);
     Some(end.status())
 }

@@ -3,8 +3,8 @@ ghost use Rattle.std.specs.Prelude.{◌≡◌, ◌≤◌};
 ghost use Rattle.ixp_io.specs.Faults.{Rose};
 ghost use Rattle.ixp_cli.specs.Runs.{status_of};
 
-use ixp_io::{Failed, Sink, write_all};
 use itoa::Buffer;
+use ixp_io::{Failed, Sink, write_all};
 
 /// How a run ends: what was asked for is done, or the first cause that it met.
 #[derive(Clone, Copy, Debug, PartialEq, Eq)]

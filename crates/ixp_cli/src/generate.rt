@@ -7,7 +7,7 @@ ghost use Rattle.ixp_lang.specs.declared.value.SetLit.TheVariants.{Triples, Pref
 ghost use Rattle.ixp_cli.specs.SmallGeneration.{router_addr, int, when, tag, refused, up_filter, out_filter, exact, patterns_of, list_test, in_body, named, pipe_of, session_of, member_items, all_members, small_config};
 
 use crate::small::Small;
-use ixp_lang::{numbered, Attr, Bgp, Config, Expr, Item, Kind, Op, Pipe, SetLit, Stmt, Use, Value};
+use ixp_lang::{Attr, Bgp, Config, Expr, Item, Kind, Op, Pipe, SetLit, Stmt, Use, Value, numbered};
 use ixp_num::{Addr, Asn, Family, Items, Name, Pattern, Prefix};
 use std::alloc::{AllocError, Global};
 
@@ -71,7 +71,13 @@ fn refused(alloc: Global, rs: Asn, reason: u32) -> Result<Vec<Stmt>, AllocError>
 }
 
 /// Adds a test that refuses the route with a reason.
-fn add_test(alloc: Global, body: &mut Vec<Stmt>, test: Expr, rs: Asn, reason: u32) -> Result<(), AllocError>
+fn add_test(
+    alloc: Global,
+    body: &mut Vec<Stmt>,
+    test: Expr,
+    rs: Asn,
+    reason: u32,
+) -> Result<(), AllocError>
     ensures { OnOk result (stmts_view body.new.items ≡ stmts_view body.old.items ++ when (expr_view test) (refused rs.0 reason) ∷ []) }
 {
     let yes = refused(alloc, rs, reason)?;
@@ -79,7 +85,11 @@ fn add_test(alloc: Global, body: &mut Vec<Stmt>, test: Expr, rs: Asn, reason: u3
 }
 
 /// A set of one large community `(rs, reason kind, *)`, or more.
-fn any_of(alloc: Global, rs: Asn, kinds: &[u32]) -> Result<Items<(u32, u32, Option<u32>)>, AllocError>
+fn any_of(
+    alloc: Global,
+    rs: Asn,
+    kinds: &[u32],
+) -> Result<Items<(u32, u32, Option<u32>)>, AllocError>
     ensures { IfOk result (λ it. it ≡ map (λ kind. (rs.0, kind, None)) kinds.now) }
 {
     let mut triples = Items::new(alloc);
@@ -93,7 +103,12 @@ fn up_filter(alloc: Global, rs: Asn) -> Result<Item, AllocError>
     ensures { IfOk result (λ i. item_view i ≡ up_filter rs.0) }
 {
     let triples = any_of(alloc, rs, &[1101])?;
-    let test = compare(alloc, Op::In, Attr::Triples, Expr::Set(SetLit::Triples(triples)))?;
+    let test = compare(
+        alloc,
+        Op::In,
+        Attr::Triples,
+        Expr::Set(SetLit::Triples(triples)),
+    )?;
     let mut yes = Vec::new(alloc);
     add(&mut yes, Stmt::Reject)?;
     let mut body = Vec::new(alloc);
@@ -108,7 +123,10 @@ fn out_filter(alloc: Global, rs: Asn) -> Result<Item, AllocError>
 {
     let triples = any_of(alloc, rs, &[1000, 1001])?;
     let mut body = Vec::new(alloc);
-    add(&mut body, Stmt::DeleteTriples(Expr::Set(SetLit::Triples(triples))))?;
+    add(
+        &mut body,
+        Stmt::DeleteTriples(Expr::Set(SetLit::Triples(triples))),
+    )?;
     add(&mut body, Stmt::Accept)?;
     let name = Name::new(alloc, b"ixp_out")?;
     Ok(Item::Filter { name, body })
@@ -125,7 +143,11 @@ fn exact(prefix: Prefix) -> Pattern
     }
 }
 
-fn patterns_of(alloc: Global, number: u32, prefixes: &[(u32, Prefix)]) -> Result<Items<Pattern>, AllocError>
+fn patterns_of(
+    alloc: Global,
+    number: u32,
+    prefixes: &[(u32, Prefix)],
+) -> Result<Items<Pattern>, AllocError>
     ensures { IfOk result (λ it. it ≡ patterns_of number prefixes.now) }
 {
     let mut patterns = Items::new(alloc);
@@ -138,14 +160,24 @@ fn patterns_of(alloc: Global, number: u32, prefixes: &[(u32, Prefix)]) -> Result
 }
 
 /// Adds the test of the prefix list, and what follows it.
-fn add_list_test(alloc: Global, body: &mut Vec<Stmt>, rs: Asn, patterns: Items<Pattern>) -> Result<(), AllocError>
+fn add_list_test(
+    alloc: Global,
+    body: &mut Vec<Stmt>,
+    rs: Asn,
+    patterns: Items<Pattern>,
+) -> Result<(), AllocError>
     ensures { OnOk result (stmts_view body.new.items ≡ stmts_view body.old.items ++ list_test rs.0 patterns) }
 {
     if patterns.is_empty() {
         add(body, tag(rs, 1101, 9))?;
         return add(body, Stmt::Accept);
     }
-    let test = compare(alloc, Op::NotIn, Attr::Net, Expr::Set(SetLit::Prefixes(patterns)))?;
+    let test = compare(
+        alloc,
+        Op::NotIn,
+        Attr::Net,
+        Expr::Set(SetLit::Prefixes(patterns)),
+    )?;
     add_test(alloc, body, test, rs, 9)?;
     add(body, tag(rs, 1001, 1))?;
     add(body, Stmt::Accept)
@@ -199,11 +231,21 @@ fn session_of(alloc: Global, rs: Asn, number: u32, asn: Asn, addr: Addr) -> Resu
 }
 
 /// Adds the items of a member.
-fn add_member(alloc: Global, items: &mut Vec<Item>, small: &Small, number: u32, asn: Asn, addr: Addr) -> Result<(), AllocError>
+fn add_member(
+    alloc: Global,
+    items: &mut Vec<Item>,
+    small: &Small,
+    number: u32,
+    asn: Asn,
+    addr: Addr,
+) -> Result<(), AllocError>
     ensures { OnOk result (map item_view items.new.items ≡ map item_view items.old.items ++ member_items small.now number asn addr) }
 {
     let name = numbered(alloc, b"t_", number)?;
-    items.push(Item::Table { kind: Kind::Ipv4, name })?;
+    items.push(Item::Table {
+        kind: Kind::Ipv4,
+        name,
+    })?;
     let name = numbered(alloc, b"in_", number)?;
     let body = in_body(alloc, small, number, asn)?;
     items.push(Item::Filter { name, body })?;
@@ -234,7 +276,10 @@ pub fn generate(alloc: Global, small: &Small) -> Result<Config, AllocError>
     let mut items = Vec::new(alloc);
     items.push(Item::RouterId(router_addr()))?;
     let name = Name::new(alloc, b"master4")?;
-    items.push(Item::Table { kind: Kind::Ipv4, name })?;
+    items.push(Item::Table {
+        kind: Kind::Ipv4,
+        name,
+    })?;
     items.push(up_filter(alloc, small.rs)?)?;
     items.push(out_filter(alloc, small.rs)?)?;
     add_members(alloc, &mut items, small)?;

@@ -6,11 +6,10 @@ mod end;
 mod fate;
 mod generate;
 mod reading;
-
 mod small;
 mod text;
 
+pub use command::{run, run_plain};
 pub use end::End;
 pub use fate::INPUT_LIMIT;
-pub use command::{run, run_plain};
 pub use small::{RouteLine, Small, Version};

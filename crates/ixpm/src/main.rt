@@ -7,9 +7,8 @@ mod tests;
 use ixp_cli::run;
 use ixp_io::{FreeGate, MemDoor, MemKeeper, Plan, ReadSource, SetClock, WriteSink};
 use std::collections::VecDeque;
-use std::env;
-use std::io;
 use std::process::ExitCode;
+use std::{env, io};
 
 const HELP: &str = "ixpm: the registry of an internet exchange, and its route servers' configuration
 

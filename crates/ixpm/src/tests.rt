@@ -132,8 +132,18 @@ fn a_line_that_cannot_stand_is_told(rt: HostRuntime) -> Result<(), Fail> {
         (0, 19, "", "1"),
         (9, 19, "", "10"),
         (17, 19, "", "18"),
-        (18, 18, "route rs1 1 203.0.113.0/24 65001 10.1.0.1 - -", "18"),
-        (18, 18, "route rs1 1 203.0.113.0/24 65001 10.1.0.1 - -\nx\n", "19"),
+        (
+            18,
+            18,
+            "route rs1 1 203.0.113.0/24 65001 10.1.0.1 - -",
+            "18",
+        ),
+        (
+            18,
+            18,
+            "route rs1 1 203.0.113.0/24 65001 10.1.0.1 - -\nx\n",
+            "19",
+        ),
         // Lines that aren't of their form.
         (18, 1, "ixp-registry 3\n", "1"),
         (18, 2, "site 1 0 OTHER\n", "2"),
@@ -142,7 +152,12 @@ fn a_line_that_cannot_stand_is_told(rt: HostRuntime) -> Result<(), Fail> {
         (18, 4, "member 2 065002 connected - m2\n", "4"),
         (18, 6, "port 2 1 10000 2 p2\n", "6"),
         (18, 9, "", "9"),
-        (18, 13, "router rs1 1 4 10.1.0.254 65500 10.1.0.254 8 24 1 - 0\n", "13"),
+        (
+            18,
+            13,
+            "router rs1 1 4 10.1.0.254 65500 10.1.0.254 8 24 1 - 0\n",
+            "13",
+        ),
         // Values that can't stand.
         (18, 4, "member 2 65001 connected - m2\n", "4"),
         (18, 4, "member 2 23456 connected - m2\n", "4"),
@@ -150,19 +165,59 @@ fn a_line_that_cannot_stand_is_told(rt: HostRuntime) -> Result<(), Fail> {
         (18, 12, "address 2 10.1.0.1 0 1 1 0 -\n", "12"),
         (18, 12, "address 2 10.1.0.254 0 1 1 0 -\n", "12"),
         (18, 12, "address 2 ::ffff:10.1.0.2 0 1 1 0 -\n", "12"),
-        (18, 13, "router rs1 1 4 10.1.0.254 65001 10.1.0.254 8 24 0 - 0\n", "13"),
-        (18, 13, "router rs1 1 4 10.1.0.254 65500 10.1.0.254 25 24 0 - 0\n", "13"),
-        (18, 13, "router rs1 1 4 10.1.0.254 65500 10.1.0.254 8 33 0 - 0\n", "13"),
+        (
+            18,
+            13,
+            "router rs1 1 4 10.1.0.254 65001 10.1.0.254 8 24 0 - 0\n",
+            "13",
+        ),
+        (
+            18,
+            13,
+            "router rs1 1 4 10.1.0.254 65500 10.1.0.254 25 24 0 - 0\n",
+            "13",
+        ),
+        (
+            18,
+            13,
+            "router rs1 1 4 10.1.0.254 65500 10.1.0.254 8 33 0 - 0\n",
+            "13",
+        ),
         (18, 14, "prefix 1 203.0.113.1/24\n", "14"),
         (18, 14, "prefix 3 203.0.113.0/24\n", "14"),
         (18, 14, "prefix 1 2001:db8::/32\n", "14"),
-        (18, 14, "prefix 2 203.0.113.0/24\nprefix 1 203.0.113.0/24\n", "15"),
+        (
+            18,
+            14,
+            "prefix 2 203.0.113.0/24\nprefix 1 203.0.113.0/24\n",
+            "15",
+        ),
         (18, 16, "origin 2 4 65001\n", "16"),
         (18, 17, "end 16\n", "17"),
-        (18, 18, "route rs1 1 203.0.113.0/24 65001,65001 10.1.0.1 - -\n", "18"),
-        (18, 18, "route rs1 1 203.0.113.0/24 65001 10.1.0.2 - -\n", "18"),
-        (18, 18, "route rs1 3 203.0.113.0/24 65001 10.1.0.3 - -\n", "18"),
-        (18, 18, "route rs2 1 203.0.113.0/24 65001 10.1.0.1 - -\n", "18"),
+        (
+            18,
+            18,
+            "route rs1 1 203.0.113.0/24 65001,65001 10.1.0.1 - -\n",
+            "18",
+        ),
+        (
+            18,
+            18,
+            "route rs1 1 203.0.113.0/24 65001 10.1.0.2 - -\n",
+            "18",
+        ),
+        (
+            18,
+            18,
+            "route rs1 3 203.0.113.0/24 65001 10.1.0.3 - -\n",
+            "18",
+        ),
+        (
+            18,
+            18,
+            "route rs2 1 203.0.113.0/24 65001 10.1.0.1 - -\n",
+            "18",
+        ),
     ];
     for (lines, at, with, place) in cases {
         let ran = run_example(rt.alloc(), lines, at, with)?;
@@ -206,16 +261,34 @@ fn ends_have_their_status(rt: HostRuntime) -> Result<(), Fail> {
     let wrong: [&[&str]; 4] = [&[], &["fate", "x"], &["check"], &["--help", "fate"]];
     for words in wrong {
         let input = example(alloc, 18, 19, "")?;
-        let ran = run_over(alloc, words, input, Plan::smooth(alloc), Plan::smooth(alloc));
+        let ran = run_over(
+            alloc,
+            words,
+            input,
+            Plan::smooth(alloc),
+            Plan::smooth(alloc),
+        );
         assert_eq!(rt; ran.status, 1);
         assert_eq!(rt; ran.errors.written(), b"ixpm: usage\n".as_slice());
     }
     let input = example(alloc, 18, 19, "")?;
-    let ran = run_over(alloc, &["fate"], input, Plan::failing(alloc, &[1])?, Plan::smooth(alloc));
+    let ran = run_over(
+        alloc,
+        &["fate"],
+        input,
+        Plan::failing(alloc, &[1])?,
+        Plan::smooth(alloc),
+    );
     assert_eq!(rt; ran.status, 3);
     assert_eq!(rt; ran.errors.written(), b"ixpm: read fault\n".as_slice());
     let input = example(alloc, 18, 19, "")?;
-    let ran = run_over(alloc, &["fate"], input, Plan::smooth(alloc), Plan::failing(alloc, &[1])?);
+    let ran = run_over(
+        alloc,
+        &["fate"],
+        input,
+        Plan::smooth(alloc),
+        Plan::failing(alloc, &[1])?,
+    );
     assert_eq!(rt; ran.status, 4);
     assert_eq!(rt; ran.errors.written(), b"ixpm: write fault\n".as_slice());
     Ok(())

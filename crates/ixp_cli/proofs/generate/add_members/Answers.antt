@@ -10,6 +10,6 @@ pub returns : goal.returns
 returns c =
     let small = c.args.small.now in
     let count : c.each.at ≡ min (length small.asns) (length small.addrs) =
-        omega (arith, c.each-test.false, c.each.auto.at-end, c.min-count.ensures, ap (λ (xs : List Asn). length xs) c.as_slice-asns.ensures, ap (λ (ys : List Addr). length ys) c.as_slice-addrs.ensures) in
+    omega (arith, c.each-test.false, c.each.auto.at-end, c.min-count.ensures, ap (λ (xs : List Asn). length xs) c.as_slice-asns.ensures, ap (λ (ys : List Addr). length ys) c.as_slice-addrs.ensures) in
     let rest = members_end small (c.each.at + 1) small.asns small.addrs c.each.at count in
     sym (append-nil (map item_view c.each.items.items)) ∙ ap (λ (t : List ItemTree). map item_view c.each.items.items ++ t) (sym rest) ∙ c.each.invariant

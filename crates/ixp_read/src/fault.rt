@@ -1,0 +1,26 @@
+//! Why a text isn't read.
+/// Why bytes are no filter text. Each place is that of a token's first byte, counted from 0; where the text ends
+/// too early, it is the text's length.
+#[derive(Clone, Copy, Debug, PartialEq, Eq)]
+pub enum ReadFault {
+    /// Here begins no token. Printed as L1.
+    Byte { at: usize },
+    /// A number above its bound, or no address or prefix. Printed as L2.
+    Number { at: usize },
+    /// No text goes on with this token. Printed as L3.
+    Unexpected { at: usize },
+    /// No item or parameter of the wanted sort has this name. Printed as L4.
+    UnknownName { at: usize },
+    /// The name is taken. Printed as L5.
+    NameTwice { at: usize },
+    /// `&&` and `||` side by side. Printed as L6.
+    MixedLogic { at: usize },
+    /// A type that doesn't fit: at the operator, the called name, or the statement's first token. Printed as L7.
+    WrongType { at: usize },
+    /// More than 64 levels. Printed as L8.
+    TooDeep { at: usize },
+    /// BIRD 2 has this, and the profile leaves it out. Printed as L9.
+    OutOfProfile { at: usize },
+    /// There wasn't enough memory.
+    NoMemory,
+}

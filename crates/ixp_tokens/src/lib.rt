@@ -1,0 +1,23 @@
+//! The tokens of a filter text.
+//!
+//! [`tokens_of`] cuts any bytes into the tokens of the profile of BIRD 2's language (User's Guide, chapter
+//! "Configuration"). It refuses nothing: where a byte begins no token, or a number or an address has no value, a token
+//! that no text has stands there and is the last. So a reader meets an earlier fault of its own first.
+//! The readers of one token, from which all others are made, stand here too.
+#![tactic(auto)]
+
+mod fault;
+mod gap;
+mod lexer;
+mod take;
+mod token;
+mod word;
+
+pub use fault::{Cause, Fault};
+pub use lexer::tokens_of;
+pub use take::{
+    addr_at, after_mark, after_word, is_mark, is_word, mark_at, name_at, number_at, unexpected,
+    word_at,
+};
+pub use token::{Kind, Mark, Token};
+pub use word::{is_foreign, is_keyword};
