@@ -2,7 +2,7 @@
 .PHONY: run test
 
 run:
-	cd crates/ixpm && rt run -- fate < ../../examples/small.txt
+	@cd crates/ixpm && rt run -- fate < ../../examples/small.txt
 
 test:
-	rt ci
+	@rt ci
