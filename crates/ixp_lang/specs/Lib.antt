@@ -1,6 +1,10 @@
 pub mod Attributes
 pub mod Faults
 pub mod Meaning
+pub mod RouteAnswers
+pub mod RouteReading
+pub mod RouteTexts
+pub mod Steering
 pub mod Texts
 pub mod Trees
 pub mod Trials

@@ -1,9 +1,10 @@
 -- Small trees on which the laws of the meaning are stated.
-use Rattle.std.specs.Prelude.{ℕ, refl, [], ◌∷◌, codes, Bool, true, false}
+use Rattle.std.specs.Prelude.{ℕ, refl, List, [], ◌∷◌, codes, Bool, true, false}
 use Rattle.std.proofs.Common.{lit<, lit≤}
 use Rattle.ixp_num.specs.declared.addr.Addr.{Addr}
 use Rattle.ixp_num.specs.declared.prefix.Prefix.{Prefix}
 use Rattle.ixp_num.specs.declared.family.Family.TheVariants.{V4}
+use Rattle.ixp_lang.specs.declared.route.Route.{Route}
 use Rattle.ixp_lang.specs.declared.value.Value.TheVariants as value
 use Rattle.ixp_lang.specs.declared.item.Ty.TheVariants as ty
 use Rattle.ixp_lang.specs.declared.expr.Op.TheVariants as op
@@ -58,3 +59,7 @@ calls_h = filter_item (codes "f") (stmts (call_statement (codes "h") (exprs (int
 -- `filter f { if false then accept; }`
 abbrev pub never_ends : ItemTree
 never_ends = filter_item (codes "f") (stmts (when (truth_value false) accept ∷ []))
+
+-- a route to the network from that neighbour with these communities
+abbrev pub steered : List (ℕ × ℕ) → List (ℕ × ℕ × ℕ) → Route
+steered pairs triples = record { net = network; path = []; next_hop = neighbour; pairs = pairs; triples = triples }

@@ -10,7 +10,9 @@ mod fate;
 mod item;
 pub mod laws;
 mod names;
+mod reading;
 mod route;
+pub mod route_laws;
 mod stmt;
 mod text;
 mod value;
@@ -19,7 +21,11 @@ pub use expr::{Attr, Expr, Op};
 pub use fate::Fate;
 pub use item::{Bgp, Config, Item, Kind, Pipe, Ty, Use};
 pub use names::numbered;
+pub use reading::{RouteFault, read_route};
 pub use route::{Route, Verdict};
 pub use stmt::{Label, Stmt};
 pub use text::{print_fate, print_route};
 pub use value::{SetLit, Value};
+
+#[cfg(test)]
+mod tests;

@@ -3,6 +3,7 @@ pub mod ColonTexts
 pub mod Digits
 pub mod FormLaws
 pub mod Groups
+pub mod NoBlanks
 pub mod OneAnswer
 pub mod PartedForms
 pub mod Places

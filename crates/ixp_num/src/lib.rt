@@ -39,3 +39,4 @@ pub use prefix::Prefix;
 pub use print::{print_addr, print_asn, print_pattern, print_pattern_bounds, print_prefix};
 pub use read::{read_addr, read_asn, read_pattern, read_prefix};
 pub use roa::{Roa, Validity};
+pub use texts::{mark_of, number_of};

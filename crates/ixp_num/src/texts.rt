@@ -29,9 +29,10 @@ fn digits_of(first: u64, bytes: &[u8]) -> (u64, &[u8])
     (number, rest)
 }
 
-/// The decimal number at the front, or `CAP` where it is greater, and what is behind it.
+/// The decimal number at the front, without a leading zero, or 4294967296 where it is greater, and what is
+/// behind it. Where no number stands there, `Err` has the number of bytes.
 #[tactic(auto, unfolding(crate::specs::Reading::number_at))]
-pub(crate) fn number_of(bytes: &[u8]) -> Result<(u64, &[u8]), usize>
+pub fn number_of(bytes: &[u8]) -> Result<(u64, &[u8]), usize>
     ensures { Gives (λ x. (x.0, x.1.now)) result (number_at bytes.now) }
 {
     match bytes {
@@ -42,9 +43,9 @@ pub(crate) fn number_of(bytes: &[u8]) -> Result<(u64, &[u8]), usize>
     }
 }
 
-/// What follows this byte at the front.
+/// What follows this byte at the front. Where another byte or none stands there, `Err` has the number of bytes.
 #[tactic(auto, unfolding(crate::specs::Reading::mark_at))]
-pub(crate) fn mark_of(mark: u8, bytes: &[u8]) -> Result<&[u8], usize>
+pub fn mark_of(mark: u8, bytes: &[u8]) -> Result<&[u8], usize>
     ensures { Gives (λ x. x.now) result (mark_at mark bytes.now) }
 {
     match bytes {

@@ -1,0 +1,63 @@
+-- Which texts spell a route.
+use Rattle.std.specs.Prelude.{◌≡◌, ◌≤◌, ℕ, List, [], ◌∷◌, ◌++◌, length, codes, Ok}
+use Rattle.std.specs.List.{AllByRecursion}
+use Rattle.ixp_num.specs.declared.asn.Asn.{Asn}
+use Rattle.ixp_num.specs.Forms.{IsDecimal}
+use Rattle.ixp_num.specs.Answers.{AddrAnswer, PrefixAnswer}
+use Rattle.ixp_lang.specs.declared.route.Route.{Route}
+
+-- an AS number (RFC 5396, asplain)
+abbrev pub IsAsnText : Asn → List ℕ → Type 0
+IsAsnText a t = IsDecimal t a.0
+
+-- `a:b`
+abbrev pub IsPairText : ℕ × ℕ → List ℕ → Type 0
+IsPairText p t = (a b : List ℕ) × (t ≡ a ++ 58 ∷ b) × IsDecimal a p.0 × IsDecimal b p.1
+
+-- `a:b:c`
+abbrev pub IsTripleText : ℕ × ℕ × ℕ → List ℕ → Type 0
+IsTripleText p t = (a b c : List ℕ) × (t ≡ a ++ 58 ∷ (b ++ 58 ∷ c)) × IsDecimal a p.0 × IsDecimal b p.1 × IsDecimal c p.2
+
+module _ {A : Type 0} (Is : A → List ℕ → Type 0) where
+  -- items, each behind a comma
+  abbrev pub IsMoreText : List A → List ℕ → Type 0
+  IsMoreText [] t = t ≡ []
+  IsMoreText (x ∷ xs) t = (item rest : List ℕ) × (t ≡ 44 ∷ (item ++ rest)) × Is x item × IsMoreText xs rest
+
+  -- items with commas between them, or `-` where there is none
+  abbrev pub IsListText : List A → List ℕ → Type 0
+  IsListText [] t = t ≡ codes "-"
+  IsListText (x ∷ xs) t = (item rest : List ℕ) × (t ≡ item ++ rest) × Is x item × IsMoreText xs rest
+
+-- five fields with single blanks; net and next hop stand in any spelling of RFC 4291
+pub record IsRouteText (r : Route) (t : List ℕ) : Type 0 where
+  pub net : List ℕ
+  pub path : List ℕ
+  pub next_hop : List ℕ
+  pub pairs : List ℕ
+  pub triples : List ℕ
+  pub whole : t ≡ net ++ 32 ∷ (path ++ 32 ∷ (next_hop ++ 32 ∷ (pairs ++ 32 ∷ triples)))
+  pub is_net : PrefixAnswer net (Ok r.net)
+  pub is_path : IsListText IsAsnText r.path path
+  pub is_next_hop : AddrAnswer next_hop (Ok r.next_hop)
+  pub is_pairs : IsListText IsPairText r.pairs pairs
+  pub is_triples : IsListText IsTripleText r.triples triples
+
+-- numbers of 32 bits, and of 16 in communities
+abbrev pub AsnFits : Asn → Type 0
+AsnFits a = a.0 ≤ 4294967295
+
+abbrev pub PairFits : ℕ × ℕ → Type 0
+PairFits p = (p.0 ≤ 65535) × (p.1 ≤ 65535)
+
+abbrev pub TripleFits : ℕ × ℕ × ℕ → Type 0
+TripleFits p = (p.0 ≤ 4294967295) × (p.1 ≤ 4294967295) × (p.2 ≤ 4294967295)
+
+-- every number is within its bound, and no list has more than 1,000 items
+pub record IsBounded (r : Route) : Type 0 where
+  pub path : AllByRecursion AsnFits r.path
+  pub pairs : AllByRecursion PairFits r.pairs
+  pub triples : AllByRecursion TripleFits r.triples
+  pub path_length : length r.path ≤ 1000
+  pub pairs_length : length r.pairs ≤ 1000
+  pub triples_length : length r.triples ≤ 1000
