@@ -126,7 +126,7 @@ prefix_along f v l s x n g e =
     (λ m r. subst (λ m. (s' : m ≤ bits_of f) (x' : v < 2 ^ bits_of f) (n' : v % 2 ^ (bits_of f - m) ≡ 0) → prefix_with f v l s x n ≡ prefix_with f v m s' x' n') r
     (λ s' x' n'. prefix_at f v l s s' x x' n n')))
 
-prefix_same : (p q : Prefix) (low low' high high' : ℕ) → ◌≡◌ {A = Said} (Ok (numbers p.family p.value p.len low high)) (Ok (numbers q.family q.value q.len low' high')) → p ≡ q
+pub prefix_same : (p q : Prefix) (low low' high high' : ℕ) → ◌≡◌ {A = Said} (Ok (numbers p.family p.value p.len low high)) (Ok (numbers q.family q.value q.len low' high')) → p ≡ q
 prefix_same p q low low' high high' same =
     let version : version_of p.family ≡ version_of q.family = cc in
     let value : p.value ≡ q.value = cc in

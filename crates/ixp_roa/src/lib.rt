@@ -1,10 +1,18 @@
 //! Route origin validation (RFC 6811): a table of ROAs, and what it says of a route.
 //!
 //! A table holds the ROAs that it was made of, and [`RoaTable::validity`] answers by RFC 6811 section 2 over all
-//! of them. A ROA of AS 0 makes no route valid (RFC 6483 section 4).
+//! of them. A ROA of AS 0 makes no route valid (RFC 6483 section 4). [`RoaTable::from_csv`] reads the ROAs of a CSV
+//! text, as validators export them.
 #![tactic(auto)]
 
+mod csv_rows;
+#[cfg(test)]
+mod csv_tests;
+mod csv_text;
+mod fault;
+mod ordered;
 mod rows;
 mod table;
 
+pub use fault::RoaFault;
 pub use table::RoaTable;

@@ -1,4 +1,6 @@
 //! A table of ROAs.
+use crate::csv_text::{listed, rows_of};
+use crate::fault::RoaFault;
 use crate::rows::{is_covered, is_matched};
 use ixp_num::{Asn, Items, Prefix, Roa, Validity};
 use std::alloc::{AllocError, Global};
@@ -22,6 +24,7 @@ impl Model for RoaTable {
 impl RoaTable {
     ghost use Rattle.std.specs.Prelude.{◌≡◌, IfOk};
     ghost use Rattle.ixp_num.specs.Roas.{validity};
+    ghost use Rattle.ixp_roa.specs.CsvRoas.{CsvAnswer};
 
     /// The table of these ROAs. It fails for want of memory alone.
     pub fn new(alloc: Global, rows: &[Roa]) -> Result<RoaTable, AllocError>
@@ -29,6 +32,18 @@ impl RoaTable {
     {
         let rows = Items::from_slice(alloc, rows)?;
         Ok(RoaTable { rows })
+    }
+
+    /// The ROAs of a CSV text, in ascending order and each once. Its columns are an AS number with or without
+    /// `AS` before it, a prefix, and a max length or nothing for the prefix's; further columns don't matter, and
+    /// a first row that begins with `ASN` is a header.
+    pub fn from_csv(alloc: Global, t: &[u8]) -> Result<Items<Roa>, RoaFault>
+        ensures { CsvAnswer ⟦<Roa as Ord>⟧.cmp t.now result }
+    {
+        match rows_of(alloc, t) {
+            Ok(rows) => listed(alloc, rows.as_slice()),
+            Err(_) => Err(RoaFault::NoMemory),
+        }
     }
 
     /// What the ROAs say of a route to the prefix with the origin. It takes no memory.

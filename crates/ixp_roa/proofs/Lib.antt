@@ -1,0 +1,3 @@
+pub mod CsvFields
+pub mod CsvRows
+pub mod SameRoas
