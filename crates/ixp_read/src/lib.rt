@@ -1,15 +1,21 @@
-//! The reader of filter texts.
+//! The reader of filter texts: this profile of BIRD 2's language (User's Guide, chapters "Configuration" and "Filters").
 //!
-//! [`read_config`] reads the part of the language that the program writes today: router id, tables, filters of
-//! tests and changes of large communities, pipes, and BGP sessions. Every other text is refused, at the first token
-//! that this part doesn't take. Every call returns; that a text is read as its tree isn't claimed yet.
+//! [`read_config`] gives the tree of a text, or the first place where no text goes on and why. Every call returns;
+//! that a text is read as its tree isn't claimed yet.
 #![tactic(auto)]
 
-mod expr;
+mod body;
+mod change;
 mod fault;
+mod function;
 mod item;
+mod label;
+mod protocol;
 mod read;
+mod session;
 mod stmt;
+#[cfg(test)]
+mod tests;
 
 pub use fault::ReadFault;
 pub use read::read_config;

@@ -48,10 +48,13 @@ fn has_two_colons(bytes: &[u8]) -> bool {
     false
 }
 
-/// What is behind an address of either family, be it well formed or not.
+/// What is behind an address of either family, be it well formed or not. None begins with a dot.
 fn behind_addr(bytes: &[u8]) -> Option<&[u8]>
     ensures { IfSome result (λ r. length r.now < length bytes.now) }
 {
+    if let [b'.', ..] = bytes {
+        return None;
+    }
     let rest = behind_run(Class::Address, bytes);
     if rest.len() < bytes.len() && has_two_colons(before(bytes, rest)) {
         return Some(rest);
