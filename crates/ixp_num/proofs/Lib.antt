@@ -6,6 +6,7 @@ pub mod Groups
 pub mod NoBlanks
 pub mod OneAnswer
 pub mod PartedForms
+pub mod PartedTexts
 pub mod Places
 pub mod PrintedAddresses
 pub mod PrintedTexts

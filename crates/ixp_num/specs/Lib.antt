@@ -7,3 +7,4 @@ pub mod Prefixes
 pub mod Printing
 pub mod Reading
 pub mod Roas
+pub mod TextForms
