@@ -1,0 +1,30 @@
+//! The rows of an exchange's registry, and which registries are valid.
+//!
+//! [`Registry`] is what the program keeps: the site, its members with their contacts, API keys, ports and
+//! interfaces, the VLANs, the route servers, the lists that filters are made of, and the public lists.
+//! [`Rows`] are the same rows as they stand in a dump or a store, one kind of row after the other, each with
+//! its key. `specs/Rules.antt` says which rows are valid, a sentence for each rule, and where the first row
+//! stands that breaks it; `specs/Registries.antt` what a registry's rows are.
+#![tactic(auto)]
+
+mod breach;
+mod lists;
+mod members;
+mod network;
+mod refusal;
+mod registry;
+mod router;
+mod rows;
+mod rules;
+mod site;
+
+pub use breach::Breach;
+pub use lists::{IrrList, MemberOrigin, MemberPrefix, OriginList, PublicLists};
+pub use members::{ApiKey, Contact, Member, Owner, Status};
+pub use network::{AddressRow, IfAddr, Interface, InterfaceRow, Port, Switch, Vlan};
+pub use refusal::{Refusal, Right};
+pub use registry::Registry;
+pub use router::Router;
+pub use rows::Rows;
+pub use rules::{Action, MemberRule, Way};
+pub use site::Site;
