@@ -1,0 +1,101 @@
+//! Rules 9, 10 and 12: lengths of prefixes lie within their family.
+ghost use Rattle.std.specs.Prelude.{◌≡◌};
+ghost use Rattle.ixp_registry.specs.Rules.{routers_have_bounds, is_of, vlans_have_families, bogons_have_bounds, bogon_as_have_bounds, roas_have_bounds, rule_9, rule_10, rule_12};
+ghost use Rattle.ixp_places.specs.Sizes.{HasLines};
+
+use ixp_num::{Family, Prefix};
+use ixp_places::{bogon_as_at, bogons_at, earliest, first, roas_at, routers_at, vlans_at};
+use ixp_registry::Rows;
+
+fn routers_have_bounds(rows: &Rows) -> Option<usize>
+    requires { HasLines rows.now }
+    ensures { result ≡ routers_have_bounds rows.now }
+{
+    let routers = rows.routers.as_slice();
+    first(
+        routers_at(rows),
+        routers,
+        |r| !(r.low <= r.high && r.high <= u32::from(r.family.bits())),
+    )
+}
+
+/// A router's bounds are lengths of its family, the low one not above the high one.
+pub fn rule_9(rows: &Rows) -> Option<usize>
+    requires { HasLines rows.now }
+    ensures { result ≡ rule_9 rows.now }
+{
+    routers_have_bounds(rows)
+}
+
+fn is_of(family: Family, prefix: &Option<Prefix>) -> bool
+    ensures { result ≡ is_of family prefix.now }
+{
+    match prefix {
+        Some(prefix) => prefix.family == family,
+        None => true,
+    }
+}
+
+fn vlans_have_families(rows: &Rows) -> Option<usize>
+    requires { HasLines rows.now }
+    ensures { result ≡ vlans_have_families rows.now }
+{
+    let vlans = rows.vlans.as_slice();
+    first(
+        vlans_at(rows),
+        vlans,
+        |v| !(is_of(Family::V4, &v.v4) && is_of(Family::V6, &v.v6)),
+    )
+}
+
+/// A VLAN's prefixes are of their family.
+pub fn rule_10(rows: &Rows) -> Option<usize>
+    requires { HasLines rows.now }
+    ensures { result ≡ rule_10 rows.now }
+{
+    vlans_have_families(rows)
+}
+
+fn bogons_have_bounds(rows: &Rows) -> Option<usize>
+    requires { HasLines rows.now }
+    ensures { result ≡ bogons_have_bounds rows.now }
+{
+    let bogons = rows.public.bogons.as_slice();
+    first(
+        bogons_at(rows),
+        bogons,
+        |b| !(b.low <= b.high && b.high <= b.prefix.family.bits()),
+    )
+}
+
+fn bogon_as_have_bounds(rows: &Rows) -> Option<usize>
+    requires { HasLines rows.now }
+    ensures { result ≡ bogon_as_have_bounds rows.now }
+{
+    let ranges = rows.public.bogon_as.as_slice();
+    first(bogon_as_at(rows), ranges, |r| !(r.0.0 <= r.1.0))
+}
+
+fn roas_have_bounds(rows: &Rows) -> Option<usize>
+    requires { HasLines rows.now }
+    ensures { result ≡ roas_have_bounds rows.now }
+{
+    let roas = rows.public.roas.as_slice();
+    first(
+        roas_at(rows),
+        roas,
+        |r| !(r.prefix.len <= r.max && r.max <= r.prefix.family.bits()),
+    )
+}
+
+/// Bounds of bogon patterns, ranges of AS numbers and ROAs ascend, within the family.
+pub fn rule_12(rows: &Rows) -> Option<usize>
+    requires { HasLines rows.now }
+    ensures { result ≡ rule_12 rows.now }
+{
+    earliest(&[
+        bogons_have_bounds(rows),
+        bogon_as_have_bounds(rows),
+        roas_have_bounds(rows),
+    ])
+}

@@ -1,0 +1,131 @@
+//! Rule 13: how much the sessions of route servers make of members' lists.
+ghost use Rattle.std.specs.Prelude.{◌≡◌, ◌+◌, ◌<◌, ◌^◌, ℕ, [], ◌∷◌, false, IfOk, OnOk, length};
+ghost use Rattle.ixp_tables.specs.Tables.{find};
+ghost use Rattle.ixp_registry.specs.Keys.{member_key};
+ghost use Rattle.ixp_registry.specs.Lookups.{if_there, is_connected};
+ghost use Rattle.ixp_num.specs.declared.family.Family.{Family};
+ghost use Rattle.ixp_registry.specs.Places.{first_heavy};
+ghost use Rattle.ixp_registry.specs.Rules.{router_weight, vlan_weight, address_weight, sessions_are_light};
+ghost use Rattle.ixp_places.specs.Sizes.{HasLines};
+ghost use Rattle.ixp_valid.specs.Weights.{capped, share_of, weight_at, interface_weight, HasWeights};
+
+use ixp_num::Family;
+use ixp_places::{is_connected, prefixes_at};
+use ixp_registry::{AddressRow, InterfaceRow, MemberPrefix, Router, Rows};
+use std::alloc::{AllocError, Global};
+use std::collections::BTreeMap;
+
+/// The most that the sessions may make of all lists together, in rows.
+const MOST: u64 = 8000000;
+
+/// A weight for each member and family.
+type Weights = BTreeMap<(u32, Family), u64>;
+
+fn router_weight(router: &Router) -> u64
+    ensures { result ≡ router_weight router.now }
+{
+    if router.blackhole.is_some() { 2 } else { 1 }
+}
+
+/// What the routers of the family in the VLAN make of one row, as far as a `u64` tells.
+fn vlan_weight(rows: &Rows, vlan: u32, family: Family) -> u64
+    ensures { capped result ≡ capped (vlan_weight rows.now vlan family) }
+{
+    let mut weight = 0u64;
+    let mut left = rows.routers.as_slice();
+    'routers: while let Some((router, others)) = left.split_first() {
+        if router.vlan == vlan && router.family == family {
+            weight = weight.saturating_add(router_weight(router));
+        }
+        left = others;
+    }
+    weight
+}
+
+fn is_member_connected(rows: &Rows, member: u32) -> bool
+    ensures { result ≡ if_there (find member_key (member ∷ []) rows.now.members) false (λ m. is_connected m.status) }
+{
+    match rows.members.find(&member) {
+        Some(member) => is_connected(member.status),
+        None => false,
+    }
+}
+
+/// For which list the sessions of an address at the interface count, and how much.
+fn interface_share(
+    rows: &Rows,
+    interface: &InterfaceRow,
+    row: &AddressRow,
+) -> Option<(u32, Family, u64)>
+    ensures { (member : ℕ) (family : Family) → capped (share_of result member family) ≡ capped (interface_weight rows.now member family row.now interface.now) }
+{
+    let address = &row.address;
+    if address.rs && address.irr && is_member_connected(rows, interface.member) {
+        let weight = vlan_weight(rows, interface.vlan, address.addr.family);
+        Some((interface.member, address.addr.family, weight))
+    } else {
+        None
+    }
+}
+
+/// For which list the sessions of an address count, and how much.
+fn share(rows: &Rows, row: &AddressRow) -> Option<(u32, Family, u64)>
+    ensures { (member : ℕ) (family : Family) → capped (share_of result member family) ≡ capped (address_weight rows.now member family row.now) }
+{
+    match rows.interfaces.find(&row.interface) {
+        Some(interface) => interface_share(rows, interface, row),
+        None => None,
+    }
+}
+
+fn add(weights: &mut Weights, share: (u32, Family, u64)) -> Result<(), AllocError>
+    ensures { OnOk result ((member : ℕ) (family : Family) → capped (weight_at weights.new member family) ≡ capped (weight_at weights.old member family + share_of (Some share) member family)) }
+{
+    let list = (share.0, share.1);
+    let weight = weights.get(&list).copied().unwrap_or(0);
+    weights.insert(list, weight.saturating_add(share.2))?;
+    Ok(())
+}
+
+fn weigh_lists(alloc: Global, rows: &Rows) -> Result<Weights, AllocError>
+    ensures { IfOk result (HasWeights rows.now) }
+{
+    let mut weights = BTreeMap::new(alloc);
+    let mut left = rows.addresses.as_slice();
+    'addresses: while let Some((row, others)) = left.split_first() {
+        if let Some(share) = share(rows, row) {
+            add(&mut weights, share)?;
+        }
+        left = others;
+    }
+    Ok(weights)
+}
+
+/// The first row with which the weight of all is more than the most.
+fn first_heavy(weights: &Weights, start: usize, prefixes: &[MemberPrefix]) -> Option<usize>
+    requires { start + length prefixes.now < 2 ^ 64 }
+    ensures { (weight : ℕ → Family → ℕ) → ((member : ℕ) (family : Family) → capped (weight_at weights.now member family) ≡ capped (weight member family)) → result ≡ first_heavy (λ p. weight p.member p.prefix.family) 8000000 start prefixes.now }
+{
+    let mut sum = 0u64;
+    let mut left = prefixes;
+    let mut at = start;
+    'rows: while let Some((row, others)) = left.split_first() {
+        let weight = weights.get(&(row.member, row.prefix.family)).copied();
+        sum = sum.saturating_add(weight.unwrap_or(0));
+        if MOST < sum {
+            return Some(at);
+        }
+        left = others;
+        at += 1;
+    }
+    None
+}
+
+pub fn sessions_are_light(alloc: Global, rows: &Rows) -> Result<Option<usize>, AllocError>
+    requires { HasLines rows.now }
+    ensures { IfOk result (λ place. place ≡ sessions_are_light rows.now) }
+{
+    let weights = weigh_lists(alloc, rows)?;
+    let prefixes = rows.prefixes.as_slice();
+    Ok(first_heavy(&weights, prefixes_at(rows), prefixes))
+}
