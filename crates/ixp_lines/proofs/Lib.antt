@@ -1,0 +1,5 @@
+pub mod FreeTexts
+pub mod DigitWords
+pub mod Lengths
+pub mod Spelling
+pub mod Values
