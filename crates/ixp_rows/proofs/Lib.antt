@@ -1,0 +1,4 @@
+pub mod Counts
+pub mod DumpsSpelt
+pub mod Sections
+pub mod Spelt
