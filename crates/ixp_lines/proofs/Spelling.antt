@@ -209,6 +209,7 @@ piece_found p t d rest e = by_field (field_at t) refl e
         let field : x ≡ d = ap (λ y. y.0) (some_is (x, more) (d, rest) e) in
         let behind : more ≡ rest = ap (λ y. y.1) (some_is (x, more) (d, rest) e) in
         field_found t front more at ∙ (ap (λ f. 32 ∷ (f ++ more)) (sym text ∙ ap field_text field) ∙ ap (λ r. 32 ∷ (field_text d ++ r)) behind)
+
     by_field : (f : Option (List ℕ × List ℕ)) → field_at t ≡ f → (f >>= λ f. valued f.1 (value_of p f.0)) ≡ Some (d, rest) → t ≡ 32 ∷ (field_text d ++ rest)
     by_field None at e = absurd cc
     by_field (Some (front, more)) at e = by_value front more at (value_of p front) refl e
@@ -241,6 +242,7 @@ fields_found (p ∷ form) t fs rest e = by_piece (fields_found form) (piece_at p
         piece_found p t d more at
         ∙ (ap (λ m. 32 ∷ (field_text d ++ m)) (again more ds behind is)
         ∙ (joined d ds behind ∙ (ap (λ x. spelled x ++ behind) all ∙ ap (λ r. spelled fs ++ r) last)))
+
     by_piece : ((m : List ℕ) (ds : List Field) (r : List ℕ) → fields_at form m ≡ Some (ds, r) → m ≡ spelled ds ++ r) → (o : Option (Field × List ℕ)) → piece_at p t ≡ o → (o >>= λ f. added f.0 (fields_at form f.1)) ≡ Some (fs, rest) → t ≡ spelled fs ++ rest
     by_piece again None at e = absurd cc
     by_piece again (Some (d, more)) at e = by_more again d more at (fields_at form more) refl e

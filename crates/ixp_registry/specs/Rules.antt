@@ -154,6 +154,7 @@ is_vlan_length p = nat_le (least p.family) p.len && nat_le p.len (most p.family)
     least : Family → ℕ
     least V4 = 8
     least V6 = 32
+
     most : Family → ℕ
     most V4 = 30
     most V6 = 126
@@ -164,9 +165,9 @@ overlaps_any ps q = list_any (λ p. overlap p q) ps
 abbrev pub vlans_lie_apart : Rows → Option ℕ
 vlans_lie_apart w =
     first_with_earlier (vlans_at w)
-        (λ earlier v. list_any (λ u. list_any (overlaps_any (prefixes_of u)) (prefixes_of v)) earlier
-            || list_any (overlaps_any (listed v.v4)) (listed v.v6))
-        w.vlans
+    (λ earlier v. list_any (λ u. list_any (overlaps_any (prefixes_of u)) (prefixes_of v)) earlier
+    || list_any (overlaps_any (listed v.v4)) (listed v.v6))
+    w.vlans
 
 abbrev pub vlans_have_bounds : Rows → Option ℕ
 vlans_have_bounds w =
@@ -196,7 +197,7 @@ secrets_differ w = first_beyond 1 (keys_at w) (map (λ k. k.secret) w.keys)
 abbrev pub addresses_differ : Rows → Option ℕ
 addresses_differ w =
     first_beyond 1 (addresses_at w)
-        (map (λ a. addr_numbers a.address.addr) w.addresses ++ map (λ r. addr_numbers r.addr) w.routers)
+    (map (λ a. addr_numbers a.address.addr) w.addresses ++ map (λ r. addr_numbers r.addr) w.routers)
 
 abbrev pub rule_7 : Rows → Option ℕ
 rule_7 w = earliest (secrets_differ w ∷ addresses_differ w ∷ [])
@@ -310,9 +311,9 @@ vlan_weight w vlan family =
 abbrev pub address_weight : Rows → ℕ → Family → AddressRow → ℕ
 address_weight w member family a =
     if_there (find interface_row_key (a.interface ∷ []) w.interfaces) 0
-        (λ i. if i.member == member && same_family a.address.addr.family family && a.address.rs && a.address.irr
-                && if_there (find member_key (member ∷ []) w.members) false (λ m. is_connected m.status)
-            then vlan_weight w i.vlan family else 0)
+    (λ i. if i.member == member && same_family a.address.addr.family family && a.address.rs && a.address.irr
+    && if_there (find member_key (member ∷ []) w.members) false (λ m. is_connected m.status)
+    then vlan_weight w i.vlan family else 0)
 
 -- how often a row of the member's list of the family stands in the routers' sessions
 abbrev pub list_weight : Rows → ℕ → Family → ℕ

@@ -16,47 +16,70 @@ pub enum Refusal {
     /// X0: no API key has the secret.
     NoKey,
     /// X1: the key's owner hasn't the right.
-    Denied { right: Right },
+    Denied {
+        right: Right,
+    },
     /// X2: the request's number is kept for another kind of edit or another subject.
     KeyReused {
         kind: &'static str,
         subject: Items<u8>,
     },
     /// X3: the request's number is below the owner's floor.
-    KeyOld { floor: u64 },
+    KeyOld {
+        floor: u64,
+    },
     /// X4: a row that is named isn't there.
     Unknown {
         table: &'static str,
         key: Items<u8>,
     },
     /// X5: a text has another alphabet or length.
-    BadText { field: &'static str },
+    BadText {
+        field: &'static str,
+    },
     /// X6: the AS number is reserved, or a member and a router would share one.
-    AsnReserved { asn: Asn },
+    AsnReserved {
+        asn: Asn,
+    },
     /// X7: an address or a prefix isn't of its family, or the VLAN has none of the family.
-    Family { family: Family },
+    Family {
+        family: Family,
+    },
     /// X8: an address lies outside the VLAN's prefix, or is its first or last one.
-    Outside { vlan: u32 },
+    Outside {
+        vlan: u32,
+    },
     /// X9: somebody has the address or the secret.
     Taken {
         table: &'static str,
         key: Items<u8>,
     },
     /// X10: the port belongs to another member, or to none.
-    PortTaken { member: Option<u32> },
+    PortTaken {
+        member: Option<u32>,
+    },
     /// X11: a row with the key, or a member with the AS number, is there.
-    Exists { key: Items<u8> },
+    Exists {
+        key: Items<u8>,
+    },
     /// X12: the prefix overlaps with one of this VLAN.
-    Overlap { vlan: u32 },
+    Overlap {
+        vlan: u32,
+    },
     /// X13: no member goes from one status to the other.
-    StatusMove { from: Status, to: Status },
+    StatusMove {
+        from: Status,
+        to: Status,
+    },
     /// X14: a row still names the one that is to go.
     InUse {
         table: &'static str,
         key: Items<u8>,
     },
     /// X15: a rule's action or a number is out of its bounds; `place` is the rule's, 0 where it is no rule.
-    BadRule { place: u32 },
+    BadRule {
+        place: u32,
+    },
     /// X16: there would be more rows than the limit.
     TooMany {
         table: &'static str,

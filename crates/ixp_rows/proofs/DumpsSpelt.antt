@@ -40,6 +40,7 @@ sections_found version (kind ∷ kinds) t xss rest e = by_section (sections_foun
     by_rest again rows more here (Ok x) is e =
         (here ∙ (ap (λ m. texts kind rows ++ m) (again more x.0 x.1 is) ∙ sym (append_assoc (texts kind rows) (kinds_text kinds x.0) x.1)))
         ∙ ap (λ y. kinds_text (kind ∷ kinds) y.0 ++ y.1) (ok_is (rows ∷ x.0, x.1) (xss, rest) e)
+
     by_section : ((t : List ℕ) (xss : List (List (List Field))) (rest : List ℕ) → sections_at version kinds t ≡ Ok (xss, rest) → t ≡ kinds_text kinds xss ++ rest)
         → (r : Result (List (List Field) × List ℕ) Misread) → section version kind t ≡ r → (r >>= λ s. section_added s.0 (sections_at version kinds s.1)) ≡ Ok (xss, rest) → t ≡ kinds_text (kind ∷ kinds) xss ++ rest
     by_section again (Err f) at e = absurd (err_ok f (xss, rest) e)
@@ -63,6 +64,7 @@ chained version (k ∷ ks) js t = by_section (section version k t) (λ more. cha
         by_last : (b : Result (List (List (List Field)) × List ℕ) Misread) → section_added rows (b >>= λ b. Ok (a.0 ++ b.0, b.1)) ≡ (b >>= λ b. Ok (rows ∷ (a.0 ++ b.0), b.1))
         by_last (Err f) = refl
         by_last (Ok b) = refl
+
     by_section : (s : Result (List (List Field) × List ℕ) Misread)
         → ((more : List ℕ) → sections_at version (ks ++ js) more ≡ (sections_at version ks more >>= λ a. sections_at version js a.1 >>= λ b. Ok (a.0 ++ b.0, b.1)))
         → (s >>= λ s. section_added s.0 (sections_at version (ks ++ js) s.1)) ≡ ((s >>= λ s. section_added s.0 (sections_at version ks s.1)) >>= λ a. sections_at version js a.1 >>= λ b. Ok (a.0 ++ b.0, b.1))
@@ -81,19 +83,22 @@ lists_is version t = by_owners (sections_at version owner_kinds t) ∙ sym (chai
     by_public : (o n s : List (List (List Field))) (p : Result (List (List (List Field)) × List ℕ) Misread) → (p >>= λ p. Ok (o ++ (n ++ (s ++ p.0)), p.1)) ≡ appended o (appended n (appended s p))
     by_public o n s (Err f) = refl
     by_public o n s (Ok p) = refl
+
     by_steering : (o n : List (List (List Field))) (s : Result (List (List (List Field)) × List ℕ) Misread)
         → (s >>= λ s. sections_at version public_kinds s.1 >>= λ p. Ok (o ++ (n ++ (s.0 ++ p.0)), p.1)) ≡ appended o (appended n (s >>= λ s. appended s.0 (sections_at version public_kinds s.1)))
     by_steering o n (Err f) = refl
     by_steering o n (Ok s) = by_public o n s.0 (sections_at version public_kinds s.1)
+
     by_network : (o : List (List (List Field))) (n : Result (List (List (List Field)) × List ℕ) Misread)
         → (n >>= λ n. sections_at version steering_kinds n.1 >>= λ s. sections_at version public_kinds s.1 >>= λ p. Ok (o ++ (n.0 ++ (s.0 ++ p.0)), p.1))
-          ≡ appended o (n >>= λ n. appended n.0 (sections_at version (steering_kinds ++ public_kinds) n.1))
+        ≡ appended o (n >>= λ n. appended n.0 (sections_at version (steering_kinds ++ public_kinds) n.1))
     by_network o (Err f) = refl
     by_network o (Ok n) =
         by_steering o n.0 (sections_at version steering_kinds n.1) ∙ ap (λ r. appended o (appended n.0 r)) (sym (chained version steering_kinds public_kinds n.1))
+
     by_owners : (o : Result (List (List (List Field)) × List ℕ) Misread)
         → (o >>= λ o. sections_at version network_kinds o.1 >>= λ n. sections_at version steering_kinds n.1 >>= λ s. sections_at version public_kinds s.1 >>= λ p. Ok (o.0 ++ (n.0 ++ (s.0 ++ p.0)), p.1))
-          ≡ (o >>= λ o. appended o.0 (sections_at version (network_kinds ++ (steering_kinds ++ public_kinds)) o.1))
+        ≡ (o >>= λ o. appended o.0 (sections_at version (network_kinds ++ (steering_kinds ++ public_kinds)) o.1))
     by_owners (Err f) = refl
     by_owners (Ok o) =
         by_network o.0 (sections_at version network_kinds o.1) ∙ ap (appended o.0) (sym (chained version network_kinds (steering_kinds ++ public_kinds) o.1))
@@ -116,19 +121,22 @@ rows_spelt version t xss rest e = by_head (after_text (head_text version) t) ref
         let lists : more ≡ kinds_text list_kinds x.0 ++ x.1 = sections_found version list_kinds more x.0 x.1 (sym (lists_is version more) ∙ is) in
         let one : texts Sites (fs ∷ []) ≡ text_of Sites fs = append-nil (text_of Sites fs) in
         let whole : body ≡ kinds_text dump_kinds ((fs ∷ []) ∷ x.0) ++ x.1 =
-            site ∙ (ap (λ m. text_of Sites fs ++ m) lists ∙ (ap (λ y. y ++ (kinds_text list_kinds x.0 ++ x.1)) (sym one) ∙ sym (append_assoc (texts Sites (fs ∷ [])) (kinds_text list_kinds x.0) x.1))) in
+        site ∙ (ap (λ m. text_of Sites fs ++ m) lists ∙ (ap (λ y. y ++ (kinds_text list_kinds x.0 ++ x.1)) (sym one) ∙ sym (append_assoc (texts Sites (fs ∷ [])) (kinds_text list_kinds x.0) x.1))) in
         head ∙ ap (λ b. head_text version ++ b) (whole ∙ ap (λ y. kinds_text dump_kinds y.0 ++ y.1) (ok_is ((fs ∷ []) ∷ x.0, x.1) (xss, rest) e))
+
     by_site : (body : List ℕ) → t ≡ head_text version ++ body → (o : Option (Option (List Field × List ℕ))) → line_at version Sites body ≡ o
         → (needed (length body) o >>= λ s. with_site s.0 (lists_at version s.1)) ≡ Ok (xss, rest) → t ≡ head_text version ++ (kinds_text dump_kinds xss ++ rest)
     by_site body head None at e = absurd (err_ok (Bad (length body)) (xss, rest) e)
     by_site body head (Some None) at e = absurd (err_ok (Bad (length body)) (xss, rest) e)
     by_site body head (Some (Some (fs, more))) at e = by_lists body more fs head (line_found version Sites body fs more at) (lists_at version more) refl e
+
     head_found : (body : List ℕ) → after_text (head_text version) t ≡ Some body → t ≡ head_text version ++ body
     head_found body e = by_test (same (take (length (head_text version)) t) (head_text version)) refl e
       where
         by_test : (b : Bool) → same (take (length (head_text version)) t) (head_text version) ≡ b → (if b then Some (drop (length (head_text version)) t) else None) ≡ Some body → t ≡ head_text version ++ body
         by_test true is e = front_found (head_text version) t body is (some_is (drop (length (head_text version)) t) body e)
         by_test false is e = absurd (none_some body e)
+
     by_head : (o : Option (List ℕ)) → after_text (head_text version) t ≡ o
         → (begun (length t) o >>= λ body. needed (length body) (line_at version Sites body) >>= λ s. with_site s.0 (lists_at version s.1)) ≡ Ok (xss, rest) → t ≡ head_text version ++ (kinds_text dump_kinds xss ++ rest)
     by_head None at e = absurd (err_ok (Bad (length t)) (xss, rest) e)
@@ -141,6 +149,7 @@ end_spelt version lines t e = by_test (same (take (length (end_text lines)) t) (
     by_rest : (rest : List ℕ) → t ≡ end_text lines ++ rest → ended_with version lines t (Some rest) ≡ None → t ≡ end_text lines
     by_rest [] here e = here ∙ append-nil (end_text lines)
     by_rest (c ∷ cs) here e = absurd (none_some (Bad (suc (length cs))) (sym e))
+
     by_test : (b : Bool) → same (take (length (end_text lines)) t) (end_text lines) ≡ b
         → ended_with version lines t (if b then Some (drop (length (end_text lines)) t) else None) ≡ None → t ≡ end_text lines
     by_test true is e = by_rest (drop (length (end_text lines)) t) (front_found (end_text lines) t (drop (length (end_text lines)) t) is refl) e
@@ -156,6 +165,7 @@ dump_spelt version t xss e = by_rows (rows_at version t) refl e
     by_end yss rest here None at e =
         (here ∙ ap (λ r. head_text version ++ (kinds_text dump_kinds yss ++ r)) (end_spelt version (total yss) rest at))
         ∙ ap (λ ys. head_text version ++ (kinds_text dump_kinds ys ++ end_text (total ys))) (ok_is yss xss e)
+
     by_rows : (r : Result (List (List (List Field)) × List ℕ) Misread) → rows_at version t ≡ r → (r >>= λ x. unless (ended version (total x.0) x.1) x.0) ≡ Ok xss
         → t ≡ head_text version ++ (kinds_text dump_kinds xss ++ end_text (total xss))
     by_rows (Err f) at e = absurd (err_ok f xss e)

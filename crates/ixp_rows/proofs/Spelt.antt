@@ -55,6 +55,7 @@ line_found version kind t fs rest e = by_word (behind kind t) refl e
         let read : x ≡ (fs, rest) = some_is x (fs, rest) (some_is (Some x) (Some (fs, rest)) e) in
         let behind_word : more ≡ spelled fs ++ rest = fields_found (form_of version kind) more fs rest (is ∙ ap (λ y. Some y) read) in
         behind_found kind t more at ∙ (ap (λ m. word_of kind ++ m) behind_word ∙ sym (append_assoc (word_of kind) (spelled fs) rest))
+
     by_word : (o : Option (List ℕ)) → behind kind t ≡ o → line_with version kind o ≡ Some (Some (fs, rest)) → t ≡ text_of kind fs ++ rest
     by_word None at e = absurd cc
     by_word (Some more) at e = by_fields more at (fields_at (form_of version kind) more) refl e
@@ -79,10 +80,12 @@ rows_found (suc n) version kind last t rows rest e = by_line (rows_found n versi
     by_more again fs more here (Ok s) is e =
         let whole : t ≡ texts kind (fs ∷ s.0) ++ s.1 = here ∙ (ap (λ m. text_of kind fs ++ m) (again (Some (key_in kind fs)) more s.0 s.1 is) ∙ sym (append_assoc (text_of kind fs) (texts kind s.0) s.1)) in
         whole ∙ ap (λ y. texts kind y.0 ++ y.1) (ok_is (fs ∷ s.0, s.1) (rows, rest) e)
+
     by_place : ((last : Option (List ℕ)) (t : List ℕ) (rows : List (List Field)) (rest : List ℕ) → rows_from n version kind last t ≡ Ok (rows, rest) → t ≡ texts kind rows ++ rest)
         → (x : List Field × List ℕ) → t ≡ text_of kind x.0 ++ x.1 → (o : Option Misread) → (unless o x >>= behind_row (rows_from n version kind) kind) ≡ Ok (rows, rest) → t ≡ texts kind rows ++ rest
     by_place again x here (Some f) e = absurd (err_ok f (rows, rest) e)
     by_place again x here None e = by_more again x.0 x.1 here (rows_from n version kind (Some (key_in kind x.0)) x.1) refl e
+
     by_line : ((last : Option (List ℕ)) (t : List ℕ) (rows : List (List Field)) (rest : List ℕ) → rows_from n version kind last t ≡ Ok (rows, rest) → t ≡ texts kind rows ++ rest)
         → (o : Option (Option (List Field × List ℕ))) → line_at version kind t ≡ o → (begun (length t) o >>= λ p. more_with (rows_from n version kind) kind last t p) ≡ Ok (rows, rest) → t ≡ texts kind rows ++ rest
     by_line again None at e = absurd (err_ok (Bad (length t)) (rows, rest) e)
