@@ -6,3 +6,4 @@ pub mod RouteFields
 pub mod RouteItems
 pub mod RouteListTexts
 pub mod RouteLists
+pub mod RouteStops

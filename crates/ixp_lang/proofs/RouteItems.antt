@@ -77,9 +77,6 @@ asn_spells = record {
   again = λ x s rest is fits ends. ap (λ r. r >>= λ a. Ok (asn_with a.0, a.1)) (number_read 4294967295 s rest x.0 (lit< tt) is fits ends);
 }
 
-abbrev Asns : Result (ℕ × List ℕ) ℕ → Result (Asn × List ℕ) ℕ
-Asns r = r >>= λ a. Ok (asn_with a.0, a.1)
-
 -- the parts of a community
 abbrev second_of : ℕ → List ℕ → Result ((ℕ × ℕ) × List ℕ) ℕ
 second_of a s = number 65535 s >>= λ b. Ok ((a, b.0), b.1)

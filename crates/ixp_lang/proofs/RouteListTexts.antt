@@ -24,7 +24,7 @@ comma_step c cs next (inl is) e =
     ap (λ x. x ∷ cs) is ∙ ap (λ r. 44 ∷ r) same
 comma_step c cs next (inr other) e = absurd (let there : ◌≡◌ {A = Option (List ℕ)} None (Some next) = sym (cond-false (c == 44) (Some cs) None (ne_eqb c 44 other)) ∙ e in let h : ⊥ = cc in h)
 
-comma_sound : (t next : List ℕ) → after_comma t ≡ Some next → t ≡ 44 ∷ next
+pub comma_sound : (t next : List ℕ) → after_comma t ≡ Some next → t ≡ 44 ∷ next
 comma_sound [] next e = absurd (let h : ⊥ = cc in h)
 comma_sound (c ∷ cs) next e = comma_step c cs next (cases_eq c 44) e
 
@@ -44,7 +44,7 @@ module _ {A : Type 0} (item : List ℕ → Result (A × List ℕ) ℕ) (Is : A �
   abbrev pub Listed : ℕ → List ℕ → List A × List ℕ → Type 0
   Listed room t q = (s : List ℕ) × (t ≡ s ++ q.1) × IsItemsText q.0 s × AllByRecursion Fits q.0 × (length q.0 ≤ room)
 
-  more_from : (xs : List A) (s : List ℕ) → IsItemsText xs s → IsMoreText Is xs (44 ∷ s)
+  pub more_from : (xs : List A) (s : List ℕ) → IsItemsText xs s → IsMoreText Is xs (44 ∷ s)
   more_from [] s is = absurd is
   more_from (x ∷ xs) s (front, rest, e, is, more) = (front, rest, ap (λ r. 44 ∷ r) e, is, more)
 
@@ -72,7 +72,7 @@ module _ {A : Type 0} (item : List ℕ → Result (A × List ℕ) ℕ) (Is : A �
       let first = spells.sound t read.0 (texted_ok (item t) read.0 read.1) in
       listed_step room t read.0.0 first.0 read.0.1 (after_comma read.0.1) q refl first.1 first.2 first.3 (items_sound room) read.2
 
-  list_from : (xs : List A) (s : List ℕ) → IsItemsText xs s → IsListText Is xs s
+  pub list_from : (xs : List A) (s : List ℕ) → IsItemsText xs s → IsListText Is xs s
   list_from [] s is = absurd is
   list_from (x ∷ xs) s is = is
 

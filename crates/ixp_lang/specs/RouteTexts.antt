@@ -61,3 +61,8 @@ pub record IsBounded (r : Route) : Type 0 where
   pub path_length : length r.path ≤ 1000
   pub pairs_length : length r.pairs ≤ 1000
   pub triples_length : length r.triples ≤ 1000
+
+-- the text but for its last `left` bytes is the beginning of a list
+abbrev pub BeginsList : {A : Type 0} → (A → List ℕ → Type 0) → (A → Type 0) → List ℕ → ℕ → Type 0
+BeginsList {A} Is Fits t left =
+    (front rest more : List ℕ) × (xs : List A) × (t ≡ front ++ rest) × (length rest ≡ left) × IsListText Is xs (front ++ more) × AllByRecursion Fits xs

@@ -4,7 +4,9 @@ ghost use Rattle.ixp_lang.specs.declared.route.Route.{Route};
 ghost use Rattle.ixp_lang.specs.declared.reading.fault.RouteFault.{RouteFault};
 ghost use Rattle.ixp_lang.specs.declared.reading.fault.RouteFault.TheVariants.{NoMemory};
 ghost use Rattle.ixp_lang.specs.Texts.{route_text};
-ghost use Rattle.ixp_lang.specs.RouteTexts.{IsRouteText, IsBounded};
+ghost use Rattle.ixp_lang.specs.declared.reading.fault.Stop.TheVariants.{Text};
+ghost use Rattle.ixp_lang.specs.RouteReading.{list_at, asn_item, pair_item, triple_item};
+ghost use Rattle.ixp_lang.specs.RouteTexts.{IsBounded, IsAsnText, IsPairText, IsTripleText, AsnFits, PairFits, TripleFits, BeginsList};
 ghost use Rattle.ixp_lang.specs.Steering.{sends, prepends};
 ghost use Rattle.ixp_lang.specs.Trials.{steered};
 ghost use Rattle.ixp_lang.specs.RouteAnswers.{RouteAnswer, IsOfOneFamily};
@@ -30,4 +32,11 @@ pub fn the_first_line_decides()
     ensures prepends_for_all { prepends 65500 (steered [] ((65500, 101, 0) ∷ (65500, 102, 0) ∷ [])) 65001 ≡ 2 }
     ensures prepends_for_peer { prepends 65500 (steered [] ((65500, 103, 0) ∷ (65500, 101, 65001) ∷ [])) 65001 ≡ 1 }
     ensures prepends_not { prepends 65500 (steered [] ((65500, 103, 0) ∷ (65500, 1, 65001) ∷ [])) 65001 ≡ 0 }
+{}
+
+/// Where a list's text can't go on, what stands before is the beginning of a list.
+pub fn lists_go_on_before_their_faults()
+    ensures path { (t : List ℕ) (left : ℕ) → list_at asn_item t ≡ Err (Text left) → BeginsList IsAsnText AsnFits t left }
+    ensures pairs { (t : List ℕ) (left : ℕ) → list_at pair_item t ≡ Err (Text left) → BeginsList IsPairText PairFits t left }
+    ensures triples { (t : List ℕ) (left : ℕ) → list_at triple_item t ≡ Err (Text left) → BeginsList IsTripleText TripleFits t left }
 {}
