@@ -1,4 +1,8 @@
-//! Dumps of a registry: reading and printing.
+//! Dumps of a registry.
+//!
+//! [`read_rows`] reads the rows of a dump of either version of the format. What it gives is spelt so, byte for
+//! byte (`specs/Texts.antt`); what it refuses it names by the first faulty line, as the reading function of
+//! `specs/Reading.antt` does. The rows' types are given out here, so that crates above name this crate alone.
 #![tactic(auto)]
 
 mod ending;
