@@ -20,10 +20,10 @@ use Rattle.ixp_lines.specs.Fields.{Field, Number, Octet, Word, Free, Secret, Han
 use Rattle.ixp_lines.specs.Lines.{spelled}
 use Rattle.ixp_lines.specs.Reading.{◌>>=◌, numbers_with, numbers_in, kept, number_with, octet_with, family_of, is_prefix, address_with, net_with, bounds_with, without_dash, secret_in, identifier_with, value_of, parted_at, field_at, end_at, piece_at, fields_at}
 
-some_is : {A : Type 0} (a b : A) → ◌≡◌ {A = Option A} (Some a) (Some b) → a ≡ b
+pub some_is : {A : Type 0} (a b : A) → ◌≡◌ {A = Option A} (Some a) (Some b) → a ≡ b
 some_is a b e = cc
 
-none_some : {A : Type 0} (a : A) → ◌≡◌ {A = Option A} None (Some a) → ⊥
+pub none_some : {A : Type 0} (a : A) → ◌≡◌ {A = Option A} None (Some a) → ⊥
 none_some a e = absurd cc
 
 pub same_is : (xs ys : List ℕ) → same xs ys ≡ true → xs ≡ ys

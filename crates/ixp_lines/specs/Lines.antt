@@ -28,7 +28,7 @@ use Rattle.ixp_registry.specs.declared.rules.Way.{Way}
 use Rattle.ixp_registry.specs.declared.rules.Way.TheVariants.{Advertise, Receive}
 use Rattle.ixp_registry.specs.declared.rules.Action.{Action}
 use Rattle.ixp_registry.specs.declared.rules.Action.TheVariants.{AsIs, Prepend, Stop}
-use Rattle.ixp_registry.specs.Keys.{version_of}
+use Rattle.ixp_num.specs.AddressForms.{version_of}
 use Rattle.ixp_registry.specs.Places.{same}
 use Rattle.ixp_lines.specs.declared.kinds.Kind.{Kind}
 use Rattle.ixp_lines.specs.declared.kinds.Kind.TheVariants.{Sites, Members, Contacts, Keys, Switches, Ports, Vlans, Interfaces, Addresses, Routers, Prefixes, Origins, Rules, Bogons, BogonAs, Transit, Roas}

@@ -13,7 +13,7 @@ use Rattle.ixp_num.specs.contracts.addr.AddrOrd.TheImpl as addr_ord
 use Rattle.ixp_registry.specs.declared.members.Owner.{Owner}
 use Rattle.ixp_registry.specs.declared.members.Owner.TheVariants.{Staff, Member as Of}
 use Rattle.ixp_registry.specs.contracts.members.OwnerOrd.TheImpl as owner_ord
-use Rattle.ixp_registry.specs.Keys.{version_of}
+use Rattle.ixp_num.specs.AddressForms.{version_of}
 use Rattle.ixp_registry.specs.Places.{same}
 use Rattle.ixp_registry.specs.Rules.{owner_numbers, addr_numbers}
 

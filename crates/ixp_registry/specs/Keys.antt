@@ -1,8 +1,7 @@
 -- The keys of the rows, in the order of a dump's lines: numbers by value, texts by bytes, addresses and prefixes with
 -- IPv4 first.
 use Rattle.std.specs.Prelude.{ℕ, List, [], ◌∷◌}
-use Rattle.ixp_num.specs.declared.family.Family.{Family}
-use Rattle.ixp_num.specs.declared.family.Family.TheVariants.{V4, V6}
+use Rattle.ixp_num.specs.AddressForms.{version_of}
 use Rattle.ixp_num.specs.declared.prefix.Prefix.{Prefix}
 use Rattle.ixp_num.specs.declared.pattern.Pattern.{Pattern}
 use Rattle.ixp_num.specs.declared.roa.Roa.{Roa}
@@ -22,11 +21,6 @@ use Rattle.ixp_registry.specs.declared.lists.OriginList.{OriginList}
 use Rattle.ixp_registry.specs.declared.lists.MemberPrefix.{MemberPrefix}
 use Rattle.ixp_registry.specs.declared.lists.MemberOrigin.{MemberOrigin}
 use Rattle.ixp_registry.specs.declared.rules.MemberRule.{MemberRule}
-
--- the version of the Internet Protocol
-abbrev pub version_of : Family → ℕ
-version_of V4 = 4
-version_of V6 = 6
 
 abbrev pub prefix_numbers : Prefix → List ℕ
 prefix_numbers p = version_of p.family ∷ p.value ∷ p.len ∷ []

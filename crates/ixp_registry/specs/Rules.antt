@@ -3,6 +3,7 @@
 use Rattle.std.specs.Prelude.{ℕ, Bool, List, [], ◌∷◌, ◌++◌, ◌+◌, ◌-◌, ◌^◌, ◌&&◌, ◌||◌, ◌==◌, not, true, false, nat_le, nat_lt, Option, Some, None, if◌then◌else◌, map}
 use Rattle.std.specs.List.{list_any, list_all}
 use Rattle.std.specs.Option.{is_some}
+use Rattle.ixp_num.specs.AddressForms.{version_of}
 use Rattle.ixp_num.specs.declared.family.Family.{Family}
 use Rattle.ixp_num.specs.declared.family.Family.TheVariants.{V4, V6}
 use Rattle.ixp_num.specs.declared.addr.Addr.{Addr}
@@ -26,7 +27,7 @@ use Rattle.ixp_registry.specs.declared.rules.Way.TheVariants.{Advertise, Receive
 use Rattle.ixp_registry.specs.declared.rules.Action.{Action}
 use Rattle.ixp_registry.specs.declared.rules.Action.TheVariants.{AsIs, Prepend, Stop}
 use Rattle.ixp_registry.specs.declared.rows.Rows.{Rows}
-use Rattle.ixp_registry.specs.Keys.{version_of, member_key, interface_row_key}
+use Rattle.ixp_registry.specs.Keys.{member_key, interface_row_key}
 use Rattle.ixp_registry.specs.Alphabets.{is_label, is_note, is_macro, is_session_secret, is_key_secret, is_handle}
 use Rattle.ixp_registry.specs.Places.{first, first_with_earlier, first_beside, first_beyond, first_over, first_heavy, earliest}
 use Rattle.ixp_registry.specs.Lookups.{if_there, has_member, has_switch, has_port, has_vlan, has_interface, has_owner, is_port_of, is_connected, has_left, column, overlap, listed, prefixes_of, is_host_in, is_host_at, same_addr}

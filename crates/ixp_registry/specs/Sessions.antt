@@ -1,6 +1,7 @@
 -- The sessions of a route server, and what members' rules say.
 use Rattle.std.specs.Prelude.{ℕ, Bool, List, [], ◌∷◌, ◌&&◌, ◌||◌, ◌==◌, not, true, false, Option, Some, None, if◌then◌else◌, filter}
 use Rattle.ixp_tables.specs.Tables.{find}
+use Rattle.ixp_num.specs.AddressForms.{version_of}
 use Rattle.ixp_num.specs.declared.family.Family.{Family}
 use Rattle.ixp_num.specs.declared.family.Family.TheVariants.{V4, V6}
 use Rattle.ixp_num.specs.declared.asn.Asn.{Asn}
@@ -16,7 +17,7 @@ use Rattle.ixp_registry.specs.declared.rules.Way.TheVariants.{Advertise, Receive
 use Rattle.ixp_registry.specs.declared.rules.Action.{Action}
 use Rattle.ixp_registry.specs.declared.rules.Action.TheVariants.{AsIs, Prepend, Stop}
 use Rattle.ixp_registry.specs.declared.registry.Registry.{Registry}
-use Rattle.ixp_registry.specs.Keys.{member_key, interface_key, irr_key, origins_key, version_of}
+use Rattle.ixp_registry.specs.Keys.{member_key, interface_key, irr_key, origins_key}
 use Rattle.ixp_registry.specs.Lookups.{if_there, is_connected}
 
 -- the interface's address of a family

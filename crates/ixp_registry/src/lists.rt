@@ -1,6 +1,7 @@
 //! The lists that filters are made of.
 ghost use Rattle.std.specs.Prelude.{[], ◌∷◌};
-ghost use Rattle.ixp_registry.specs.Keys.{irr_key, origins_key, member_prefix_key, member_origin_key, version_of, prefix_numbers};
+ghost use Rattle.ixp_registry.specs.Keys.{irr_key, origins_key, member_prefix_key, member_origin_key, prefix_numbers};
+ghost use Rattle.ixp_num.specs.AddressForms.{version_of};
 
 use ixp_num::{Asn, Family, Items, Pattern, Prefix, Roa};
 use ixp_tables::Row;

@@ -14,8 +14,9 @@ use Rattle.ixp_rows.specs.declared.misread.Misread.TheVariants.{Bad}
 use Rattle.ixp_rows.specs.Reading.{◌>>=◌, begun, needed, unless, line_at, section, sections_at, lists_at, rows_at, head_text, after_text, end_text, ended_with, ended, stray, total, dump_at, owner_kinds, network_kinds, steering_kinds, public_kinds}
 use Rattle.ixp_rows.specs.Groups.{fields_by, row_fields}
 use Rattle.ixp_rows.specs.Texts.{lines_by, lines_text, rows_count, dump_text}
+use Rattle.ixp_lines.proofs.Spelling.{some_is, none_some}
 use Rattle.ixp_rows.proofs.Counts.{total_rows}
-use Rattle.ixp_rows.proofs.Spelt.{some_is, none_some, ok_is, err_ok, front_found, line_found, texts, rows_found}
+use Rattle.ixp_rows.proofs.Spelt.{ok_is, err_ok, front_found, line_found, texts, rows_found}
 
 Sectioned : Type 0
 Sectioned = List (List (List Field)) × List ℕ

@@ -6,17 +6,11 @@ use Rattle.ixp_lines.specs.declared.version.Version.{Version}
 use Rattle.ixp_lines.specs.Fields.{Field}
 use Rattle.ixp_lines.specs.Lines.{Line, form_of, word_of, spelled, text_of, line_text}
 use Rattle.ixp_lines.specs.Reading.{fields_at}
-use Rattle.ixp_lines.proofs.Spelling.{same_is, fields_found}
+use Rattle.ixp_lines.proofs.Spelling.{some_is, none_some, same_is, fields_found}
 use Rattle.ixp_registry.specs.Places.{same}
 use Rattle.ixp_rows.specs.declared.misread.Misread.{Misread}
 use Rattle.ixp_rows.specs.declared.misread.Misread.TheVariants.{Bad}
 use Rattle.ixp_rows.specs.Reading.{◌>>=◌, with_blank, behind, key_in, misplaced, unless, line_with, line_at, begun, behind_row, more_with, rows_from, section, sections_at}
-
-pub some_is : {A : Type 0} (a b : A) → ◌≡◌ {A = Option A} (Some a) (Some b) → a ≡ b
-some_is a b e = cc
-
-pub none_some : {A : Type 0} (a : A) → ◌≡◌ {A = Option A} None (Some a) → ⊥
-none_some a e = absurd cc
 
 pub ok_is : {A : Type 0} (a b : A) → ◌≡◌ {A = Result A Misread} (Ok a) (Ok b) → a ≡ b
 ok_is a b e = cc

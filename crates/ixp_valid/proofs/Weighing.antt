@@ -9,7 +9,7 @@ use Rattle.std.proofs.lemmas.Bool.{eqb-true}
 use Rattle.ixp_num.specs.declared.family.Family.{Family}
 use Rattle.ixp_num.specs.declared.family.Family.TheVariants.{V4, V6}
 use Rattle.ixp_num.specs.Families.{same_family}
-use Rattle.ixp_registry.specs.Keys.{version_of}
+use Rattle.ixp_num.specs.AddressForms.{version_of}
 use Rattle.ixp_places.specs.Told.{pair_told}
 use Rattle.ixp_valid.specs.Weights.{capped, share_of, list_cmp, weight_at}
 use Rattle.ixp_places.proofs.Counting.{and_left, and_right}

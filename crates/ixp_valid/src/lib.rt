@@ -1,9 +1,9 @@
 //! Which rule the rows of a registry break first, and where.
 //!
 //! [`first_breach`] answers as `breach` says (`Registries.antt` of ixp_registry): each sentence of the rules
-//! has a function of its name here, and a rule's place is the earliest of its sentences' places. No sentence
-//! takes longer than in proportion to the rows and the logarithm of their number, but for those that look at
-//! each VLAN or router together with the others.
+//! has a function of its name here, and a rule's place is the earliest of its sentences' places. The time is that
+//! of a look-up for each row, but for VLANs, each of which is compared with those before it, and for routers, each
+//! of which is compared with those before it, with the members and with the addresses.
 #![tactic(auto)]
 
 ghost use Rattle.std.specs.Prelude.{◌≡◌, ◌+◌, ◌<◌, ◌^◌, IfOk, length};

@@ -1,6 +1,6 @@
 //! Rule 13: the limits.
 ghost use Rattle.std.specs.Prelude.{◌≡◌, ◌+◌, ◌<◌, ◌^◌, [], ◌∷◌, IfOk, Some, None, not, nat_le, if◌then◌else◌};
-ghost use Rattle.ixp_registry.specs.Keys.{version_of};
+ghost use Rattle.ixp_num.specs.AddressForms.{version_of};
 ghost use Rattle.ixp_registry.specs.Lines.{keys_at};
 ghost use Rattle.ixp_registry.specs.Places.{first};
 ghost use Rattle.ixp_registry.specs.Rules.{owner_numbers, is_staff_number, owners_are_few, network_is_small, lists_are_short, public_lists_are_short, rule_13};
