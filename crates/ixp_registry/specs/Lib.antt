@@ -6,3 +6,4 @@ pub mod Places
 pub mod Registries
 pub mod Rules
 pub mod Sessions
+pub mod Kinds

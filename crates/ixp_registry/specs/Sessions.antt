@@ -39,12 +39,12 @@ sessions_of r router = filter (is_session r router) r.interfaces
 
 -- a session: its interface, its address there, its member, and the member's lists of the family and rules
 pub record Session : Type 0 where
-  interface : Interface
-  address : IfAddr
-  member : Member
-  prefixes : List Prefix
-  origins : List Asn
-  rules : List MemberRule
+  pub interface : Interface
+  pub address : IfAddr
+  pub member : Member
+  pub prefixes : List Prefix
+  pub origins : List Asn
+  pub rules : List MemberRule
 
 abbrev pub rules_of : Registry → ℕ → List MemberRule
 rules_of r member = filter (λ x. x.member == member) r.rules

@@ -8,6 +8,9 @@
 #![tactic(auto)]
 
 mod breach;
+mod edit_kind;
+mod handle;
+mod kind;
 mod lists;
 mod members;
 mod network;
@@ -19,10 +22,13 @@ mod rules;
 mod site;
 
 pub use breach::Breach;
+pub use edit_kind::EditKind;
+pub use handle::Handle;
+pub use kind::Kind;
 pub use lists::{IrrList, MemberOrigin, MemberPrefix, OriginList, PublicLists};
 pub use members::{ApiKey, Contact, Member, Owner, Status};
 pub use network::{AddressRow, IfAddr, Interface, InterfaceRow, Port, Switch, Vlan};
-pub use refusal::{Refusal, Right};
+pub use refusal::{Limited, Refusal, Right, RowKey, TextField};
 pub use registry::Registry;
 pub use router::Router;
 pub use rows::Rows;

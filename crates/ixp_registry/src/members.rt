@@ -7,7 +7,7 @@ use ixp_tables::Row;
 use std::cmp::Ordering;
 
 /// How far a member is in its life at the exchange. Only a connected one has sessions; one that has left has
-/// no interface and comes back by being connected again.
+/// no interface and stays so.
 #[derive(Clone, Copy, Debug, PartialEq, Eq)]
 pub enum Status {
     Noted,

@@ -1,6 +1,6 @@
 //! Why an edit is refused.
-use crate::Status;
-use ixp_num::{Asn, Family, Items};
+use crate::{EditKind, Handle, Kind, Status};
+use ixp_num::{Asn, Family};
 
 /// The right that a call asks for.
 #[derive(Clone, Copy, Debug, PartialEq, Eq)]
@@ -9,8 +9,39 @@ pub enum Right {
     Member(u32),
 }
 
-/// Why an edit is refused. Where several would stand, the first in this order does. `table` is the word with
-/// which a dump's line of the kind begins, or `weight`.
+/// What names a row among those of its kind, or the subject of an edit among those of its kind. It takes no memory.
+#[derive(Debug, Drop)]
+pub enum RowKey {
+    Number(u32),
+    /// Of a contact or a rule the member and the place; of an address or a list the interface or the member, and
+    /// the family, 4 or 6.
+    Pair(u32, u32),
+    /// A router's.
+    Handle(Handle),
+    /// The word of a public list: `bogons`, `bogon_as`, `transit` or `roas`.
+    Word(&'static str),
+}
+
+/// A text of an edit.
+#[derive(Clone, Copy, Debug, PartialEq, Eq)]
+pub enum TextField {
+    Name,
+    Macro,
+    Mail,
+    Role,
+    Secret,
+    Handle,
+}
+
+/// Of what there may not be more.
+#[derive(Clone, Copy, Debug, PartialEq, Eq)]
+pub enum Limited {
+    Rows(Kind),
+    /// The rows of prefix lists in all sessions together.
+    Weight,
+}
+
+/// Why an edit is refused. Where several would stand, the first in this order does.
 #[derive(Debug, Drop)]
 pub enum Refusal {
     /// X0: no API key has the secret.
@@ -21,8 +52,8 @@ pub enum Refusal {
     },
     /// X2: the request's number is kept for another kind of edit or another subject.
     KeyReused {
-        kind: &'static str,
-        subject: Items<u8>,
+        kind: EditKind,
+        subject: RowKey,
     },
     /// X3: the request's number is below the owner's floor.
     KeyOld {
@@ -30,12 +61,12 @@ pub enum Refusal {
     },
     /// X4: a row that is named isn't there.
     Unknown {
-        table: &'static str,
-        key: Items<u8>,
+        table: Kind,
+        key: RowKey,
     },
     /// X5: a text has another alphabet or length.
     BadText {
-        field: &'static str,
+        field: TextField,
     },
     /// X6: the AS number is reserved, or a member and a router would share one.
     AsnReserved {
@@ -51,8 +82,8 @@ pub enum Refusal {
     },
     /// X9: somebody has the address or the secret.
     Taken {
-        table: &'static str,
-        key: Items<u8>,
+        table: Kind,
+        key: RowKey,
     },
     /// X10: the port belongs to another member, or to none.
     PortTaken {
@@ -60,7 +91,7 @@ pub enum Refusal {
     },
     /// X11: a row with the key, or a member with the AS number, is there.
     Exists {
-        key: Items<u8>,
+        key: RowKey,
     },
     /// X12: the prefix overlaps with one of this VLAN.
     Overlap {
@@ -73,8 +104,8 @@ pub enum Refusal {
     },
     /// X14: a row still names the one that is to go.
     InUse {
-        table: &'static str,
-        key: Items<u8>,
+        table: Kind,
+        key: RowKey,
     },
     /// X15: a rule's action or a number is out of its bounds; `place` is the rule's, 0 where it is no rule.
     BadRule {
@@ -82,10 +113,34 @@ pub enum Refusal {
     },
     /// X16: there would be more rows than the limit.
     TooMany {
-        table: &'static str,
+        table: Limited,
         have: u64,
         limit: u64,
     },
+}
+
+impl TextField {
+    /// The name of the field in an edit's body, which is printed.
+    pub fn word(self) -> &'static str {
+        match self {
+            TextField::Name => "name",
+            TextField::Macro => "macro",
+            TextField::Mail => "mail",
+            TextField::Role => "role",
+            TextField::Secret => "secret",
+            TextField::Handle => "handle",
+        }
+    }
+}
+
+impl Limited {
+    /// The word that is printed.
+    pub fn word(self) -> &'static str {
+        match self {
+            Limited::Rows(kind) => kind.word(),
+            Limited::Weight => "weight",
+        }
+    }
 }
 
 impl Refusal {

@@ -82,7 +82,7 @@ module _ {R : Type 0} (key : R → List ℕ) where
   and_last P [] r all p = (p, tt)
   and_last P (s ∷ rs) r all p = (all.0, and_last P rs r all.1 p)
 
-  ascends_all : (rs : List R) (r : R) → Ascends key rs → AllByRecursion (λ s. order (key s) (key r) ≡ Less) rs → Ascends key (rs ++ r ∷ [])
+  pub ascends_all : (rs : List R) (r : R) → Ascends key rs → AllByRecursion (λ s. order (key s) (key r) ≡ Less) rs → Ascends key (rs ++ r ∷ [])
   ascends_all [] r up all = (tt, tt)
   ascends_all (s ∷ rs) r up all = (and_last (λ t. order (key s) (key t) ≡ Less) rs r up.0 all.0, ascends_all rs r up.1 all.1)
 

@@ -53,6 +53,14 @@ impl<R: Row> Table<R> {
         self.rows.as_slice()
     }
 
+    /// The rows, in the order of their keys. It takes no memory.
+    pub fn into_rows(self) -> Vec<R>
+        ensures rows { result.items ≡ self }
+        ensures ascends { Ascends R.key_of self }
+    {
+        self.rows
+    }
+
     /// How many rows there are.
     pub fn len(&self) -> usize
         ensures { result ≡ length self.now }
