@@ -91,7 +91,8 @@ pub fn has_left(rows: &Rows, number: u32) -> bool
     }
 }
 
-fn column(family: Family, vlan: &Vlan) -> Option<Prefix>
+/// The prefix that the VLAN has for a family.
+pub fn column(family: Family, vlan: &Vlan) -> Option<Prefix>
     ensures { result ≡ column family vlan.now }
 {
     match family {
@@ -116,13 +117,15 @@ fn is_edge(prefix: &Prefix, addr: &Addr) -> bool
     addr.value == prefix.value || is_last(prefix, addr)
 }
 
-fn is_host(prefix: &Prefix, addr: &Addr) -> bool
+/// Whether an interface or a router may have the address in a VLAN of the prefix.
+pub fn is_host(prefix: &Prefix, addr: &Addr) -> bool
     ensures { result ≡ is_host prefix.now addr.now }
 {
     prefix.contains(addr) && !is_edge(prefix, addr)
 }
 
-fn is_host_of(vlan: &Vlan, family: Family, addr: &Addr) -> bool
+/// Whether an interface or a router of the family may have the address in the VLAN.
+pub fn is_host_of(vlan: &Vlan, family: Family, addr: &Addr) -> bool
     ensures { result ≡ if_there (column family vlan.now) false (λ p. is_host p addr.now) }
 {
     match column(family, vlan) {

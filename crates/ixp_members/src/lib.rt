@@ -1,0 +1,11 @@
+//! What members may do: how their status changes, and who acts with a secret.
+#![tactic(auto)]
+
+mod owners;
+mod statuses;
+
+pub use owners::rights;
+pub use statuses::may_move;
+
+#[cfg(test)]
+mod tests;

@@ -1,0 +1,10 @@
+pub mod Accepting
+pub mod Firsts
+pub mod Gathering
+pub mod Keeping
+pub mod Prefixes
+pub mod Refusing
+pub mod Search
+pub mod Splits
+pub mod Takings
+pub mod Times

@@ -1,0 +1,5 @@
+pub mod Checks
+pub mod Free
+pub mod Holders
+pub mod Setting
+pub mod Uses
