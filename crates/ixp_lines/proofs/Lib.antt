@@ -1,5 +1,10 @@
+pub mod Again
+pub mod Fitting
 pub mod FreeTexts
 pub mod DigitWords
+pub mod Lawful
 pub mod Lengths
 pub mod Spelling
+pub mod Telling
+pub mod Unbroken
 pub mod Values

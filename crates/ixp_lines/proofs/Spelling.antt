@@ -214,7 +214,7 @@ piece_found p t d rest e = by_field (field_at t) refl e
     by_field None at e = absurd cc
     by_field (Some (front, more)) at e = by_value front more at (value_of p front) refl e
 
-joined : (d : Field) (ds : List Field) (rest : List ℕ) → 32 ∷ (field_text d ++ (spelled ds ++ rest)) ≡ spelled (d ∷ ds) ++ rest
+pub joined : (d : Field) (ds : List Field) (rest : List ℕ) → 32 ∷ (field_text d ++ (spelled ds ++ rest)) ≡ spelled (d ∷ ds) ++ rest
 joined d ds rest =
     let texts = flat_map (λ (field : Field). 32 ∷ field_text field) ds in
     sym (ap (λ x. x ++ rest) (append_assoc (32 ∷ field_text d) texts (10 ∷ [])) ∙ append_assoc (32 ∷ field_text d) (texts ++ 10 ∷ []) rest)

@@ -1,5 +1,5 @@
 -- The lines of a dump: for each kind of row its word, its fields, and how many of them are its key.
-use Rattle.std.specs.Prelude.{◌≡◌, ℕ, ◌<◌, ◌≤◌, List, [], ◌∷◌, ◌++◌, flat_map, map, take, codes, decimal, Bool, true, false, Option, Some, None, if◌then◌else◌, refl}
+use Rattle.std.specs.Prelude.{◌≡◌, ℕ, ◌<◌, ◌≤◌, ◌⊎◌, List, [], ◌∷◌, ◌++◌, flat_map, map, take, codes, decimal, Bool, true, false, Option, Some, None, if◌then◌else◌, refl}
 use Rattle.ixp_num.specs.declared.family.Family.{Family}
 use Rattle.ixp_num.specs.declared.family.Family.TheVariants.{V4, V6}
 use Rattle.ixp_num.specs.declared.addr.Addr.{Addr}
@@ -30,11 +30,12 @@ use Rattle.ixp_registry.specs.declared.rules.Action.{Action}
 use Rattle.ixp_registry.specs.declared.rules.Action.TheVariants.{AsIs, Prepend, Stop}
 use Rattle.ixp_num.specs.AddressForms.{version_of}
 use Rattle.ixp_registry.specs.Places.{same}
-use Rattle.ixp_lines.specs.declared.kinds.Kind.{Kind}
-use Rattle.ixp_lines.specs.declared.kinds.Kind.TheVariants.{Sites, Members, Contacts, Keys, Switches, Ports, Vlans, Interfaces, Addresses, Routers, Prefixes, Origins, Rules, Bogons, BogonAs, Transit, Roas}
+use Rattle.ixp_registry.specs.Kinds.{word_of}
+use Rattle.ixp_registry.specs.declared.kind.Kind.{Kind}
+use Rattle.ixp_registry.specs.declared.kind.Kind.TheVariants.{Sites, Members, Contacts, Keys, Switches, Ports, Vlans, Interfaces, Addresses, Routers, Prefixes, Origins, Rules, Bogons, BogonAs, Transit, Roas}
 use Rattle.ixp_lines.specs.declared.version.Version.{Version}
 use Rattle.ixp_lines.specs.declared.version.Version.TheVariants.{One, Two}
-use Rattle.ixp_lines.specs.Fields.{Field, Number, Octet, Word, Free, Secret, Handle, Address, Net, Bounds, field_text, Piece, ANumber, AnOctet, OneOf, AFree, ASecret, AHandle, AnAddress, AnIdentifier, ANet, ABounds, Or, AllFit}
+use Rattle.ixp_lines.specs.Fields.{Field, Number, Octet, Word, Free, Secret, Handle, Address, Net, Bounds, field_text, Piece, ANumber, AnOctet, OneOf, AFree, ASecret, AHandle, AnAddress, AnIdentifier, ANet, ABounds, Or, Fits, AllFit}
 
 -- Words
 abbrev pub status_word : Status → List ℕ
@@ -149,6 +150,21 @@ abbrev pub router_line : Version → Router → Line
 router_line One r = record { kind = Routers; fields = router_fields r }
 router_line Two r = record { kind = Routers; fields = router_fields r ++ field_or (codes "-") address_field r.blackhole ∷ Number r.max_comms ∷ [] }
 
+-- a router of the first version has no blackhole address and no bound on communities
+abbrev pub IsOfVersion : Version → Router → Type 0
+IsOfVersion One r = (r.blackhole ≡ None) × (r.max_comms ≡ 0)
+IsOfVersion Two r = Unit {0}
+
+-- an action that has a word
+abbrev pub IsAction : Action → Type 0
+IsAction AsIs = Unit {0}
+IsAction (Prepend n) = (n ≡ 1) ⊎ (n ≡ 2) ⊎ (n ≡ 3)
+IsAction Stop = Unit {0}
+
+-- bytes that can stand as a secret
+abbrev pub IsSecret : List ℕ → Type 0
+IsSecret t = Fits ASecret (Secret t)
+
 abbrev pub prefix_line : MemberPrefix → Line
 prefix_line p = record { kind = Prefixes; fields = Number p.member ∷ net_field p.prefix ∷ [] }
 
@@ -193,26 +209,6 @@ place_of Bogons = 14
 place_of BogonAs = 15
 place_of Transit = 16
 place_of Roas = 17
-
--- the word with which the lines of a kind begin
-abbrev pub word_of : Kind → List ℕ
-word_of Sites = codes "site"
-word_of Members = codes "member"
-word_of Contacts = codes "contact"
-word_of Keys = codes "key"
-word_of Switches = codes "switch"
-word_of Ports = codes "port"
-word_of Vlans = codes "vlan"
-word_of Interfaces = codes "interface"
-word_of Addresses = codes "address"
-word_of Routers = codes "router"
-word_of Prefixes = codes "prefix"
-word_of Origins = codes "origin"
-word_of Rules = codes "rule"
-word_of Bogons = codes "bogon"
-word_of BogonAs = codes "bogon-as"
-word_of Transit = codes "transit"
-word_of Roas = codes "roa"
 
 abbrev pub router_form : Version → List Piece
 router_form One = AHandle ∷ ANumber ∷ families ∷ AnAddress ∷ ANumber ∷ AnIdentifier ∷ ANumber ∷ ANumber ∷ flags ∷ []

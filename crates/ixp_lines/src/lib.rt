@@ -8,8 +8,8 @@
 
 mod fault;
 mod fields;
+mod form;
 mod free;
-mod kinds;
 mod lined;
 mod lists;
 mod network;
@@ -24,7 +24,8 @@ mod words;
 
 pub use fault::Unread;
 pub use free::ESCAPED;
-pub use kinds::Kind;
+pub use ixp_registry::Kind;
 pub use lined::Lined;
+pub use network::{address_has_form, print_address};
 pub use printing::word_of;
 pub use version::Version;

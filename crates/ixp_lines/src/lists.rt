@@ -2,10 +2,11 @@
 ghost use Rattle.std.specs.Prelude.{◌∷◌, [], ℕ, refl};
 ghost use Rattle.std.proofs.Common.{ap};
 ghost use Rattle.ixp_registry.specs.Keys.{member_prefix_key, member_origin_key, rule_key, bogon_key, bogon_as_key, transit_key, roa_key};
-ghost use Rattle.ixp_lines.specs.declared.kinds.Kind.TheVariants as of;
-ghost use Rattle.ixp_lines.specs.Lines.{prefix_line, origin_line, rule_line, bogon_line, bogon_as_line, transit_line, roa_line, version_again};
+ghost use Rattle.ixp_registry.specs.declared.kind.Kind.TheVariants as of;
+ghost use Rattle.ixp_lines.specs.Lines.{IsAction, prefix_line, origin_line, rule_line, bogon_line, bogon_as_line, transit_line, roa_line, version_again};
 
 use crate::fields::end_of;
+use crate::form::fits_if_some;
 use crate::numbers::{asn_of, asn_or_star, bounds_of, net_of, net_or_star, number_of, octet_of};
 use crate::printing::{Shown, asn_shown, net_shown, put_line};
 use crate::words::{action_of, family_of, family_word, way_of, way_word};
@@ -46,6 +47,11 @@ impl Lined for MemberPrefix {
 
     fn order_lines(&self, other: &MemberPrefix) -> Ordering {
         self.order(other)
+    }
+
+    #[tactic(auto, using(crate::proofs::Lawful::prefix_lawful))]
+    fn has_form(&self, _version: Version) {
+        let _member = self.member;
     }
 
     ghost keyed = { λ version row. refl };
@@ -92,6 +98,12 @@ impl Lined for MemberOrigin {
         self.order(other)
     }
 
+    #[tactic(auto, using(crate::proofs::Lawful::origin_lawful))]
+    fn has_form(&self, _version: Version) {
+        let _member = self.member;
+        let _asn_0 = self.asn.0;
+    }
+
     ghost keyed = { λ version o. ap (λ n. o.member ∷ n ∷ o.asn.0 ∷ []) (version_again o.family) };
 }
 
@@ -101,6 +113,8 @@ impl Lined for MemberRule {
     ghost fields = { λ version row. (rule_line row).fields };
 
     ghost key = { rule_key };
+
+    ghost spellable = { λ row. IsAction row.action };
 
     fn kind() -> Kind {
         Kind::Rules
@@ -141,6 +155,12 @@ impl Lined for MemberRule {
         self.order(other)
     }
 
+    fn has_form(&self, _version: Version) {
+        let _member = self.member;
+        let _place = self.place;
+        fits_if_some(self.peer);
+    }
+
     ghost keyed = { λ version row. refl };
 }
 
@@ -168,6 +188,12 @@ impl Lined for Pattern {
 
     fn order_lines(&self, other: &Pattern) -> Ordering {
         self.cmp(other)
+    }
+
+    #[tactic(auto, using(crate::proofs::Lawful::bogon_lawful))]
+    fn has_form(&self, _version: Version) {
+        let _low = self.low;
+        let _high = self.high;
     }
 
     ghost keyed = { λ version row. refl };
@@ -200,6 +226,12 @@ impl Lined for (Asn, Asn) {
         self.0.cmp(&other.0).then(self.1.cmp(&other.1))
     }
 
+    #[tactic(auto, using(crate::proofs::Lawful::bogon_as_lawful))]
+    fn has_form(&self, _version: Version) {
+        let _number_0 = self.0.0;
+        let _number_1 = self.1.0;
+    }
+
     ghost keyed = { λ version row. refl };
 }
 
@@ -227,6 +259,11 @@ impl Lined for Asn {
 
     fn order_lines(&self, other: &Asn) -> Ordering {
         self.cmp(other)
+    }
+
+    #[tactic(auto, using(crate::proofs::Lawful::transit_lawful))]
+    fn has_form(&self, _version: Version) {
+        let _number_0 = self.0;
     }
 
     ghost keyed = { λ version row. refl };
@@ -263,6 +300,12 @@ impl Lined for Roa {
 
     fn order_lines(&self, other: &Roa) -> Ordering {
         self.cmp(other)
+    }
+
+    #[tactic(auto, using(crate::proofs::Lawful::roa_lawful))]
+    fn has_form(&self, _version: Version) {
+        let _max = self.max;
+        let _asn_0 = self.asn.0;
     }
 
     ghost keyed = { λ version row. refl };

@@ -1,10 +1,12 @@
 //! Lines of switches, ports, VLANs, interfaces and their addresses.
-ghost use Rattle.std.specs.Prelude.{refl};
+ghost use Rattle.std.specs.Prelude.{◌≡◌, ◌++◌, OnOk, refl};
 ghost use Rattle.ixp_registry.specs.Keys.{switch_key, port_key, vlan_key, interface_row_key, address_key};
-ghost use Rattle.ixp_lines.specs.declared.kinds.Kind.TheVariants as of;
-ghost use Rattle.ixp_lines.specs.Lines.{switch_line, port_line, vlan_line, interface_line, address_line};
+ghost use Rattle.ixp_registry.specs.declared.kind.Kind.TheVariants as of;
+ghost use Rattle.ixp_lines.specs.declared.version.Version.{Version as Format};
+ghost use Rattle.ixp_lines.specs.Lines.{IsLine, IsSecret, line_text, switch_line, port_line, vlan_line, interface_line, address_line};
 
 use crate::fields::end_of;
+use crate::form::are_bytes;
 use crate::free::{free_of, secret_of};
 use crate::numbers::{address_of, net_or_dash, number_of};
 use crate::printing::{Shown, net_shown, put_line};
@@ -44,6 +46,12 @@ impl Lined for Switch {
 
     fn order_lines(&self, other: &Switch) -> Ordering {
         self.order(other)
+    }
+
+    #[tactic(auto, using(crate::proofs::Lawful::switch_lawful))]
+    fn has_form(&self, _version: Version) {
+        let _number = self.number;
+        are_bytes(self.name.as_slice());
     }
 
     ghost keyed = { λ version row. refl };
@@ -92,6 +100,15 @@ impl Lined for Port {
         self.order(other)
     }
 
+    #[tactic(auto, using(crate::proofs::Lawful::port_lawful))]
+    fn has_form(&self, _version: Version) {
+        let _number = self.number;
+        let _switch = self.switch;
+        let _speed = self.speed;
+        let _member = self.member;
+        are_bytes(self.name.as_slice());
+    }
+
     ghost keyed = { λ version row. refl };
 }
 
@@ -136,6 +153,13 @@ impl Lined for Vlan {
 
     fn order_lines(&self, other: &Vlan) -> Ordering {
         self.order(other)
+    }
+
+    #[tactic(auto, using(crate::proofs::Lawful::vlan_lawful))]
+    fn has_form(&self, _version: Version) {
+        let _number = self.number;
+        let _tag = self.tag;
+        are_bytes(self.name.as_slice());
     }
 
     ghost keyed = { λ version row. refl };
@@ -185,7 +209,39 @@ impl Lined for InterfaceRow {
         self.order(other)
     }
 
+    #[tactic(auto, using(crate::proofs::Lawful::interface_lawful))]
+    fn has_form(&self, _version: Version) {
+        let _number = self.number;
+        let _member = self.member;
+        let _port = self.port;
+        let _vlan = self.vlan;
+    }
+
     ghost keyed = { λ version row. refl };
+}
+
+/// Adds the line of an interface's address.
+pub fn print_address(interface: u32, address: &IfAddr, out: &mut Vec<u8>) -> Result<(), AllocError>
+    ensures { OnOk result (out.new.items ≡ out.old.items ++ line_text (address_line (record { interface = interface; address = address.now }))) }
+{
+    let fields = [
+        Shown::Number(interface),
+        Shown::Address(address.addr),
+        Shown::Number(address.max_prefix),
+        Shown::Word(flag_word(address.rs)),
+        Shown::Word(flag_word(address.irr)),
+        Shown::Word(flag_word(address.more)),
+        Shown::Secret(address.secret.as_slice()),
+    ];
+    put_line(Kind::Addresses, &fields, out)
+}
+
+/// Does nothing. It is called for what it ensures: the line of an interface's address is of the format.
+#[tactic(auto, using(crate::proofs::Lawful::address_lawful))]
+pub fn address_has_form(interface: u32, address: &IfAddr)
+    ensures { (version : Format) → IsSecret address.now.secret → IsLine version (address_line (record { interface = interface; address = address.now })) }
+{
+    let _max_prefix = address.max_prefix;
 }
 
 impl Lined for AddressRow {
@@ -194,6 +250,8 @@ impl Lined for AddressRow {
     ghost fields = { λ version row. (address_line row).fields };
 
     ghost key = { address_key };
+
+    ghost spellable = { λ row. IsSecret row.address.secret };
 
     fn kind() -> Kind {
         Kind::Addresses
@@ -220,20 +278,15 @@ impl Lined for AddressRow {
     }
 
     fn print(&self, _version: Version, out: &mut Vec<u8>) -> Result<(), AllocError> {
-        let fields = [
-            Shown::Number(self.interface),
-            Shown::Address(self.address.addr),
-            Shown::Number(self.address.max_prefix),
-            Shown::Word(flag_word(self.address.rs)),
-            Shown::Word(flag_word(self.address.irr)),
-            Shown::Word(flag_word(self.address.more)),
-            Shown::Secret(self.address.secret.as_slice()),
-        ];
-        put_line(Kind::Addresses, &fields, out)
+        print_address(self.interface, &self.address, out)
     }
 
     fn order_lines(&self, other: &AddressRow) -> Ordering {
         self.order(other)
+    }
+
+    fn has_form(&self, _version: Version) {
+        address_has_form(self.interface, &self.address);
     }
 
     ghost keyed = { λ version row. refl };

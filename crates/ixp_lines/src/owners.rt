@@ -1,10 +1,11 @@
 //! Lines of the site, of members, their contacts, and API keys.
 ghost use Rattle.std.specs.Prelude.{◌∷◌, [], refl};
 ghost use Rattle.ixp_registry.specs.Keys.{member_key, contact_key, api_key_key};
-ghost use Rattle.ixp_lines.specs.declared.kinds.Kind.TheVariants as of;
-ghost use Rattle.ixp_lines.specs.Lines.{site_line, member_line, contact_line, key_line};
+ghost use Rattle.ixp_registry.specs.declared.kind.Kind.TheVariants as of;
+ghost use Rattle.ixp_lines.specs.Lines.{IsSecret, site_line, member_line, contact_line, key_line};
 
 use crate::fields::end_of;
+use crate::form::are_bytes;
 use crate::free::{free_of, secret_of};
 use crate::numbers::{asn_of, number_of};
 use crate::printing::{Shown, put_line};
@@ -50,6 +51,13 @@ impl Lined for Site {
 
     fn order_lines(&self, _other: &Site) -> Ordering {
         Ordering::Equal
+    }
+
+    #[tactic(auto, using(crate::proofs::Lawful::site_lawful))]
+    fn has_form(&self, _version: Version) {
+        let _ixp_id = self.ixp_id;
+        let _ixf_id = self.ixf_id;
+        are_bytes(self.shortname.as_slice());
     }
 
     ghost keyed = { λ version s. refl };
@@ -98,6 +106,14 @@ impl Lined for Member {
         self.order(other)
     }
 
+    #[tactic(auto, using(crate::proofs::Lawful::member_lawful))]
+    fn has_form(&self, _version: Version) {
+        let _number = self.number;
+        let _asn_0 = self.asn.0;
+        are_bytes(self.as_macro.as_slice());
+        are_bytes(self.name.as_slice());
+    }
+
     ghost keyed = { λ version row. refl };
 }
 
@@ -144,6 +160,15 @@ impl Lined for Contact {
         self.order(other)
     }
 
+    #[tactic(auto, using(crate::proofs::Lawful::contact_lawful))]
+    fn has_form(&self, _version: Version) {
+        let _member = self.member;
+        let _place = self.place;
+        are_bytes(self.role.as_slice());
+        are_bytes(self.mail.as_slice());
+        are_bytes(self.name.as_slice());
+    }
+
     ghost keyed = { λ version row. refl };
 }
 
@@ -153,6 +178,8 @@ impl Lined for ApiKey {
     ghost fields = { λ version row. (key_line row).fields };
 
     ghost key = { api_key_key };
+
+    ghost spellable = { λ row. IsSecret row.secret };
 
     fn kind() -> Kind {
         Kind::Keys
@@ -183,6 +210,12 @@ impl Lined for ApiKey {
 
     fn order_lines(&self, other: &ApiKey) -> Ordering {
         self.order(other)
+    }
+
+    #[tactic(auto, using(crate::proofs::Lawful::key_lawful))]
+    fn has_form(&self, _version: Version) {
+        let _number = self.number;
+        let _owner = owner_number(self.owner);
     }
 
     ghost keyed = { λ version row. refl };

@@ -2,7 +2,8 @@
 ghost use Rattle.std.specs.Prelude.{◌≡◌, ◌++◌, ◌∷◌, [], ◌<◌, List, OnOk, map, flat_map, length};
 ghost use Rattle.ixp_lines.specs.Fields.{field_text, Address};
 ghost use Rattle.ixp_num.specs.declared.family.Family.TheVariants.{V4};
-ghost use Rattle.ixp_lines.specs.Lines.{address_field, net_field, asn_field, field_or, action_word, text_of, word_of};
+ghost use Rattle.ixp_lines.specs.Lines.{address_field, net_field, asn_field, field_or, action_word, text_of};
+ghost use Rattle.ixp_registry.specs.Kinds.{word_of};
 ghost use Rattle.ixp_lines.specs.Printing.{shown};
 
 use crate::Kind;
@@ -85,25 +86,7 @@ pub fn word_of(kind: Kind) -> &'static [u8]
     ensures word { result.now ≡ word_of kind }
     ensures some { 0 < length result.now }
 {
-    match kind {
-        Kind::Sites => b"site",
-        Kind::Members => b"member",
-        Kind::Contacts => b"contact",
-        Kind::Keys => b"key",
-        Kind::Switches => b"switch",
-        Kind::Ports => b"port",
-        Kind::Vlans => b"vlan",
-        Kind::Interfaces => b"interface",
-        Kind::Addresses => b"address",
-        Kind::Routers => b"router",
-        Kind::Prefixes => b"prefix",
-        Kind::Origins => b"origin",
-        Kind::Rules => b"rule",
-        Kind::Bogons => b"bogon",
-        Kind::BogonAs => b"bogon-as",
-        Kind::Transit => b"transit",
-        Kind::Roas => b"roa",
-    }
+    kind.word().as_bytes()
 }
 
 /// Adds a line: the kind's word, a blank before each field, and the line's end.

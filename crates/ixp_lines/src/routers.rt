@@ -1,10 +1,10 @@
 //! Lines of route servers.
-ghost use Rattle.std.specs.Prelude.{◌≡◌, ◌∷◌, [], refl};
+ghost use Rattle.std.specs.Prelude.{◌≡◌, ◌∷◌, [], refl, IfOk};
 ghost use Rattle.std.proofs.Common.{rules};
 ghost use Rattle.ixp_registry.specs.Keys.{router_key};
-ghost use Rattle.ixp_lines.specs.declared.kinds.Kind.TheVariants as of;
+ghost use Rattle.ixp_registry.specs.declared.kind.Kind.TheVariants as of;
 ghost use Rattle.ixp_lines.specs.declared.version.Version.TheVariants.{One, Two};
-ghost use Rattle.ixp_lines.specs.Lines.{router_line, router_form};
+ghost use Rattle.ixp_lines.specs.Lines.{IsOfVersion, router_line, router_form};
 ghost use Rattle.ixp_lines.specs.Reading.{Gives, fields_at};
 
 use crate::fields::{end_of, handle_of};
@@ -18,7 +18,8 @@ use std::alloc::{AllocError, Global};
 use std::cmp::Ordering;
 
 fn read_one(alloc: Global, rest: &[u8]) -> Result<(Router, &[u8]), Unread>
-    ensures { Gives (λ x. ((router_line One x.0).fields, x.1.now)) result (fields_at (router_form One) rest.now) }
+    ensures reads { Gives (λ x. ((router_line One x.0).fields, x.1.now)) result (fields_at (router_form One) rest.now) }
+    ensures of_version { IfOk result (λ x. IsOfVersion One x.0) }
 {
     let (handle, rest) = handle_of(alloc, rest)?;
     let (vlan, rest) = number_of(rest)?;
@@ -84,6 +85,8 @@ impl Lined for Router {
 
     ghost key = { router_key };
 
+    ghost of_version = { IsOfVersion };
+
     fn kind() -> Kind {
         Kind::Routers
     }
@@ -117,6 +120,17 @@ impl Lined for Router {
 
     fn order_lines(&self, other: &Router) -> Ordering {
         self.order(other)
+    }
+
+    #[tactic(auto, using(crate::proofs::Lawful::router_lawful))]
+    fn has_form(&self, _version: Version) {
+        let _vlan = self.vlan;
+        let _asn_0 = self.asn.0;
+        let _id = self.id;
+        let _low = self.low;
+        let _high = self.high;
+        let _max_comms = self.max_comms;
+        let _handle = self.handle.as_bytes();
     }
 
     ghost keyed = { elim [ One ↦ (λ r. Prim.search rules) | Two ↦ (λ r. Prim.search rules) ] };

@@ -3,8 +3,8 @@ use Rattle.std.proofs.Common.{◌≡◌, ℕ, suc, ◌+◌, Bool, true, false, L
 use Rattle.ixp_registry.specs.declared.router.Router.{Router}
 use Rattle.ixp_registry.specs.declared.rows.Rows.{Rows}
 use Rattle.ixp_registry.specs.Places.{same}
-use Rattle.ixp_lines.specs.declared.kinds.Kind.{Kind}
-use Rattle.ixp_lines.specs.declared.kinds.Kind.TheVariants.{Sites, Members, Contacts, Keys, Switches, Ports, Vlans, Interfaces, Addresses, Routers, Prefixes, Origins, Rules, Bogons, BogonAs, Transit, Roas}
+use Rattle.ixp_registry.specs.declared.kind.Kind.{Kind}
+use Rattle.ixp_registry.specs.declared.kind.Kind.TheVariants.{Sites, Members, Contacts, Keys, Switches, Ports, Vlans, Interfaces, Addresses, Routers, Prefixes, Origins, Rules, Bogons, BogonAs, Transit, Roas}
 use Rattle.ixp_lines.specs.declared.version.Version.{Version}
 use Rattle.ixp_lines.specs.declared.version.Version.TheVariants.{One, Two}
 use Rattle.ixp_lines.specs.Fields.{Field}
@@ -75,10 +75,10 @@ chained version (k ∷ ks) js t = by_section (section version k t) (λ more. cha
 abbrev appended : List (List (List Field)) → Result (List (List (List Field)) × List ℕ) Misread → Result (List (List (List Field)) × List ℕ) Misread
 appended xs r = r >>= λ b. Ok (xs ++ b.0, b.1)
 
-abbrev list_kinds : List Kind
+abbrev pub list_kinds : List Kind
 list_kinds = owner_kinds ++ (network_kinds ++ (steering_kinds ++ public_kinds))
 
-lists_is : (version : Version) (t : List ℕ) → lists_at version t ≡ sections_at version list_kinds t
+pub lists_is : (version : Version) (t : List ℕ) → lists_at version t ≡ sections_at version list_kinds t
 lists_is version t = by_owners (sections_at version owner_kinds t) ∙ sym (chained version owner_kinds (network_kinds ++ (steering_kinds ++ public_kinds)) t)
   where
     by_public : (o n s : List (List (List Field))) (p : Result (List (List (List Field)) × List ℕ) Misread) → (p >>= λ p. Ok (o ++ (n ++ (s ++ p.0)), p.1)) ≡ appended o (appended n (appended s p))
@@ -104,7 +104,7 @@ lists_is version t = by_owners (sections_at version owner_kinds t) ∙ sym (chai
     by_owners (Ok o) =
         by_network o.0 (sections_at version network_kinds o.1) ∙ ap (appended o.0) (sym (chained version network_kinds (steering_kinds ++ public_kinds) o.1))
 
-abbrev dump_kinds : List Kind
+abbrev pub dump_kinds : List Kind
 dump_kinds = Sites ∷ list_kinds
 
 abbrev with_site : List Field → Result (List (List (List Field)) × List ℕ) Misread → Result (List (List (List Field)) × List ℕ) Misread
@@ -143,7 +143,7 @@ rows_spelt version t xss rest e = by_head (after_text (head_text version) t) ref
     by_head None at e = absurd (err_ok (Bad (length t)) (xss, rest) e)
     by_head (Some body) at e = by_site body (head_found body at) (line_at version Sites body) refl e
 
-end_spelt : (version : Version) (lines : ℕ) (t : List ℕ) → ended version lines t ≡ None → t ≡ end_text lines
+pub end_spelt : (version : Version) (lines : ℕ) (t : List ℕ) → ended version lines t ≡ None → t ≡ end_text lines
 unfolding ended
 end_spelt version lines t e = by_test (same (take (length (end_text lines)) t) (end_text lines)) refl e
   where

@@ -1,10 +1,11 @@
 -- Rows that follow one another.
 use Rattle.std.proofs.Common.{◌≡◌, ℕ, zero, suc, ◌+◌, ◌-◌, ◌<◌, ◌≤◌, List, [], ◌∷◌, ◌++◌, length, map, Option, Some, None, option_map, IfSome, slice_get, Result, Ok, Err, refl, sym, ap, ◌∙◌, subst, arith, append_assoc, append-nil, length-append}
+use Rattle.std.specs.List.{AllByRecursion}
 use Rattle.std.specs.Ordering.{match_ordering}
 use Rattle.std.specs.declared.cmp.Ordering.{Ordering}
 use Rattle.std.specs.declared.cmp.Ordering.TheVariants.{Less, Equal, Greater}
 use Rattle.ixp_tables.specs.Tables.{order}
-use Rattle.ixp_lines.specs.declared.kinds.Kind.{Kind}
+use Rattle.ixp_registry.specs.declared.kind.Kind.{Kind}
 use Rattle.ixp_lines.specs.declared.version.Version.{Version}
 use Rattle.ixp_lines.specs.Fields.{Field}
 use Rattle.ixp_rows.specs.declared.misread.Misread.{Misread}
@@ -19,7 +20,12 @@ more_rows : (xs : List (List Field)) (fs : List Field) (r : Result (List (List F
 more_rows xs fs (Err f) = refl
 more_rows xs fs (Ok s) = ap (λ ys. Ok (ys, s.1)) (sym (append_assoc xs (fs ∷ []) s.0))
 
-last_of : {R : Type 0} (rows : List R) (row : R) → slice_get (rows ++ row ∷ []) (length (rows ++ row ∷ []) - 1) ≡ Some row
+-- what holds of all rows, and of one more
+pub all_and : {R : Type 0} (P : R → Type 0) (rows : List R) (row : R) → AllByRecursion P rows → P row → AllByRecursion P (rows ++ row ∷ [])
+all_and P [] row all here = (here, tt)
+all_and P (r ∷ rows) row all here = (all.0, all_and P rows row all.1 here)
+
+pub last_of : {R : Type 0} (rows : List R) (row : R) → slice_get (rows ++ row ∷ []) (length (rows ++ row ∷ []) - 1) ≡ Some row
 last_of [] row = refl
 last_of (r ∷ []) row = refl
 last_of (r ∷ s ∷ rows) row =

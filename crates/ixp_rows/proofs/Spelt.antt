@@ -1,10 +1,11 @@
 -- What is read is the text of its rows.
 use Rattle.std.proofs.Common.{◌≡◌, ℕ, zero, suc, ◌+◌, Bool, true, false, ◌==◌, List, [], ◌∷◌, ◌++◌, length, take, drop, take-append-drop, append_assoc, append-nil, map, flat_map, Option, Some, None, option_map, Result, Ok, Err, refl, sym, ap, ◌∙◌, subst, arith, if◌then◌else◌}
-use Rattle.ixp_lines.specs.declared.kinds.Kind.{Kind}
-use Rattle.ixp_lines.specs.declared.kinds.Kind.TheVariants.{Sites}
+use Rattle.ixp_registry.specs.declared.kind.Kind.{Kind}
+use Rattle.ixp_registry.specs.declared.kind.Kind.TheVariants.{Sites}
 use Rattle.ixp_lines.specs.declared.version.Version.{Version}
 use Rattle.ixp_lines.specs.Fields.{Field}
-use Rattle.ixp_lines.specs.Lines.{Line, form_of, word_of, spelled, text_of, line_text}
+use Rattle.ixp_registry.specs.Kinds.{word_of}
+use Rattle.ixp_lines.specs.Lines.{Line, form_of, spelled, text_of, line_text}
 use Rattle.ixp_lines.specs.Reading.{fields_at}
 use Rattle.ixp_lines.proofs.Spelling.{some_is, none_some, same_is, fields_found}
 use Rattle.ixp_registry.specs.Places.{same}

@@ -1,3 +1,7 @@
+pub mod Answers
+pub mod Dumps
+pub mod Gathering
 pub mod Groups
+pub mod Printing
 pub mod Reading
 pub mod Texts

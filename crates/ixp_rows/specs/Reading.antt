@@ -7,12 +7,13 @@ use Rattle.ixp_tables.specs.Tables.{order}
 use Rattle.ixp_registry.specs.Places.{same}
 use Rattle.std.specs.List.{list_any}
 use Rattle.std.specs.Option.{is_some, option_map_or}
-use Rattle.ixp_lines.specs.declared.kinds.Kind.{Kind}
-use Rattle.ixp_lines.specs.declared.kinds.Kind.TheVariants.{Sites, Members, Contacts, Keys, Switches, Ports, Vlans, Interfaces, Addresses, Routers, Prefixes, Origins, Rules, Bogons, BogonAs, Transit, Roas}
+use Rattle.ixp_registry.specs.declared.kind.Kind.{Kind}
+use Rattle.ixp_registry.specs.declared.kind.Kind.TheVariants.{Sites, Members, Contacts, Keys, Switches, Ports, Vlans, Interfaces, Addresses, Routers, Prefixes, Origins, Rules, Bogons, BogonAs, Transit, Roas}
 use Rattle.ixp_lines.specs.declared.version.Version.TheVariants.{One, Two}
 use Rattle.ixp_lines.specs.declared.version.Version.{Version}
 use Rattle.ixp_lines.specs.Fields.{Field}
-use Rattle.ixp_lines.specs.Lines.{Line, form_of, word_of, key_length, field_key}
+use Rattle.ixp_registry.specs.Kinds.{word_of}
+use Rattle.ixp_lines.specs.Lines.{Line, form_of, key_length, field_key}
 use Rattle.ixp_lines.specs.Reading.{fields_at}
 use Rattle.ixp_rows.specs.declared.fault.DumpFault.{DumpFault}
 use Rattle.ixp_rows.specs.declared.fault.DumpFault.TheVariants.{BadLine, Order as OutOfOrder, Twice as SameKey, Invalid, NoMemory as OutOfMemory}

@@ -1,7 +1,7 @@
 //! The end of a dump.
 ghost use Rattle.std.specs.Prelude.{◌≡◌, ◌++◌, ◌∷◌, [], length, IfOk};
 ghost use Rattle.std.specs.List.{list_any};
-ghost use Rattle.ixp_lines.specs.declared.kinds.Kind.TheVariants.{Sites};
+ghost use Rattle.ixp_registry.specs.declared.kind.Kind.TheVariants.{Sites};
 ghost use Rattle.ixp_rows.specs.Reading.{is_line_of, is_line, stray, end_text, ended};
 ghost use Rattle.ixp_rows.specs.Reading.{owner_kinds, network_kinds, steering_kinds, public_kinds};
 

@@ -1,8 +1,10 @@
 //! Rows that are read together.
 ghost use Rattle.std.specs.Prelude.{◌≡◌, ◌∷◌, [], IfOk};
+ghost use Rattle.std.specs.List.{AllByRecursion};
 ghost use Rattle.ixp_tables.specs.Tables.{Ascends};
 ghost use Rattle.ixp_registry.specs.Keys.{bogon_key, bogon_as_key, transit_key, roa_key};
-ghost use Rattle.ixp_lines.specs.declared.kinds.Kind.TheVariants as of;
+ghost use Rattle.ixp_registry.specs.declared.kind.Kind.TheVariants as of;
+ghost use Rattle.ixp_lines.specs.Lines.{IsOfVersion};
 ghost use Rattle.ixp_rows.specs.Reading.{Gives, sections_at};
 ghost use Rattle.ixp_rows.specs.Groups.{owner_fields, network_fields, steering_fields, public_fields};
 
@@ -92,7 +94,8 @@ pub(crate) fn read_steering(
     version: Version,
     text: &[u8],
 ) -> Result<(Steering, &[u8]), Misread>
-    ensures { Gives (λ x. (steering_fields version x.0, x.1.now)) result (sections_at version (of.Routers ∷ of.Prefixes ∷ of.Origins ∷ of.Rules ∷ []) text.now) }
+    ensures reads { Gives (λ x. (steering_fields version x.0, x.1.now)) result (sections_at version (of.Routers ∷ of.Prefixes ∷ of.Origins ∷ of.Rules ∷ []) text.now) }
+    ensures of_version { IfOk result (λ x. AllByRecursion (IsOfVersion version) x.0.routers) }
 {
     let (routers, rest) = section::<Router>(alloc, version, text)?;
     let (prefixes, rest) = section::<MemberPrefix>(alloc, version, rest)?;

@@ -1,5 +1,9 @@
 //! Reading of dumps.
 ghost use Rattle.std.specs.Prelude.{◌≡◌, ◌<◌, ◌≤◌, ◌+◌, ◌-◌, suc, length, take, IfOk, IfSome};
+ghost use Rattle.std.specs.List.{AllByRecursion};
+ghost use Rattle.ixp_lines.specs.Lines.{IsOfVersion};
+ghost use Rattle.ixp_rows.specs.Answers.{DumpAnswer};
+ghost use Rattle.ixp_rows.specs.Gathering.{PublicAscends};
 ghost use Rattle.ixp_rows.specs.Groups.{row_fields};
 ghost use Rattle.ixp_rows.specs.Groups.{IsRead};
 ghost use Rattle.ixp_rows.specs.Texts.{dump_text};
@@ -90,7 +94,9 @@ fn count(_version: Version, rows: &Rows) -> Option<usize>
 /// The rows of a dump of the version.
 #[tactic(auto, unfolding(crate::specs::Reading::dump_at))]
 fn dump_of(alloc: Global, version: Version, text: &[u8]) -> Result<Rows, Misread>
-    ensures { Gives (row_fields version) result (dump_at version text.now) }
+    ensures reads { Gives (row_fields version) result (dump_at version text.now) }
+    ensures public { IfOk result (λ rows. PublicAscends rows.public) }
+    ensures of_version { IfOk result (λ rows. AllByRecursion (IsOfVersion version) rows.routers) }
 {
     let (rows, rest) = rows_of(alloc, version, text)?;
     let Some(lines) = count(version, &rows) else {
@@ -103,10 +109,12 @@ fn dump_of(alloc: Global, version: Version, text: &[u8]) -> Result<Rows, Misread
 }
 
 /// The rows of a dump, whether or not they keep the rules. A fault is `BadLine`, `Order` or `Twice`.
-#[tactic(auto, using(crate::proofs::DumpsSpelt::rows_are_text))]
+#[tactic(auto, using(crate::proofs::DumpsSpelt::rows_are_text, crate::proofs::Answering::fault_answered))]
 pub fn read_rows(alloc: Global, version: Version, text: &[u8]) -> Result<Rows, DumpFault>
+    ensures answer { DumpAnswer version text.now result }
     ensures reads { IsRead version text.now result }
     ensures spelt { IfOk result (λ rows. text.now ≡ dump_text version rows) }
+    ensures public { IfOk result (λ rows. PublicAscends rows.public) }
 {
     match dump_of(alloc, version, text) {
         Ok(rows) => Ok(rows),

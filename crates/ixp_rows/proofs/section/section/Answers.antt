@@ -1,8 +1,9 @@
 use Rattle.std.proofs.Common.{◌≡◌, ◌∙◌, sym, subst, length, Ok, Some, None, option_map, List, map}
+use Rattle.std.specs.List.{AllByRecursion}
 use Rattle.ixp_tables.specs.Tables.{Ascends}
 use Rattle.ixp_tables.proofs.Views.{Ascends-more}
 use Rattle.ixp_rows.specs.Reading.{section}
-use Rattle.ixp_rows.proofs.Sections.{Reads, step, stop, fail, clash, fails, above}
+use Rattle.ixp_rows.proofs.Sections.{all_and, Reads, step, stop, fail, clash, fails, above}
 use Rattle.ixp_rows.proofs.section.section.Goals as goal
 
 pub returns-in-Some-clause-reads : goal.returns-in-Some-clause-reads
@@ -27,6 +28,8 @@ each-preserved g c =
       ascends = subst (λ rows. Ascends K rows) (sym c.in_ok-push-in-Ok-Some.ensures)
           (Ascends-more K c.each.rows.items c.in-Ok-Some.row c.each.invariant.ascends
           (above F K c.args.version g.K.Lined.row_kind whole c.each.rows.items c.in-Ok-Some.row (length c.each.rest.now) (sym (rw c.as_slice.ensures.value at c.in_default.ensures))));
+      of_version = subst (λ rows. AllByRecursion (g.K.Lined.of_version c.args.version) rows) (sym c.in_ok-push-in-Ok-Some.ensures)
+          (all_and (g.K.Lined.of_version c.args.version) c.each.rows.items c.in-Ok-Some.row c.each.invariant.of_version (rw c.in-Ok-Some.field-0-is at c.in-Ok-Some.ensures.of_version));
     }
 
 pub returns-in-Ok-None-clause-reads : goal.returns-in-Ok-None-clause-reads

@@ -1,4 +1,5 @@
 use Rattle.std.proofs.Common.{◌≡◌, length, suc}
+use Rattle.std.specs.List.{AllByRecursion}
 use Rattle.ixp_tables.specs.Tables.{Ascends}
 use Rattle.ixp_rows.specs.Reading.{section}
 use Rattle.ixp_rows.proofs.Sections.{Reads}
@@ -8,6 +9,7 @@ abbrev pub invariant-each : goal.invariant-each
 invariant-each g l = record {
   reads : Reads (g.K.Lined.fields l.version) g.K.Lined.key l.version g.K.Lined.row_kind (section l.version g.K.Lined.row_kind l.fn.text) l.rows.items l.rest;
   ascends : Ascends g.K.Lined.key l.rows.items;
+  of_version : AllByRecursion (g.K.Lined.of_version l.version) l.rows.items;
 }
 
 abbrev pub decreases-each : goal.decreases-each
