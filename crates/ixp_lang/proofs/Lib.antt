@@ -1,5 +1,9 @@
 pub mod CaseView
+pub mod DeadEnds
+pub mod ListDeadEnds
+pub mod LongLists
 pub mod NumberedNames
+pub mod PathSets
 pub mod PrintedRoutes
 pub mod RouteAnswerLaws
 pub mod RouteFields

@@ -17,7 +17,7 @@ bind_ok (Err left) f y e = absurd (let h : ⊥ = cc in h)
 abbrev pub IsNumberAt : ℕ → List ℕ → ℕ × List ℕ → Type 0
 IsNumberAt bound t p = (front : List ℕ) × (t ≡ front ++ p.1) × IsDecimal front p.0 × (p.0 ≤ bound)
 
-chosen : (bound n left : ℕ) (rest : List ℕ) (p : ℕ × List ℕ) → nat_le n bound ≡ true ⊎ nat_le n bound ≡ false → ◌≡◌ {A = Result (ℕ × List ℕ) ℕ} (cond (nat_le n bound) (Ok (n, rest)) (Err left)) (Ok p) → (n ≤ bound) × (p ≡ (n, rest))
+pub chosen : (bound n left : ℕ) (rest : List ℕ) (p : ℕ × List ℕ) → nat_le n bound ≡ true ⊎ nat_le n bound ≡ false → ◌≡◌ {A = Result (ℕ × List ℕ) ℕ} (cond (nat_le n bound) (Ok (n, rest)) (Err left)) (Ok p) → (n ≤ bound) × (p ≡ (n, rest))
 chosen bound n left rest p (inl low) e = (leb-true n bound low, (let there : ◌≡◌ {A = Result (ℕ × List ℕ) ℕ} (Ok (n, rest)) (Ok p) = ap (λ b. cond b (Ok (n, rest)) (Err left)) (sym low) ∙ e in cc))
 chosen bound n left rest p (inr high) e = absurd (let there : ◌≡◌ {A = Result (ℕ × List ℕ) ℕ} (Err left) (Ok p) = ap (λ b. cond b (Ok (n, rest)) (Err left)) (sym high) ∙ e in let h : ⊥ = cc in h)
 

@@ -31,7 +31,7 @@ comma_sound (c ∷ cs) next e = comma_step c cs next (cases_eq c 44) e
 comma_again : (next : List ℕ) → after_comma (44 ∷ next) ≡ Some next
 comma_again next = refl
 
-comma_missing : (t : List ℕ) → Ends (λ c. c ≡ 44) t → after_comma t ≡ None
+pub comma_missing : (t : List ℕ) → Ends (λ c. c ≡ 44) t → after_comma t ≡ None
 comma_missing [] ends = refl
 comma_missing (c ∷ cs) ends = cond-false (c == 44) (Some cs) None (ne_eqb c 44 ends)
 

@@ -13,7 +13,7 @@ use Rattle.ixp_lang.specs.RouteTexts.{IsAsnText, IsPairText, IsTripleText, AsnFi
 use Rattle.ixp_lang.proofs.RouteItems.{Spells, number_sound, mark_sound, asn_spells, pair_spells, triple_spells}
 use Rattle.ixp_lang.proofs.RouteListTexts.{texted_ok, comma_sound, IsItemsText, more_from, list_from}
 
-bind_cases : {A B : Type 0} (r : Result A ℕ) (f : A → Result B ℕ) (left : ℕ) → (r >>= f) ≡ Err left → (r ≡ Err left) ⊎ ((a : A) × (r ≡ Ok a) × (f a ≡ Err left))
+pub bind_cases : {A B : Type 0} (r : Result A ℕ) (f : A → Result B ℕ) (left : ℕ) → (r >>= f) ≡ Err left → (r ≡ Err left) ⊎ ((a : A) × (r ≡ Ok a) × (f a ≡ Err left))
 bind_cases (Ok a) f left e = inr (a, refl, e)
 bind_cases (Err l) f left e = inl (let same : l ≡ left = cc in ap Err same)
 
@@ -21,7 +21,7 @@ err_same : {A : Type 0} (l m : ℕ) → ◌≡◌ {A = Result A ℕ} (Err l) (Er
 err_same l m e = cc
 
 -- a number's fault is at its first byte
-abbrev bounded_number : ℕ → ℕ → ℕ × List ℕ → Result (ℕ × List ℕ) ℕ
+abbrev pub bounded_number : ℕ → ℕ → ℕ × List ℕ → Result (ℕ × List ℕ) ℕ
 bounded_number bound left p = cond (nat_le p.0 bound) (Ok p) (Err left)
 
 over : (bound left l : ℕ) (p : ℕ × List ℕ) → nat_le p.0 bound ≡ true ⊎ nat_le p.0 bound ≡ false → bounded_number bound left p ≡ Err l → l ≡ left
@@ -36,21 +36,21 @@ number_cases : (bound : ℕ) (t : List ℕ) (l : ℕ) → (number_at t ≡ Err l
 number_cases bound t l (inl e) = missing t l (number_split t) e
 number_cases bound t l (inr (p, there, e)) = over bound (length t) l p (cases_Bool (nat_le p.0 bound)) e
 
-number_stops : (bound : ℕ) (t : List ℕ) (l : ℕ) → number bound t ≡ Err l → l ≡ length t
+pub number_stops : (bound : ℕ) (t : List ℕ) (l : ℕ) → number bound t ≡ Err l → l ≡ length t
 number_stops bound t l e = number_cases bound t l (bind_cases (number_at t) (bounded_number bound (length t)) l e)
 
 mark_found : (b : ℕ) (t : List ℕ) (l : ℕ) → ((rest : List ℕ) × (t ≡ b ∷ rest)) ⊎ Ends (λ c. c ≡ b) t → mark_at b t ≡ Err l → l ≡ length t
 mark_found b t l (inl (rest, is)) e = absurd (let there : ◌≡◌ {A = Result (List ℕ) ℕ} (Ok rest) (Err l) = sym (mark_again b rest) ∙ (ap (mark_at b) (sym is) ∙ e) in let h : ⊥ = cc in h)
 mark_found b t l (inr ends) e = let there : ◌≡◌ {A = Result (List ℕ) ℕ} (Err (length t)) (Err l) = sym (mark_missing b t ends) ∙ e in sym (err_same (length t) l there)
 
-mark_stops : (b : ℕ) (t : List ℕ) (l : ℕ) → mark_at b t ≡ Err l → l ≡ length t
+pub mark_stops : (b : ℕ) (t : List ℕ) (l : ℕ) → mark_at b t ≡ Err l → l ≡ length t
 mark_stops b t l e = mark_found b t l (mark_split b t) e
 
 zero_text : IsDecimal (48 ∷ []) 0
 zero_text = ((omega arith, omega arith), (λ e. refl), tt, refl)
 
 -- the text but for its last `left` bytes is the beginning of an item
-abbrev BeginsItem : {A : Type 0} → (A → List ℕ → Type 0) → (A → Type 0) → List ℕ → ℕ → Type 0
+abbrev pub BeginsItem : {A : Type 0} → (A → List ℕ → Type 0) → (A → Type 0) → List ℕ → ℕ → Type 0
 BeginsItem {A} Is Fits t left = (front rest more : List ℕ) × (x : A) × (t ≡ front ++ rest) × (length rest ≡ left) × Is x (front ++ more) × Fits x
 
 abbrev asn_with : ℕ → Asn
@@ -60,7 +60,7 @@ asn_cases : (t : List ℕ) (l : ℕ) → (number 4294967295 t ≡ Err l) ⊎ ((a
 asn_cases t l (inl e) = ([], t, 48 ∷ [], asn_with 0, refl, sym (number_stops 4294967295 t l e), zero_text, omega arith)
 asn_cases t l (inr (a, e, there)) = absurd (let h : ⊥ = cc in h)
 
-asn_stops : (t : List ℕ) (l : ℕ) → asn_item t ≡ Err l → BeginsItem IsAsnText AsnFits t l
+pub asn_stops : (t : List ℕ) (l : ℕ) → asn_item t ≡ Err l → BeginsItem IsAsnText AsnFits t l
 asn_stops t l e = asn_cases t l (bind_cases (number 4294967295 t) (λ a. Ok (asn_with a.0, a.1)) l e)
 
 -- communities
@@ -87,7 +87,7 @@ pair_cases t l (inr (a, e, there)) =
     let first = number_sound 65535 t a (lit< tt) e in
     pair_mark t first.0 a.1 a.0 l first.1 first.2 first.3 (bind_cases (mark_at 58 a.1) (second_of a.0) l there)
 
-pair_stops : (t : List ℕ) (l : ℕ) → pair_item t ≡ Err l → BeginsItem IsPairText PairFits t l
+pub pair_stops : (t : List ℕ) (l : ℕ) → pair_item t ≡ Err l → BeginsItem IsPairText PairFits t l
 pair_stops t l e = pair_cases t l (bind_cases (number 65535 t) after_first l e)
 
 -- large communities
@@ -135,20 +135,24 @@ triple_cases t l (inr (a, e, there)) =
     let first = number_sound 4294967295 t a (lit< tt) e in
     triple_mark t first.0 a.1 a.0 l first.1 first.2 first.3 (bind_cases (mark_at 58 a.1) (two_of a.0) l there)
 
-triple_stops : (t : List ℕ) (l : ℕ) → triple_item t ≡ Err l → BeginsItem IsTripleText TripleFits t l
+pub triple_stops : (t : List ℕ) (l : ℕ) → triple_item t ≡ Err l → BeginsItem IsTripleText TripleFits t l
 triple_stops t l e = triple_cases t l (bind_cases (number 4294967295 t) after_one l e)
 
 -- lists
 
-then_cases : {A B : Type 0} (r : Result A Stop) (f : A → Result B Stop) (s : Stop) → (r then f) ≡ Err s → (r ≡ Err s) ⊎ ((a : A) × (r ≡ Ok a) × (f a ≡ Err s))
+pub then_cases : {A B : Type 0} (r : Result A Stop) (f : A → Result B Stop) (s : Stop) → (r then f) ≡ Err s → (r ≡ Err s) ⊎ ((a : A) × (r ≡ Ok a) × (f a ≡ Err s))
 then_cases (Ok a) f s e = inr (a, refl, e)
 then_cases (Err x) f s e = inl (let same : x ≡ s = cc in ap Err same)
 
-texted_err : {A : Type 0} (r : Result A ℕ) (l : ℕ) → texted r ≡ Err (Text l) → r ≡ Err l
+pub passed_on : {B C : Type 0} (r : Result B Stop) (f : B → C) (s : Stop) → (r then λ q. Ok (f q)) ≡ Err s → r ≡ Err s
+passed_on (Ok q) f s e = absurd (let h : ⊥ = cc in h)
+passed_on (Err x) f s e = let same : x ≡ s = cc in ap Err same
+
+pub texted_err : {A : Type 0} (r : Result A ℕ) (l : ℕ) → texted r ≡ Err (Text l) → r ≡ Err l
 texted_err (Ok a) l e = absurd (let h : ⊥ = cc in h)
 texted_err (Err m) l e = let same : m ≡ l = cc in ap Err same
 
-too_many_text : (b : Bool) (t : List ℕ) (l : ℕ) → one_too_many b t ≡ Text l → length t ≡ l
+pub too_many_text : (b : Bool) (t : List ℕ) (l : ℕ) → one_too_many b t ≡ Text l → length t ≡ l
 too_many_text true t l e = absurd (let h : ⊥ = cc in h)
 too_many_text false t l e = cc
 

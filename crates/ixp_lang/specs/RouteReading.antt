@@ -121,6 +121,11 @@ abbrev pub whole : Route → List ℕ → Result Route Stop
 whole r [] = Ok r
 whole r (c ∷ cs) = Err (Text (suc (length cs)))
 
+-- nothing more
+abbrev pub at_end : List ℕ → Result (List ℕ) Stop
+at_end [] = Ok []
+at_end (c ∷ cs) = Err (Text (suc (length cs)))
+
 -- behind a next hop: communities and large communities, and nothing more
 abbrev pub route_end : Prefix → List Asn → Addr → List ℕ → Result Route Stop
 route_end net path next_hop t =

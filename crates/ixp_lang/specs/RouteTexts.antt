@@ -1,8 +1,8 @@
 -- Which texts spell a route.
-use Rattle.std.specs.Prelude.{◌≡◌, ◌≤◌, ℕ, List, [], ◌∷◌, ◌++◌, length, codes, Ok}
+use Rattle.std.specs.Prelude.{◌≡◌, ◌<◌, ◌≤◌, ◌⊎◌, ℕ, List, [], ◌∷◌, ◌++◌, length, codes, Ok}
 use Rattle.std.specs.List.{AllByRecursion}
 use Rattle.ixp_num.specs.declared.asn.Asn.{Asn}
-use Rattle.ixp_num.specs.Forms.{IsDecimal}
+use Rattle.ixp_num.specs.Forms.{IsDecimal, Begins, StopsAt}
 use Rattle.ixp_num.specs.Answers.{AddrAnswer, PrefixAnswer}
 use Rattle.ixp_lang.specs.declared.route.Route.{Route}
 
@@ -66,3 +66,34 @@ pub record IsBounded (r : Route) : Type 0 where
 abbrev pub BeginsList : {A : Type 0} → (A → List ℕ → Type 0) → (A → Type 0) → List ℕ → ℕ → Type 0
 BeginsList {A} Is Fits t left =
     (front rest more : List ℕ) × (xs : List A) × (t ≡ front ++ rest) × (length rest ≡ left) × IsListText Is xs (front ++ more) × AllByRecursion Fits xs
+
+-- a text of a list whose numbers are within their bounds
+abbrev pub IsBoundedList : {A : Type 0} → (A → List ℕ → Type 0) → (A → Type 0) → List ℕ → Type 0
+IsBoundedList {A} Is Fits t = (xs : List A) × IsListText Is xs t × AllByRecursion Fits xs
+
+-- such a text, a blank, and what follows it
+abbrev pub IsFieldText : (List ℕ → Type 0) → List ℕ → Type 0
+IsFieldText L t = (field rest : List ℕ) × (t ≡ field ++ 32 ∷ rest) × L field
+
+-- at the place stands a number above the bound: some text of L goes on to it, and none goes on with it
+pub record ExceedsAt (L : List ℕ → Type 0) (bound : ℕ) (t : List ℕ) (place : ℕ) : Type 0 where
+  pub front : List ℕ
+  pub number : List ℕ
+  pub rest : List ℕ
+  pub value : ℕ
+  pub whole : t ≡ front ++ (number ++ rest)
+  pub here : length front ≡ place
+  pub is_number : IsDecimal number value
+  pub above : bound < value
+  pub begins : Begins L front
+  pub no_more : ¬ (Begins L (front ++ number))
+
+-- the place of the first byte with which no text of L goes on, or of the first byte of a number above the bound
+abbrev pub HaltsAt : (List ℕ → Type 0) → ℕ → List ℕ → ℕ → Type 0
+HaltsAt L bound t place = StopsAt L t place ⊎ ExceedsAt L bound t place
+
+-- the text but for its last `left` bytes is a list of 1,000 items and a comma, and what is left begins as an item does
+abbrev pub IsLongList : {A : Type 0} → (A → List ℕ → Type 0) → (A → Type 0) → List ℕ → ℕ → Type 0
+IsLongList {A} Is Fits t left =
+    (front rest : List ℕ) × (xs : List A) × (t ≡ front ++ 44 ∷ rest) × (length rest ≡ left) × IsListText Is xs front × AllByRecursion Fits xs × (length xs ≡ 1000)
+    × (c : ℕ) × (cs more : List ℕ) × (x : A) × (rest ≡ c ∷ cs) × Is x (c ∷ more) × Fits x

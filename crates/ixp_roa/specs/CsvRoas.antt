@@ -91,26 +91,26 @@ FirstMisfit rows why n = MisfitIn (under_header rows) (header_rows rows) why n
 abbrev pub IsOrdered : (Roa → Roa → Ordering) → List Roa → List Roa → Type 0
 IsOrdered order all rs = IsStrictlySortedBy order rs × ((r : Roa) → Contains all r → Contains rs r) × ((r : Roa) → Contains rs r → Contains all r)
 
--- a list of ROAs in order, if there are at most a million
-abbrev pub OrderedAnswer : (Roa → Roa → Ordering) → List Roa → Result (List Roa) RoaFault → Type 0
-OrderedAnswer order all (Ok rs) = IsOrdered order all rs × (length rs ≤ 1000000)
-OrderedAnswer order all (Err (fault.TooMany have)) = (rs : List Roa) × IsOrdered order all rs × (have ≡ length rs) × (1000000 < have)
-OrderedAnswer order all (Err (fault.Row n)) = ⊥
-OrderedAnswer order all (Err (fault.MaxLength n)) = ⊥
-OrderedAnswer order all (Err fault.NoMemory) = ⊥
+-- a list of ROAs in order, if there are at most so many
+abbrev pub OrderedAnswer : ℕ → (Roa → Roa → Ordering) → List Roa → Result (List Roa) RoaFault → Type 0
+OrderedAnswer most order all (Ok rs) = IsOrdered order all rs × (length rs ≤ most)
+OrderedAnswer most order all (Err (fault.TooMany have)) = (rs : List Roa) × IsOrdered order all rs × (have ≡ length rs) × (most < have)
+OrderedAnswer most order all (Err (fault.Row n)) = ⊥
+OrderedAnswer most order all (Err (fault.MaxLength n)) = ⊥
+OrderedAnswer most order all (Err fault.NoMemory) = ⊥
 
 -- what rows are: a list of ROAs, a misfit at the first row that is none, or too many
-abbrev pub RowsAnswer : (Roa → Roa → Ordering) → List (List (List ℕ)) → Result (List Roa) RoaFault → Type 0
-RowsAnswer order rows (Ok rs) = (all : List Roa) × AreRoas (under_header rows) all × OrderedAnswer order all (Ok rs)
-RowsAnswer order rows (Err (fault.Row n)) = FirstMisfit rows misfit.Form n
-RowsAnswer order rows (Err (fault.MaxLength n)) = FirstMisfit rows misfit.MaxLength n
-RowsAnswer order rows (Err (fault.TooMany have)) = (all : List Roa) × AreRoas (under_header rows) all × OrderedAnswer order all (Err (fault.TooMany have))
-RowsAnswer order rows (Err fault.NoMemory) = Unit {0}
+abbrev pub RowsAnswer : ℕ → (Roa → Roa → Ordering) → List (List (List ℕ)) → Result (List Roa) RoaFault → Type 0
+RowsAnswer most order rows (Ok rs) = (all : List Roa) × AreRoas (under_header rows) all × OrderedAnswer most order all (Ok rs)
+RowsAnswer most order rows (Err (fault.Row n)) = FirstMisfit rows misfit.Form n
+RowsAnswer most order rows (Err (fault.MaxLength n)) = FirstMisfit rows misfit.MaxLength n
+RowsAnswer most order rows (Err (fault.TooMany have)) = (all : List Roa) × AreRoas (under_header rows) all × OrderedAnswer most order all (Err (fault.TooMany have))
+RowsAnswer most order rows (Err fault.NoMemory) = Unit {0}
 
--- The rows of the text are such (RFC 4180, as the csv crate reads it). `order` is the one of the answer.
+-- The rows of the text are such (RFC 4180, as the csv crate reads it), with at most a million ROAs. `order` is the one of the answer.
 abbrev pub CsvAnswer : (Roa → Roa → Ordering) → List ℕ → Result (List Roa) RoaFault → Type 0
 CsvAnswer order t (Err fault.NoMemory) = Unit {0}
-CsvAnswer order t (Ok rs) = (rows : List (List (List ℕ))) × AreRecords default_config state.StartRecord (strip_bom t) rows × RowsAnswer order rows (Ok rs)
-CsvAnswer order t (Err (fault.Row n)) = (rows : List (List (List ℕ))) × AreRecords default_config state.StartRecord (strip_bom t) rows × RowsAnswer order rows (Err (fault.Row n))
-CsvAnswer order t (Err (fault.MaxLength n)) = (rows : List (List (List ℕ))) × AreRecords default_config state.StartRecord (strip_bom t) rows × RowsAnswer order rows (Err (fault.MaxLength n))
-CsvAnswer order t (Err (fault.TooMany n)) = (rows : List (List (List ℕ))) × AreRecords default_config state.StartRecord (strip_bom t) rows × RowsAnswer order rows (Err (fault.TooMany n))
+CsvAnswer order t (Ok rs) = (rows : List (List (List ℕ))) × AreRecords default_config state.StartRecord (strip_bom t) rows × RowsAnswer 1000000 order rows (Ok rs)
+CsvAnswer order t (Err (fault.Row n)) = (rows : List (List (List ℕ))) × AreRecords default_config state.StartRecord (strip_bom t) rows × RowsAnswer 1000000 order rows (Err (fault.Row n))
+CsvAnswer order t (Err (fault.MaxLength n)) = (rows : List (List (List ℕ))) × AreRecords default_config state.StartRecord (strip_bom t) rows × RowsAnswer 1000000 order rows (Err (fault.MaxLength n))
+CsvAnswer order t (Err (fault.TooMany n)) = (rows : List (List (List ℕ))) × AreRecords default_config state.StartRecord (strip_bom t) rows × RowsAnswer 1000000 order rows (Err (fault.TooMany n))

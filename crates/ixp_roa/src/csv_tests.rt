@@ -1,6 +1,7 @@
 //! ROAs in CSV.
+use crate::csv_text::{listed, rows_of};
 use crate::{RoaFault, RoaTable};
-use ixp_num::{Roa, print_prefix};
+use ixp_num::{Items, Roa, print_prefix};
 use std::test::Fail;
 
 /// Adds ` <prefix> <max> <asn>`.
@@ -30,11 +31,23 @@ fn told_fault(rt: &HostRuntime, fault: &RoaFault) -> Result<Vec<u8>, Fail> {
     Ok(text.into_bytes())
 }
 
-/// The ROAs of the text, or the fault.
-fn told(rt: &HostRuntime, text: &[u8]) -> Result<Vec<u8>, Fail> {
-    match RoaTable::from_csv(rt.alloc(), text) {
+fn told_answer(rt: &HostRuntime, answer: Result<Items<Roa>, RoaFault>) -> Result<Vec<u8>, Fail> {
+    match answer {
         Ok(roas) => told_roas(rt, roas.as_slice()),
         Err(fault) => told_fault(rt, &fault),
+    }
+}
+
+/// The ROAs of the text, or the fault.
+fn told(rt: &HostRuntime, text: &[u8]) -> Result<Vec<u8>, Fail> {
+    told_answer(rt, RoaTable::from_csv(rt.alloc(), text))
+}
+
+/// The same, where at most so many ROAs may be distinct.
+fn told_of(rt: &HostRuntime, text: &[u8], most: usize) -> Result<Vec<u8>, Fail> {
+    match rows_of(rt.alloc(), text) {
+        Ok(rows) => told_answer(rt, listed(rt.alloc(), rows.as_slice(), most)),
+        Err(_) => told_fault(rt, &RoaFault::NoMemory),
     }
 }
 
@@ -91,6 +104,48 @@ fn roas_are_listed_in_order(rt: HostRuntime) -> Result<(), Fail> {
 fn the_first_row_that_is_none_is_told(rt: HostRuntime) -> Result<(), Fail> {
     for (text, want) in FAULTS {
         let have = told(&rt, text)?;
+        assert_eq!(rt; have.as_slice(), want);
+    }
+    Ok(())
+}
+
+const LIMITS: [(&[u8], usize, &[u8]); 7] = [
+    (b"", 0, b""),
+    (b"AS1,10.0.0.0/8,8\n", 0, b"O3 1"),
+    (
+        b"AS1,10.0.0.0/8,8\nAS2,10.0.0.0/8,8\nAS3,10.0.0.0/8,8\n",
+        2,
+        b"O3 3",
+    ),
+    (
+        b"AS1,10.0.0.0/8,8\nAS2,10.0.0.0/8,8\nAS3,10.0.0.0/8,8\n",
+        3,
+        b" 10.0.0.0/8 8 1 10.0.0.0/8 8 2 10.0.0.0/8 8 3",
+    ),
+    // of those that are equal one counts, and the header doesn't
+    (
+        b"ASN\nAS1,10.0.0.0/8,8\nAS2,10.0.0.0/8,8\n1,10.0.0.0/8,\n",
+        2,
+        b" 10.0.0.0/8 8 1 10.0.0.0/8 8 2",
+    ),
+    (
+        b"AS1,10.0.0.0/8,8\nAS2,10.0.0.0/8,8\nAS1,10.0.0.0/8,8\nAS1,10.0.0.0/8,9\n",
+        2,
+        b"O3 3",
+    ),
+    // a row that is none is told first
+    (
+        b"AS1,10.0.0.0/8,8\nAS2,10.0.0.0/8,8\nAS3,10.0.0.0/8\n",
+        1,
+        b"O1 3",
+    ),
+];
+
+/// More distinct ROAs than there may be are told with their number.
+#[test]
+fn too_many_are_told(rt: HostRuntime) -> Result<(), Fail> {
+    for (text, most, want) in LIMITS {
+        let have = told_of(&rt, text, most)?;
         assert_eq!(rt; have.as_slice(), want);
     }
     Ok(())

@@ -14,9 +14,6 @@ use csv::{ByteRecord, Error, ReaderBuilder};
 use ixp_num::{Family, Items, Roa};
 use std::alloc::Global;
 
-/// The most distinct ROAs of a text.
-const MOST: usize = 1_000_000;
-
 /// The rows of a text, which may differ in their number of fields. It fails for want of memory alone.
 pub(crate) fn rows_of(alloc: Global, t: &[u8]) -> Result<Vec<ByteRecord>, Error>
     ensures { IfOk result (λ v. AreRecords default_config st.StartRecord (strip_bom t.now) (map fields_of v.items)) }
@@ -119,24 +116,28 @@ fn equal_is_same()
 }
 
 /// The ROAs in order, if they aren't too many.
-fn in_order(mut roas: Vec<Roa>) -> Result<Items<Roa>, RoaFault>
-    ensures { OrderedAnswer ⟦<Roa as Ord>⟧.cmp roas.items result }
+fn in_order(mut roas: Vec<Roa>, most: usize) -> Result<Items<Roa>, RoaFault>
+    ensures { OrderedAnswer most ⟦<Roa as Ord>⟧.cmp roas.items result }
 {
     equal_is_same();
     put_in_order(&mut roas);
-    if MOST < roas.len() {
+    if most < roas.len() {
         return Err(RoaFault::TooMany { have: roas.len() });
     }
     Ok(Items::from_vec(roas))
 }
 
-/// The ROAs of rows, in order.
-pub(crate) fn listed(alloc: Global, rows: &[ByteRecord]) -> Result<Items<Roa>, RoaFault>
-    ensures { RowsAnswer ⟦<Roa as Ord>⟧.cmp (map fields_of rows.now) result }
+/// The ROAs of rows, in order, of which at most so many may be distinct.
+pub(crate) fn listed(
+    alloc: Global,
+    rows: &[ByteRecord],
+    most: usize,
+) -> Result<Items<Roa>, RoaFault>
+    ensures { RowsAnswer most ⟦<Roa as Ord>⟧.cmp (map fields_of rows.now) result }
 {
     let (rows, before) = under_header(rows);
     match roas_of(alloc, rows, before) {
-        Ok(roas) => in_order(roas),
+        Ok(roas) => in_order(roas, most),
         Err(fault) => Err(fault),
     }
 }

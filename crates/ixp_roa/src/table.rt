@@ -1,10 +1,13 @@
 //! A table of ROAs.
 use crate::csv_text::{listed, rows_of};
 use crate::fault::RoaFault;
-use crate::rows::{is_covered, is_matched};
+use crate::rows::validity;
 use ixp_num::{Asn, Items, Prefix, Roa, Validity};
 use std::alloc::{AllocError, Global};
 use std::marker::Model;
+
+/// The most distinct ROAs of a text.
+const MOST: usize = 1_000_000;
 
 /// A table of ROAs, as a filter's `roa_check` asks it.
 #[derive(Debug, Drop)]
@@ -41,7 +44,7 @@ impl RoaTable {
         ensures { CsvAnswer ⟦<Roa as Ord>⟧.cmp t.now result }
     {
         match rows_of(alloc, t) {
-            Ok(rows) => listed(alloc, rows.as_slice()),
+            Ok(rows) => listed(alloc, rows.as_slice(), MOST),
             Err(_) => Err(RoaFault::NoMemory),
         }
     }
@@ -50,14 +53,7 @@ impl RoaTable {
     pub fn validity(&self, net: &Prefix, origin: Asn) -> Validity
         ensures { result ≡ validity self.now net.now origin.0 }
     {
-        let rows = self.rows.as_slice();
-        if is_matched(rows, net, origin) {
-            Validity::Valid
-        } else if is_covered(rows, net) {
-            Validity::Invalid
-        } else {
-            Validity::Unknown
-        }
+        validity(self.rows.as_slice(), net, origin)
     }
 }
 
