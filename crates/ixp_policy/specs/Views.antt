@@ -1,0 +1,13 @@
+-- The session that the program's references are to.
+use Rattle.ixp_registry.specs.Sessions.{Session, rules_of}
+use Rattle.ixp_policy.specs.declared.session_rows.SessionRows.{SessionRows}
+
+abbrev pub session_of : SessionRows → Session
+session_of s = record {
+  interface = s.interface.now;
+  address = s.address.now;
+  member = s.member.now;
+  prefixes = s.prefixes.now;
+  origins = s.origins.now;
+  rules = rules_of s.registry.now s.interface.now.member;
+}

@@ -1,0 +1,187 @@
+//! What a receiver gets of a route.
+ghost use Rattle.std.specs.Prelude.{◌≡◌, ◌++◌, ◌==◌, IfOk, filter, not, replicate};
+ghost use Rattle.ixp_policy.specs.Export.{hop_of, is_for_server, is_of_server, lets_in, received, sent_route, server_actions, steered, times_of, wish};
+ghost use Rattle.ixp_registry.specs.Lookups.{if_there};
+ghost use Rattle.ixp_registry.specs.Sessions.{asked, rules_of};
+ghost use Rattle.std.specs.List.{list_any};
+ghost use Rattle.ixp_policy.specs.Views.{session_of};
+
+use crate::blackholes::is_blackhole;
+use crate::session_rows::SessionRows;
+use ixp_lang::Route;
+use ixp_num::{Addr, Asn, Items};
+use ixp_rows::{Action, MemberRule, Registry, Router};
+use ixp_steer::{asked, prepends, receives, sends};
+use std::alloc::{AllocError, Global};
+
+/// The second parts of a server's own large communities.
+const SERVER_ACTIONS: [u32; 8] = [0, 1, 101, 102, 103, 1000, 1001, 1101];
+
+/// The rules of a member.
+fn rules_of(alloc: Global, registry: &Registry, member: u32) -> Result<Vec<MemberRule>, AllocError>
+    ensures { IfOk result (λ v. v.items ≡ rules_of registry.now member) }
+{
+    let rules = registry.rules.as_slice();
+    rules
+        .iter()
+        .copied()
+        .filter(|rule| rule.member == member)
+        .collect(alloc)
+}
+
+fn times_of(action: Action) -> Option<u8>
+    ensures { result ≡ times_of action }
+{
+    match action {
+        Action::AsIs => Some(0),
+        Action::Prepend(times) => Some(times),
+        Action::Stop => None,
+    }
+}
+
+fn steered(rs: Asn, route: &Route, to: Asn) -> Option<u8>
+    ensures { result ≡ steered rs.0 route.now to.0 }
+{
+    if sends(rs, route, to) {
+        Some(prepends(rs, route, to))
+    } else {
+        None
+    }
+}
+
+fn wish_by(rules: &[MemberRule], rs: Asn, route: &Route, to: Asn) -> Option<u8>
+    ensures { result ≡ if_there (asked rules.now rs.0 route.now.net to.0) (steered rs.0 route.now to.0) times_of }
+{
+    match asked(rules, rs, &route.net, to) {
+        Some(action) => times_of(action),
+        None => steered(rs, route, to),
+    }
+}
+
+/// How often the sender's number is put in front for the receiver `to`, None where the route isn't to be sent.
+pub(crate) fn wish(
+    alloc: Global,
+    router: &Router,
+    sender: &SessionRows<'_>,
+    route: &Route,
+    to: Asn,
+) -> Result<Option<u8>, AllocError>
+    ensures { IfOk result (λ w. w ≡ wish router.now (session_of sender.now) route.now to.0) }
+{
+    let rules = rules_of(alloc, sender.registry, sender.interface.member)?;
+    Ok(wish_by(rules.as_slice(), router.asn, route, to))
+}
+
+fn lets_in(
+    alloc: Global,
+    receiver: &SessionRows<'_>,
+    sender: &SessionRows<'_>,
+    route: &Route,
+) -> Result<bool, AllocError>
+    ensures { IfOk result (λ b. b ≡ lets_in (session_of receiver.now) (session_of sender.now) route.now) }
+{
+    let rules = rules_of(alloc, receiver.registry, receiver.interface.member)?;
+    Ok(receives(rules.as_slice(), &route.net, sender.member.asn))
+}
+
+fn hop_of(router: &Router, route: &Route) -> Addr
+    ensures { result ≡ hop_of router.now route.now }
+{
+    if !is_blackhole(router, route) {
+        return route.next_hop;
+    }
+    match router.blackhole {
+        Some(addr) => addr,
+        None => route.next_hop,
+    }
+}
+
+fn is_for_server(rs: Asn, pair: (u32, u32)) -> bool
+    ensures { result ≡ is_for_server rs.0 pair }
+{
+    rs.0 <= 65535 && (pair.0 == 0 || pair.0 == rs.0)
+}
+
+fn is_server_action(number: u32) -> bool
+    ensures { result ≡ list_any (λ a. a == number) server_actions }
+{
+    SERVER_ACTIONS.iter().any(|a| *a == number)
+}
+
+fn is_of_server(rs: Asn, triple: (u32, u32, u32)) -> bool
+    ensures { result ≡ is_of_server rs.0 triple }
+{
+    triple.0 == rs.0 && is_server_action(triple.1)
+}
+
+fn sent_path(alloc: Global, sender: Asn, times: u8, path: &[Asn]) -> Result<Items<Asn>, AllocError>
+    ensures { IfOk result (λ p. p ≡ replicate times sender ++ path.now) }
+{
+    let mut items = Vec::new(alloc);
+    items.resize(usize::from(times), sender)?;
+    items.extend_from_slice(path)?;
+    Ok(Items::from_vec(items))
+}
+
+fn sent_pairs(alloc: Global, rs: Asn, pairs: &[(u32, u32)]) -> Result<Vec<(u32, u32)>, AllocError>
+    ensures { IfOk result (λ v. v.items ≡ filter (λ p. not (is_for_server rs.0 p)) pairs.now) }
+{
+    pairs
+        .iter()
+        .copied()
+        .filter(|p| !is_for_server(rs, *p))
+        .collect(alloc)
+}
+
+fn sent_triples(
+    alloc: Global,
+    rs: Asn,
+    triples: &[(u32, u32, u32)],
+) -> Result<Vec<(u32, u32, u32)>, AllocError>
+    ensures { IfOk result (λ v. v.items ≡ filter (λ t. not (is_of_server rs.0 t)) triples.now) }
+{
+    triples
+        .iter()
+        .copied()
+        .filter(|t| !is_of_server(rs, *t))
+        .collect(alloc)
+}
+
+fn sent_route(
+    alloc: Global,
+    router: &Router,
+    sender: &SessionRows<'_>,
+    route: &Route,
+    times: u8,
+) -> Result<Route, AllocError>
+    ensures { IfOk result (λ q. q ≡ sent_route router.now (session_of sender.now) route.now times) }
+{
+    let pairs = sent_pairs(alloc, router.asn, route.pairs.as_slice())?;
+    let triples = sent_triples(alloc, router.asn, route.triples.as_slice())?;
+    Ok(Route {
+        net: route.net,
+        path: sent_path(alloc, sender.member.asn, times, route.path.as_slice())?,
+        next_hop: hop_of(router, route),
+        pairs: Items::from_vec(pairs),
+        triples: Items::from_vec(triples),
+    })
+}
+
+/// What the receiver gets of the sender's route, if anything.
+pub(crate) fn received(
+    alloc: Global,
+    router: &Router,
+    sender: &SessionRows<'_>,
+    route: &Route,
+    receiver: &SessionRows<'_>,
+) -> Result<Option<Route>, AllocError>
+    ensures { IfOk result (λ x. x ≡ received router.now (session_of sender.now) route.now (session_of receiver.now)) }
+{
+    if !lets_in(alloc, receiver, sender, route)? {
+        return Ok(None);
+    }
+    match wish(alloc, router, sender, route, receiver.member.asn)? {
+        Some(times) => Ok(Some(sent_route(alloc, router, sender, route, times)?)),
+        None => Ok(None),
+    }
+}

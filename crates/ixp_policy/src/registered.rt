@@ -1,0 +1,102 @@
+//! The sentences of the import table on origins and registered prefixes.
+ghost use Rattle.std.specs.Prelude.{◌≡◌};
+ghost use Rattle.ixp_lang.specs.Attributes.{same_prefix, same_state};
+ghost use Rattle.ixp_policy.specs.Import.{has_other_origin, is_allowed, is_covered_by, is_found, is_found_to_be, is_in_list, is_invalid, is_unregistered, state_of};
+ghost use Rattle.ixp_policy.specs.Views.{session_of};
+
+use crate::blackholes::is_blackhole;
+use crate::places::{is_listed, last_of};
+use crate::session_rows::SessionRows;
+use ixp_lang::Route;
+use ixp_num::{Asn, Prefix, Validity};
+use ixp_roa::validity;
+use ixp_rows::{Registry, Router};
+
+pub(crate) fn has_other_origin(session: &SessionRows<'_>, route: &Route) -> bool
+    ensures { result ≡ has_other_origin (session_of session.now) route.now }
+{
+    session.address.irr && !is_listed(session.origins, last_of(route.path.as_slice()))
+}
+
+fn state_of(registry: &Registry, route: &Route) -> Validity
+    ensures { result ≡ state_of registry.now route.now }
+{
+    let origin = Asn(last_of(route.path.as_slice()));
+    validity(registry.public.roas.as_slice(), &route.net, origin)
+}
+
+fn same_state(one: Validity, other: Validity) -> bool
+    ensures { result ≡ same_state one other }
+{
+    one == other
+}
+
+/// Whether the router tests origins, and finds the route in this state.
+pub(crate) fn is_found(registry: &Registry, router: &Router, route: &Route, state: Validity) -> bool
+    ensures { result ≡ is_found registry.now router.now route.now state }
+{
+    router.rpki && same_state(state_of(registry, route), state)
+}
+
+/// Whether the route, no blackhole route, is found in this state.
+pub(crate) fn is_found_to_be(
+    state: Validity,
+    registry: &Registry,
+    router: &Router,
+    route: &Route,
+) -> bool
+    ensures { result ≡ is_found_to_be state registry.now router.now route.now }
+{
+    !is_blackhole(router, route) && is_found(registry, router, route, state)
+}
+
+pub(crate) fn is_invalid(registry: &Registry, router: &Router, route: &Route) -> bool
+    ensures { result ≡ is_invalid registry.now router.now route.now }
+{
+    is_found_to_be(Validity::Invalid, registry, router, route)
+}
+
+fn same_prefix(one: &Prefix, other: &Prefix) -> bool
+    ensures { result ≡ same_prefix one.now other.now }
+{
+    one.family == other.family && one.value == other.value && one.len == other.len
+}
+
+fn is_in_list(net: &Prefix, prefixes: &[Prefix]) -> bool
+    ensures { result ≡ is_in_list net.now prefixes.now }
+{
+    prefixes.iter().any(|p| same_prefix(p, net))
+}
+
+fn is_covered_by(net: &Prefix, prefixes: &[Prefix]) -> bool
+    ensures { result ≡ is_covered_by net.now prefixes.now }
+{
+    prefixes.iter().any(|p| p.covers(net))
+}
+
+fn is_allowed(session: &SessionRows<'_>, route: &Route) -> bool
+    ensures { result ≡ is_allowed (session_of session.now) route.now }
+{
+    if session.address.more {
+        is_covered_by(&route.net, session.prefixes)
+    } else {
+        is_in_list(&route.net, session.prefixes)
+    }
+}
+
+pub(crate) fn is_unregistered(
+    registry: &Registry,
+    router: &Router,
+    session: &SessionRows<'_>,
+    route: &Route,
+) -> bool
+    ensures { result ≡ is_unregistered registry.now router.now (session_of session.now) route.now }
+{
+    if is_blackhole(router, route) {
+        !session.address.irr || !is_covered_by(&route.net, session.prefixes)
+    } else {
+        session.address.irr
+            && !is_found(registry, router, route, Validity::Valid)
+            && !is_allowed(session, route)
+    }
+}

@@ -1,0 +1,112 @@
+//! The sessions of a router.
+ghost use Rattle.std.specs.Prelude.{◌≡◌, false, option_map};
+ghost use Rattle.ixp_registry.specs.Lookups.{if_there};
+ghost use Rattle.ixp_registry.specs.Sessions.{address_of, is_member_connected, is_session, origins_in, prefixes_in, session, session_at};
+ghost use Rattle.ixp_policy.specs.Views.{session_of};
+
+use ixp_num::{Asn, Family, Prefix};
+use ixp_places::is_connected;
+use ixp_rows::{IfAddr, Interface, Member, Registry, Router};
+
+/// The rows of a session. Its member's rules are those of the registry that name the member.
+#[derive(Clone, Copy)]
+pub struct SessionRows<'a> {
+    pub registry: &'a Registry,
+    pub interface: &'a Interface,
+    pub address: &'a IfAddr,
+    pub member: &'a Member,
+    pub prefixes: &'a [Prefix],
+    pub origins: &'a [Asn],
+}
+
+/// The interface's address of the family.
+pub(crate) fn address_of(family: Family, interface: &Interface) -> Option<&IfAddr>
+    ensures { option_map (λ a. a.now) result ≡ address_of family interface.entry.now }
+{
+    match family {
+        Family::V4 => interface.v4.as_ref(),
+        Family::V6 => interface.v6.as_ref(),
+    }
+}
+
+fn has_server(family: Family, interface: &Interface) -> bool
+    ensures { result ≡ if_there (address_of family interface.now) false (λ a. a.rs) }
+{
+    match address_of(family, interface) {
+        Some(address) => address.rs,
+        None => false,
+    }
+}
+
+fn is_member_connected(registry: &Registry, member: u32) -> bool
+    ensures { result ≡ is_member_connected registry.now member }
+{
+    match registry.members.find(&member) {
+        Some(member) => is_connected(member.status),
+        None => false,
+    }
+}
+
+/// Whether the interface has a session with the router.
+pub(crate) fn is_session(registry: &Registry, router: &Router, interface: &Interface) -> bool
+    ensures { result ≡ is_session registry.now router.now interface.now }
+{
+    interface.vlan == router.vlan
+        && has_server(router.family, interface)
+        && is_member_connected(registry, interface.member)
+}
+
+fn prefixes_in(registry: &Registry, member: u32, family: Family) -> &[Prefix]
+    ensures { result.now ≡ prefixes_in registry.entry.now member family }
+{
+    match registry.irr.find(&(member, family)) {
+        Some(list) => list.prefixes.as_slice(),
+        None => &[],
+    }
+}
+
+fn origins_in(registry: &Registry, member: u32, family: Family) -> &[Asn]
+    ensures { result.now ≡ origins_in registry.entry.now member family }
+{
+    match registry.origins.find(&(member, family)) {
+        Some(list) => list.asns.as_slice(),
+        None => &[],
+    }
+}
+
+/// The interface's session with the router, where it has one.
+pub(crate) fn session_at<'a>(
+    registry: &'a Registry,
+    router: &Router,
+    interface: &'a Interface,
+) -> Option<SessionRows<'a>>
+    ensures { option_map session_of result ≡ session_at registry.entry.now router.now interface.entry.now }
+{
+    if !is_session(registry, router, interface) {
+        return None;
+    }
+    let address = address_of(router.family, interface)?;
+    let member = registry.members.find(&interface.member)?;
+    Some(SessionRows {
+        registry,
+        interface,
+        address,
+        member,
+        prefixes: prefixes_in(registry, interface.member, router.family),
+        origins: origins_in(registry, interface.member, router.family),
+    })
+}
+
+/// The router's session at the interface with the number, where there is one.
+pub(crate) fn session<'a>(
+    registry: &'a Registry,
+    router: &Router,
+    interface: u32,
+) -> Option<SessionRows<'a>>
+    ensures { option_map session_of result ≡ session registry.entry.now router.now interface }
+{
+    match registry.interfaces.find(&interface) {
+        Some(interface) => session_at(registry, router, interface),
+        None => None,
+    }
+}
