@@ -1,3 +1,5 @@
 pub mod Members
 pub mod Numbering
 pub mod Words
+pub mod Telling
+pub mod Inputs

@@ -1,20 +1,40 @@
 //! The top calls: a command by its words, over the objects that the caller hands in.
-ghost use Rattle.std.specs.Prelude.{◌≡◌, ◌≢◌, ◌⊎◌, ◌↔◌, ◌≤◌, [], ◌∷◌, List, ℕ, map, codes, Some, IsSome, IsTrue};
-ghost use Rattle.ixp_io.specs.Faults.{Rose};
-ghost use Rattle.ixp_cli.specs.Runs.{Answers, IsStatus};
+ghost use Rattle.std.specs.Prelude.{◌≡◌, ◌↔◌, ◌≤◌, List, ℕ, map, Some, None, IsSome, IsTrue};
+ghost use Rattle.ixp_cli.specs.Runs.{command_by, command_in, Runs, Streams, IsStatus};
 
+use crate::check::check;
 use crate::end::{End, report};
 use crate::fate::fate;
 use ixp_io::{Clock, Door, Gate, Keeper, Sink, Source};
 use std::alloc::Global;
 
-/// Whether the words are the command `fate`.
-fn is_fate(words: &[&str]) -> bool
-    ensures { IsTrue result ↔ (map (λ w. w.now) words.now ≡ codes "fate" ∷ []) }
+/// A command of the program.
+#[derive(Clone, Copy, Debug, PartialEq, Eq)]
+pub enum Command {
+    Check,
+    Fate,
+}
+
+/// The command that a word is.
+fn command_by(word: &[u8]) -> Option<Command>
+    ensures { result ≡ command_by word.now }
+{
+    if word == b"check".as_slice() {
+        Some(Command::Check)
+    } else if word == b"fate".as_slice() {
+        Some(Command::Fate)
+    } else {
+        None
+    }
+}
+
+/// The command that words are.
+fn command_in(words: &[&str]) -> Option<Command>
+    ensures { result ≡ command_in (map (λ w. w.now) words.now) }
 {
     match words {
-        [word] => *word == "fate",
-        _ => false,
+        [word] => command_by(word.as_bytes()),
+        _ => None,
     }
 }
 
@@ -33,21 +53,18 @@ pub fn run_plain<S: Source, K: Sink, E: Sink, P: Keeper, C: Clock>(
 ) -> Option<u8>
     ensures answered { IsSome result }
 
+    // The run ends in a way of the command's own, which its status says; a line on the errors tells of it.
+    ensures runs { Runs (command_in (map (λ w. w.now) words.now)) (record { input = S.left input.old; output = K.written output.old; input_faults = S.read_faults input.old; output_faults = K.write_faults output.old })
+        (record { input = S.left input.new; output = K.written output.new; input_faults = S.read_faults input.new; output_faults = K.write_faults output.new }) (E.written errors.old) (E.written errors.new) (E.write_faults errors.old) (E.write_faults errors.new) result }
+
     // The words are no command exactly where the status is 1.
-    ensures usage { (result ≡ Some 1) ↔ (map (λ w. w.now) words.now ≢ codes "fate" ∷ []) }
-
-    // At 0 all of the input was read, and the output has what it is compiled to.
-    ensures done { result ≡ Some 0 → Answers (S.left input.old) (S.left input.new) (K.written output.old) (K.written output.new) }
-
-    // Faults of reading and writing are those of the objects.
-    ensures read_fault { result ≡ Some 3 → Rose (S.read_faults input.old) (S.read_faults input.new) }
-    ensures write_fault { result ≡ Some 4 → Rose (K.write_faults output.old) (K.write_faults output.new) }
+    ensures usage { (result ≡ Some 1) ↔ (command_in (map (λ w. w.now) words.now) ≡ None) }
     ensures statuses { IsStatus result }
 {
-    let end = if is_fate(words) {
-        fate(alloc, input, output)
-    } else {
-        End::Usage
+    let end = match command_in(words) {
+        Some(Command::Check) => check(alloc, input, output),
+        Some(Command::Fate) => fate(alloc, input, output),
+        None => End::Usage,
     };
     let _ = report(errors, end);
     Some(end.status())
@@ -66,10 +83,9 @@ pub fn run<R, S: Source, K: Sink, E: Sink, P: Keeper, C: Clock, D: Door, G: Gate
     _door: &mut D,
     _gate: &G,
 ) -> u8
-    ensures usage { (result ≡ 1) ↔ (map (λ w. w.now) words.now ≢ codes "fate" ∷ []) }
-    ensures done { result ≡ 0 → Answers (S.left input.old) (S.left input.new) (K.written output.old) (K.written output.new) }
-    ensures read_fault { result ≡ 3 → Rose (S.read_faults input.old) (S.read_faults input.new) }
-    ensures write_fault { result ≡ 4 → Rose (K.write_faults output.old) (K.write_faults output.new) }
+    ensures runs { Runs (command_in (map (λ w. w.now) words.now)) (record { input = S.left input.old; output = K.written output.old; input_faults = S.read_faults input.old; output_faults = K.write_faults output.old })
+        (record { input = S.left input.new; output = K.written output.new; input_faults = S.read_faults input.new; output_faults = K.write_faults output.new }) (E.written errors.old) (E.written errors.new) (E.write_faults errors.old) (E.write_faults errors.new) (Some result) }
+    ensures usage { (result ≡ 1) ↔ (command_in (map (λ w. w.now) words.now) ≡ None) }
     ensures statuses { IsStatus (Some result) }
 {
     run_plain(alloc, words, input, output, errors, keeper, clock).unwrap()

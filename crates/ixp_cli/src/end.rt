@@ -1,10 +1,12 @@
 //! How a run ends.
-ghost use Rattle.std.specs.Prelude.{◌≡◌, ◌≤◌};
+ghost use Rattle.std.specs.Prelude.{◌≡◌, ◌≤◌, ◌++◌, ◌∷◌, OnOk, OnErr, codes, decimal};
 ghost use Rattle.ixp_io.specs.Faults.{Rose};
-ghost use Rattle.ixp_cli.specs.Runs.{status_of};
+ghost use Rattle.ixp_io.specs.Told.{Takes};
+ghost use Rattle.ixp_cli.specs.Runs.{fault_text, bad_input, error_text};
 
 use itoa::Buffer;
 use ixp_io::{Failed, Sink, write_all};
+use ixp_rows::DumpFault;
 
 /// How a run ends: what was asked for is done, or the first cause that it met.
 #[derive(Clone, Copy, Debug, PartialEq, Eq)]
@@ -14,6 +16,8 @@ pub enum End {
     Usage,
     /// The input isn't of the command's form: the first line that can't stand there.
     BadLine { line: u64 },
+    /// The input is no dump of a valid registry.
+    BadDump { fault: DumpFault },
     /// The input is longer than a command reads.
     TooLong,
     ReadFault,
@@ -32,7 +36,7 @@ impl End {
         match self {
             End::Done => 0,
             End::Usage => 1,
-            End::BadLine { .. } | End::TooLong => 2,
+            End::BadLine { .. } | End::BadDump { .. } | End::TooLong => 2,
             End::ReadFault => 3,
             End::WriteFault => 4,
             End::NoMemory => 8,
@@ -40,23 +44,90 @@ impl End {
     }
 }
 
-fn write_bad_line<E: Sink>(errors: &mut E, line: u64) -> Result<(), Failed>
-    ensures { E.write_faults errors.old ≤ E.write_faults errors.new }
+fn write_number<E: Sink>(errors: &mut E, number: u64) -> Result<(), Failed>
+    ensures told { OnOk result (Takes (E.written errors.old) (E.written errors.new) (decimal number)) }
+    ensures counts { E.write_faults errors.old ≤ E.write_faults errors.new }
+    ensures cause { OnErr result (Rose (E.write_faults errors.old) (E.write_faults errors.new)) }
 {
     let mut buffer = Buffer::new();
-    write_all(errors, b"ixpm: bad input U0 ")?;
-    write_all(errors, buffer.format(line).as_bytes())?;
-    write_all(errors, b"\n")
+    write_all(errors, buffer.format(number).as_bytes())
+}
+
+/// Writes a code and a place.
+#[tactic(auto, using(crate::proofs::Telling::telling))]
+fn write_place<E: Sink>(errors: &mut E, code: &[u8], place: u64) -> Result<(), Failed>
+    ensures told { OnOk result (Takes (E.written errors.old) (E.written errors.new) (code.now ++ decimal place)) }
+    ensures counts { E.write_faults errors.old ≤ E.write_faults errors.new }
+    ensures cause { OnErr result (Rose (E.write_faults errors.old) (E.write_faults errors.new)) }
+{
+    write_all(errors, code)?;
+    write_number(errors, place)?;
+    Ok(())
+}
+
+/// Writes a broken rule and the line that breaks it.
+#[tactic(auto, using(crate::proofs::Telling::telling))]
+fn write_rule<E: Sink>(errors: &mut E, rule: u32, line: usize) -> Result<(), Failed>
+    ensures told { OnOk result (Takes (E.written errors.old) (E.written errors.new) ((codes "U4 Q" ++ decimal rule) ++ (32 ∷ decimal line))) }
+    ensures counts { E.write_faults errors.old ≤ E.write_faults errors.new }
+    ensures cause { OnErr result (Rose (E.write_faults errors.old) (E.write_faults errors.new)) }
+{
+    write_place(errors, b"U4 Q", u64::from(rule))?;
+    write_place(errors, b" ", line as u64)?;
+    Ok(())
+}
+
+#[tactic(auto, using(crate::proofs::Telling::telling))]
+fn write_fault<E: Sink>(errors: &mut E, fault: DumpFault) -> Result<(), Failed>
+    ensures told { OnOk result (Takes (E.written errors.old) (E.written errors.new) (fault_text fault)) }
+    ensures counts { E.write_faults errors.old ≤ E.write_faults errors.new }
+    ensures cause { OnErr result (Rose (E.write_faults errors.old) (E.write_faults errors.new)) }
+{
+    match fault {
+        DumpFault::BadLine { line } => write_place(errors, b"U1 ", line as u64),
+        DumpFault::Order { line } => write_place(errors, b"U2 ", line as u64),
+        DumpFault::Twice { line } => write_place(errors, b"U3 ", line as u64),
+        DumpFault::Invalid { rule, line } => write_rule(errors, rule, line),
+        DumpFault::NoMemory => Ok(()),
+    }
+}
+
+#[tactic(auto, using(crate::proofs::Telling::telling))]
+fn write_bad_dump<E: Sink>(errors: &mut E, fault: DumpFault) -> Result<(), Failed>
+    ensures told { OnOk result (Takes (E.written errors.old) (E.written errors.new) (bad_input (fault_text fault))) }
+    ensures counts { E.write_faults errors.old ≤ E.write_faults errors.new }
+    ensures cause { OnErr result (Rose (E.write_faults errors.old) (E.write_faults errors.new)) }
+{
+    write_all(errors, b"ixpm: bad input ")?;
+    write_fault(errors, fault)?;
+    write_all(errors, b"\n")?;
+    Ok(())
+}
+
+#[tactic(auto, using(crate::proofs::Telling::telling))]
+fn write_bad_line<E: Sink>(errors: &mut E, line: u64) -> Result<(), Failed>
+    ensures told { OnOk result (Takes (E.written errors.old) (E.written errors.new) (bad_input (codes "U0 " ++ decimal line))) }
+    ensures counts { E.write_faults errors.old ≤ E.write_faults errors.new }
+    ensures cause { OnErr result (Rose (E.write_faults errors.old) (E.write_faults errors.new)) }
+{
+    write_all(errors, b"ixpm: bad input ")?;
+    write_place(errors, b"U0 ", line)?;
+    write_all(errors, b"\n")?;
+    Ok(())
 }
 
 /// Writes the line that tells how a run ended, if there is one to write. It takes no memory.
+#[tactic(auto, using(crate::proofs::Telling::telling))]
 pub fn report<E: Sink>(errors: &mut E, end: End) -> Result<(), Failed>
-    ensures { E.write_faults errors.old ≤ E.write_faults errors.new }
+    ensures told { OnOk result (Takes (E.written errors.old) (E.written errors.new) (error_text end)) }
+    ensures counts { E.write_faults errors.old ≤ E.write_faults errors.new }
+    ensures cause { OnErr result (Rose (E.write_faults errors.old) (E.write_faults errors.new)) }
 {
     match end {
         End::Done => Ok(()),
         End::Usage => write_all(errors, b"ixpm: usage\n"),
         End::BadLine { line } => write_bad_line(errors, line),
+        End::BadDump { fault } => write_bad_dump(errors, fault),
         End::TooLong => write_all(errors, b"ixpm: bad input U5 268435456\n"),
         End::ReadFault => write_all(errors, b"ixpm: read fault\n"),
         End::WriteFault => write_all(errors, b"ixpm: write fault\n"),

@@ -1,28 +1,26 @@
 //! The command `fate`: the configuration of a small registry, and the fate of one route by its text.
 ghost use Rattle.std.specs.Prelude.{◌≡◌, ◌≢◌, ◌++◌, ◌≤◌, List, ℕ, [], ◌∷◌, Some, IfOk, IfErr, OnOk, length};
-ghost use Rattle.ixp_io.specs.Faults.{Rose};
 ghost use Rattle.ixp_num.specs.declared.asn.Asn.{Asn};
 ghost use Rattle.ixp_lang.specs.Texts.{fate_text};
 ghost use Rattle.ixp_lang.specs.Trees.{ItemTree};
 ghost use Rattle.ixp_lang.specs.Walks.{walk};
 ghost use Rattle.ixp_print.specs.Texts.{config_text};
 ghost use Rattle.ixp_cli.specs.SmallGeneration.{small_config};
-ghost use Rattle.ixp_cli.specs.Runs.{Walked, AddsFate, Compiles, Answers, IsCompileEnd, route_of};
+ghost use Rattle.ixp_cli.specs.Runs.{Walked, AddsFate, Compiles, FateEnds, IsCompileEnd, Streams, route_of};
 
+use crate::check::registry_of;
 use crate::end::End;
 use crate::generate::generate;
+use crate::input::{dump_part, input_of};
 use crate::reading::{Stop, line_of, read_small};
 use crate::small::{RouteLine, Small};
 use ixp_eval::{EvalFault, walk};
-use ixp_io::{Sink, Source, WholeFault, read_whole, write_all};
+use ixp_io::{Sink, Source, write_all};
 use ixp_lang::{Fate, Route, numbered, print_fate};
 use ixp_num::{Asn, Items};
 use ixp_print::print_config;
 use ixp_read::{ReadFault, read_config};
 use std::alloc::{AllocError, AllocFailed, Global};
-
-/// The greatest number of bytes of an input that is read whole.
-pub const INPUT_LIMIT: usize = 268_435_456;
 
 /// Why a route has no fate.
 #[derive(Clone, Copy, Debug, PartialEq, Eq, Drop)]
@@ -111,11 +109,26 @@ fn last_line(input: &[u8]) -> u64 {
     line_of(input, 1)
 }
 
+/// Whether the dump in the input is that of a valid registry.
+#[tactic(auto, using(crate::proofs::Inputs::dump_tested))]
+fn test_dump(alloc: Global, input: &[u8]) -> Result<(), End>
+    ensures { IfErr result (IsCompileEnd input.now) }
+{
+    match registry_of(alloc, dump_part(input)) {
+        Ok(_) => Ok(()),
+        Err(end) => Err(end),
+    }
+}
+
 /// What the input is compiled to: the configuration's text, and the route's fate.
 fn compile(alloc: Global, input: &[u8]) -> Result<Vec<u8>, End>
     ensures text { IfOk result (λ out. Compiles input.now out.items) }
-    ensures cause { IfErr result IsCompileEnd }
+    ensures cause { IfErr result (IsCompileEnd input.now) }
 {
+    match test_dump(alloc, input) {
+        Ok(()) => {}
+        Err(end) => return Err(end),
+    }
     let (small, line) = match read_small(alloc, input) {
         Ok(read) => read,
         Err(Stop::Line { left }) => {
@@ -137,16 +150,12 @@ fn compile(alloc: Global, input: &[u8]) -> Result<Vec<u8>, End>
 
 /// Reads the input whole, and writes what it is compiled to.
 pub fn fate<S: Source, K: Sink>(alloc: Global, input: &mut S, output: &mut K) -> End
-    ensures done { result ≡ End.Done → Answers (S.left input.old) (S.left input.new) (K.written output.old) (K.written output.new) }
-    ensures read_fault { result ≡ End.ReadFault → Rose (S.read_faults input.old) (S.read_faults input.new) }
-    ensures write_fault { result ≡ End.WriteFault → Rose (K.write_faults output.old) (K.write_faults output.new) }
-    ensures usage { result ≢ End.Usage }
+    ensures { FateEnds (record { input = S.left input.old; output = K.written output.old; input_faults = S.read_faults input.old; output_faults = K.write_faults output.old })
+        (record { input = S.left input.new; output = K.written output.new; input_faults = S.read_faults input.new; output_faults = K.write_faults output.new }) result }
 {
-    let bytes = match read_whole(alloc, input, INPUT_LIMIT) {
+    let bytes = match input_of(alloc, input) {
         Ok(bytes) => bytes,
-        Err(WholeFault::Failed) => return End::ReadFault,
-        Err(WholeFault::TooLong) => return End::TooLong,
-        Err(WholeFault::NoMemory) => return End::NoMemory,
+        Err(end) => return end,
     };
     let text = match compile(alloc, bytes.as_slice()) {
         Ok(text) => text,
