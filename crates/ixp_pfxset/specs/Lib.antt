@@ -1,0 +1,4 @@
+pub mod BlockList
+pub mod Blocks
+pub mod Plain
+pub mod Trie

@@ -1,0 +1,89 @@
+//! The rows that name prefixes of the merged set.
+ghost use Rattle.std.specs.Prelude.{◌≡◌, ◌↔◌, IsTrue, IfOk, not, nat_le};
+ghost use Rattle.std.specs.List.{Contains, filter};
+ghost use Rattle.std.specs.List.Sorted.{IsPermutation, IsSorted};
+ghost use Rattle.ixp_num.specs.declared.prefix.Prefix.{Prefix};
+ghost use Rattle.ixp_pfxset.specs.Blocks.{IsNew};
+ghost use Rattle.ixp_pfxset.specs.Plain.{is_within};
+
+use crate::derived::equal_prefixes;
+use crate::mode::Mode;
+use crate::ordered::{has, left_in_order};
+use ixp_num::Prefix;
+use std::alloc::{AllocError, Global};
+
+/// Whether the prefix is in the sorted list.
+pub(crate) fn has_prefix(list: &[Prefix], q: &Prefix) -> bool
+    requires { IsSorted ⟦<Prefix as Ord>⟧.cmp list.now }
+    ensures { IsTrue result ↔ Contains list.now q.now }
+{
+    equal_prefixes();
+    has(list, q)
+}
+
+/// The rows that aren't longer than the bound.
+fn short_rows(alloc: Global, rows: &[Prefix], high: u8) -> Result<Vec<Prefix>, AllocError>
+    ensures { IfOk result (λ short. short.items ≡ filter (λ r. nat_le r.len high) rows.now) }
+{
+    rows.iter()
+        .copied()
+        .filter(|r| r.len <= high)
+        .collect(alloc)
+}
+
+/// The same, sorted.
+fn sorted_rows(alloc: Global, rows: &[Prefix], high: u8) -> Result<Vec<Prefix>, AllocError>
+    ensures sorted { IfOk result (λ short. IsSorted ⟦<Prefix as Ord>⟧.cmp short.items) }
+    ensures rows { IfOk result (λ short. IsPermutation (filter (λ r. nat_le r.len high) rows.now) short.items) }
+{
+    let mut short = short_rows(alloc, rows, high)?;
+    short.sort_unstable();
+    Ok(short)
+}
+
+/// Whether a shorter prefix of the sorted list covers this one.
+fn is_within(list: &[Prefix], q: &Prefix) -> bool
+    requires { IsSorted ⟦<Prefix as Ord>⟧.cmp list.now }
+    ensures { result ≡ is_within list.now q.now }
+{
+    let mut n = *q;
+    while let Some(p) = n.parent() {
+        if has_prefix(list, &p) {
+            return true;
+        }
+        n = p;
+    }
+    false
+}
+
+/// The prefixes of the sorted list that no shorter one covers, in the same order.
+fn outermost(alloc: Global, list: &[Prefix]) -> Result<Vec<Prefix>, AllocError>
+    requires { IsSorted ⟦<Prefix as Ord>⟧.cmp list.now }
+    ensures { IfOk result (λ outer. outer.items ≡ filter (λ r. not (is_within list.now r)) list.now) }
+{
+    list.iter()
+        .copied()
+        .filter(|r| !is_within(list, r))
+        .collect(alloc)
+}
+
+/// The new prefixes, all of which are rows, sorted.
+pub(crate) fn new_rows(
+    alloc: Global,
+    rows: &[Prefix],
+    mode: Mode,
+    high: u8,
+) -> Result<Vec<Prefix>, AllocError>
+    ensures sorted { IfOk result (λ list. IsSorted ⟦<Prefix as Ord>⟧.cmp list.items) }
+    ensures members { IfOk result (λ list. (q : Prefix) → Contains list.items q ↔ IsNew rows.now mode high q) }
+{
+    let short = sorted_rows(alloc, rows, high)?;
+    match mode {
+        Mode::Exact => Ok(short),
+        Mode::More => {
+            left_in_order::<Prefix>();
+            let outer = outermost(alloc, &short)?;
+            Ok(outer)
+        }
+    }
+}
