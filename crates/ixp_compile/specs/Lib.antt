@@ -1,0 +1,12 @@
+pub mod Pieces
+pub mod Header
+pub mod MemberRules
+pub mod Fragment
+pub mod Generated
+pub mod Shared
+pub mod Imports
+pub mod Rewriting
+pub mod Exports
+pub mod Whole
+pub mod Example
+pub mod PlainExample
