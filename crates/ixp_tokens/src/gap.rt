@@ -1,54 +1,20 @@
-//! Blanks and comments, and runs of bytes of one class.
-ghost use Rattle.std.specs.Prelude.{◌≡◌, ◌++◌, ◌≤◌, ◌<◌, length, IfSome};
+//! Blanks and comments.
+ghost use Rattle.std.specs.Prelude.{◌≡◌, ◌≤◌, ◌<◌, length, IfSome, option_map};
+ghost use Rattle.ixp_tokens.specs.Gaps.{is_blank, Gap};
+ghost use Rattle.ixp_tokens.specs.Cutting.{behind_comment, star_comment, behind_blank};
 
-/// A class of bytes.
-#[derive(Clone, Copy)]
-pub(crate) enum Class {
-    Digit,
-    /// Letters, digits and `_`.
-    Word,
-    /// Hexadecimal digits, `:` and `.`.
-    Address,
-    /// Printable ASCII but `"`.
-    Text,
-    /// All but the line feed.
-    Line,
-}
+use crate::runs::{Class, behind_run};
 
-fn is_in(class: Class, byte: u8) -> bool {
-    match class {
-        Class::Digit => byte.is_ascii_digit(),
-        Class::Word => byte.is_ascii_alphanumeric() || byte == b'_',
-        Class::Address => byte.is_ascii_hexdigit() || byte == b':' || byte == b'.',
-        Class::Text => b' ' <= byte && byte <= b'~' && byte != b'"',
-        Class::Line => byte != b'\n',
-    }
-}
-
-/// What is behind the bytes of the class at the front.
-pub(crate) fn behind_run(class: Class, bytes: &[u8]) -> &[u8]
-    ensures { length result.now ≤ length bytes.now }
+fn is_blank(byte: u8) -> bool
+    ensures { result ≡ is_blank byte }
 {
-    let mut rest = bytes;
-    'run: while let [first, after @ ..] = rest {
-        if !is_in(class, *first) {
-            break;
-        }
-        rest = after;
-    }
-    rest
-}
-
-/// What is before the rest.
-pub(crate) fn before<'a>(bytes: &'a [u8], rest: &[u8]) -> &'a [u8]
-    ensures { length result.now ≤ length bytes.now }
-{
-    &bytes[..bytes.len().saturating_sub(rest.len())]
+    byte == b' ' || byte == b'\t' || byte == b'\r' || byte == b'\n'
 }
 
 /// What is behind the first `*/`.
 fn behind_comment(bytes: &[u8]) -> Option<&[u8]>
-    ensures { IfSome result (λ r. length r.now ≤ length bytes.now) }
+    ensures rest { option_map (λ r. r.now) result ≡ behind_comment bytes.now }
+    ensures shorter { IfSome result (λ r. length r.now ≤ length bytes.now) }
 {
     let mut rest = bytes;
     'comment: while let [first, after @ ..] = rest {
@@ -62,21 +28,42 @@ fn behind_comment(bytes: &[u8]) -> Option<&[u8]>
     None
 }
 
-/// What is behind one blank or comment.
-fn behind_blank(bytes: &[u8]) -> Option<&[u8]>
-    ensures { IfSome result (λ r. length r.now < length bytes.now) }
+/// What is behind a star and the first `*/` behind it.
+fn star_comment(bytes: &[u8]) -> Option<&[u8]>
+    ensures rest { option_map (λ r. r.now) result ≡ star_comment bytes.now }
+    ensures shorter { IfSome result (λ r. length r.now ≤ length bytes.now) }
 {
     match bytes {
-        [b' ' | b'\t' | b'\r' | b'\n', rest @ ..] => Some(rest),
-        [b'#', rest @ ..] => Some(behind_run(Class::Line, rest)),
-        [b'/', b'*', rest @ ..] => behind_comment(rest),
+        [first, rest @ ..] if *first == b'*' => behind_comment(rest),
         _ => None,
     }
 }
 
+/// What is behind one blank or comment.
+fn behind_blank(bytes: &[u8]) -> Option<&[u8]>
+    ensures rest { option_map (λ r. r.now) result ≡ behind_blank bytes.now }
+    ensures shorter { IfSome result (λ r. length r.now < length bytes.now) }
+{
+    let [first, rest @ ..] = bytes else {
+        return None;
+    };
+    if is_blank(*first) {
+        return Some(rest);
+    }
+    if *first == b'#' {
+        return Some(behind_run(Class::Line, rest));
+    }
+    if *first == b'/' {
+        return star_comment(rest);
+    }
+    None
+}
+
 /// What is behind the blanks and comments at the front.
+#[tactic(auto, using(crate::proofs::GapLaws::gap_here, crate::proofs::GapLaws::gap_more))]
 pub(crate) fn behind_gap(bytes: &[u8]) -> &[u8]
-    ensures { length result.now ≤ length bytes.now }
+    ensures gap { Gap bytes.now result.now }
+    ensures shorter { length result.now ≤ length bytes.now }
 {
     let mut rest = bytes;
     'gap: while let Some(after) = behind_blank(rest) {

@@ -1,8 +1,12 @@
 //! Tokens.
+ghost use Rattle.std.specs.Prelude.{◌≡◌};
+ghost use Rattle.ixp_tokens.specs.Pieces.{rank, same_mark};
+ghost use Rattle.ixp_tokens.specs.Tokens.{is_last};
+
 use ixp_num::{Addr, Items, Name, Prefix};
 
 /// A mark of one or two characters.
-#[derive(Clone, Copy, PartialEq, Eq)]
+#[derive(Clone, Copy)]
 pub enum Mark {
     /// `;`
     Semicolon,
@@ -60,6 +64,50 @@ pub enum Mark {
     Slash,
 }
 
+impl Mark {
+    /// Marks are told apart by number.
+    fn rank(self) -> u8
+        ensures { result ≡ rank self }
+    {
+        match self {
+            Mark::Semicolon => 0,
+            Mark::Comma => 1,
+            Mark::Dot => 2,
+            Mark::Range => 3,
+            Mark::Colon => 4,
+            Mark::Open => 5,
+            Mark::Close => 6,
+            Mark::BlockOpen => 7,
+            Mark::BlockClose => 8,
+            Mark::SetOpen => 9,
+            Mark::SetClose => 10,
+            Mark::Equal => 11,
+            Mark::Unequal => 12,
+            Mark::Less => 13,
+            Mark::LessEqual => 14,
+            Mark::Greater => 15,
+            Mark::GreaterEqual => 16,
+            Mark::In => 17,
+            Mark::NotIn => 18,
+            Mark::Not => 19,
+            Mark::And => 20,
+            Mark::Or => 21,
+            Mark::Arrow => 22,
+            Mark::Plus => 23,
+            Mark::Minus => 24,
+            Mark::Star => 25,
+            Mark::Slash => 26,
+        }
+    }
+
+    /// Whether both are one mark.
+    pub fn is(self, other: Mark) -> bool
+        ensures { result ≡ same_mark self other }
+    {
+        self.rank() == other.rank()
+    }
+}
+
 /// What a token is.
 #[derive(Drop)]
 pub enum Kind {
@@ -81,7 +129,9 @@ pub enum Kind {
 
 impl Kind {
     /// Whether no token follows in the list: no text has one of these.
-    pub fn is_last(&self) -> bool {
+    pub fn is_last(&self) -> bool
+        ensures { result ≡ is_last self.now }
+    {
         matches!(
             self,
             Kind::BadByte | Kind::BadNumber | Kind::Mark(Mark::Slash)

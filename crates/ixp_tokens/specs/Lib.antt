@@ -1,0 +1,10 @@
+pub mod Grammars
+pub mod Reading
+pub mod Pieces
+pub mod Bytes
+pub mod Gaps
+pub mod Words
+pub mod Tokens
+pub mod Cutting
+pub mod Written
+pub mod Syntax
