@@ -1,1 +1,11 @@
+pub mod Answers
+pub mod Declarations
+pub mod Expressions
+pub mod Following
 pub mod Groups
+pub mod Joints
+pub mod Lists
+pub mod Names
+pub mod Operands
+pub mod Sets
+pub mod Types

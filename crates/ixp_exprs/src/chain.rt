@@ -1,35 +1,34 @@
 //! Expressions: chains of comparisons of operands.
-ghost use Rattle.std.specs.Prelude.{◌<◌, ◌≤◌, length, IfOk, IsTrue};
-ghost use Rattle.ixp_exprs.specs.Groups.{least};
+ghost use Rattle.std.specs.Prelude.{◌≡◌, ◌<◌, ◌≤◌, length, IfOk, OnOk, option_map};
+ghost use Rattle.ixp_lang.specs.Views.{exprs_view};
+ghost use Rattle.ixp_tokens.specs.Grammars.{checks, gives, sequence};
+ghost use Rattle.ixp_tokens.specs.Reading.{read, kinds, Gives};
+ghost use Rattle.ixp_exprs.specs.declared.types.ValueType.TheVariants.{Bool as Truth};
+ghost use Rattle.ixp_exprs.specs.Answers.{Refuses, Makes, Passes};
+ghost use Rattle.ixp_exprs.specs.Types.{same_type, takes_right};
+ghost use Rattle.ixp_exprs.specs.Operands.{operand_of, waiting, refused_now, negated, fits, fits_left, compared, misfit_at};
+ghost use Rattle.ixp_exprs.specs.Groups.{least, limit, place_of, shape_of, parts_of};
+ghost use Rattle.ixp_exprs.specs.Joints.{joint_mark, other_mark, joined_by, chain_of, ended_chain, linked};
+ghost use Rattle.ixp_exprs.specs.Expressions.{part_misfit, begun_with, longer, chained, part_joint, unary_text, comparison_of};
+ghost use Rattle.ixp_exprs.specs.Expressions.{expression_text, enclosed, arguments};
 
 use crate::context::{deep, misfit};
-use crate::group::{Group, Shape, group_at, no_parts_at};
-use crate::leaf::leaf_at;
+use crate::group::{Group, Shape, no_parts_at, opening_at};
+use crate::leaf::atom_at;
 use crate::operator::{Joint, joint_at, operator_at};
-use crate::parts::{Parts, part_end};
+use crate::parts::Parts;
 use crate::tree::made;
 use crate::types::{settled, takes_left, takes_right};
-use crate::{Context, Signature, Type, Typed, fits};
+use crate::{Context, Signature, Typed, ValueType, fits};
 use ixp_lang::{Expr, Op};
-use ixp_tokens::{Fault, Mark, Token, after_mark};
+use ixp_tokens::{Fault, Mark, Token, after_mark, mark_at};
 use std::alloc::Global;
-
-/// The negation, whose `!` is at this place.
-fn negated(alloc: Global, operand: Typed, place: usize) -> Result<Typed, Fault> {
-    let misfit = waiting(&operand, operand.ty == Type::Bool, place)?;
-    let is_open = operand.is_open;
-    let expr = Expr::Not(Box::new(alloc, operand.expr)?);
-    Ok(Typed {
-        expr,
-        ty: Type::Bool,
-        is_open,
-        misfit,
-    })
-}
 
 /// The misfit of an operand that waits for the next token: one that waited before, or one at this place, where the
 /// operand doesn't fit and a `.` would make it another one.
-fn waiting(operand: &Typed, is_fit: bool, place: usize) -> Result<Option<usize>, Fault> {
+fn waiting(operand: &Typed, is_fit: bool, place: usize) -> Result<Option<usize>, Fault>
+    ensures { Passes (λ m. m) result (refused_now (operand_of operand.now) is_fit place) (waiting (operand_of operand.now) is_fit place) }
+{
     if operand.misfit.is_some() {
         return Ok(operand.misfit);
     }
@@ -42,8 +41,32 @@ fn waiting(operand: &Typed, is_fit: bool, place: usize) -> Result<Option<usize>,
     Err(misfit(place))
 }
 
+/// The negation, whose `!` is at this place, before the rest.
+fn negated<'t>(
+    alloc: Global,
+    operand: Typed,
+    place: usize,
+    rest: &'t [Token],
+) -> Result<(Typed, &'t [Token]), Fault>
+    ensures reads { Gives (λ x. (operand_of x.0, kinds x.1.now)) result (read (checks (refused_now (operand_of operand) (same_type operand.ty Truth) place) (gives (negated (operand_of operand) place))) (kinds rest.now)) }
+    ensures shorter { IfOk result (λ x. length x.1.now ≤ length rest.now) }
+{
+    let misfit = waiting(&operand, operand.ty.is(ValueType::Bool), place)?;
+    let is_open = operand.is_open;
+    let expr = Expr::Not(Box::new(alloc, operand.expr)?);
+    let typed = Typed {
+        expr,
+        ty: ValueType::Bool,
+        is_open,
+        misfit,
+    };
+    Ok((typed, rest))
+}
+
 /// Whether the operator at this place, which has been read, takes the operand on its left.
-fn fits_left(op: Op, left: &Typed, place: usize) -> Result<(), Fault> {
+fn fits_left(op: Op, left: &Typed, place: usize) -> Result<(), Fault>
+    ensures { Refuses result (fits_left op (operand_of left.now) place) }
+{
     settled(left)?;
     if takes_left(op, left.ty) {
         Ok(())
@@ -52,21 +75,27 @@ fn fits_left(op: Op, left: &Typed, place: usize) -> Result<(), Fault> {
     }
 }
 
-fn compared(
+/// The comparison, whose operator is at this place, before the rest.
+fn compared<'t>(
     alloc: Global,
     op: Op,
     left: Typed,
     right: Typed,
-    misfit: Option<usize>,
-) -> Result<Typed, Fault> {
+    at: (usize, &'t [Token]),
+) -> Result<(Typed, &'t [Token]), Fault>
+    ensures reads { Gives (λ x. (operand_of x.0, kinds x.1.now)) result (read (checks (refused_now (operand_of right) (takes_right op left.ty right.ty) at.entry.0) (gives (compared op (operand_of left) (operand_of right) at.entry.0))) (kinds at.entry.1.now)) }
+    ensures shorter { IfOk result (λ x. length x.1.now ≤ length at.entry.1.now) }
+{
+    let misfit = waiting(&right, takes_right(op, left.ty, right.ty), at.0)?;
     let left = Box::new(alloc, left.expr)?;
     let right = Box::new(alloc, right.expr)?;
-    Ok(Typed {
+    let typed = Typed {
         expr: Expr::Cmp { op, left, right },
-        ty: Type::Bool,
+        ty: ValueType::Bool,
         is_open: false,
         misfit,
-    })
+    };
+    Ok((typed, at.1))
 }
 
 /// A chain as far as it is read.
@@ -74,16 +103,20 @@ fn compared(
 struct Chain {
     joint: Joint,
     parts: Vec<Expr>,
+    /// How many tokens are left at the joint before the next part.
+    place: usize,
     /// The last part's misfit, which waits for the next token.
     misfit: Option<usize>,
 }
 
 /// The place of a part's misfit: where one waited, or the joint before it.
-fn misfit_of(part: &Typed, place: usize) -> Option<usize> {
+fn misfit_of(part: &Typed, place: usize) -> Option<usize>
+    ensures { result ≡ part_misfit (operand_of part.now) place }
+{
     if part.misfit.is_some() {
         return part.misfit;
     }
-    if part.ty == Type::Bool {
+    if part.ty.is(ValueType::Bool) {
         None
     } else {
         Some(place)
@@ -92,32 +125,70 @@ fn misfit_of(part: &Typed, place: usize) -> Option<usize> {
 
 impl Chain {
     /// The chain that begins with this part. The joint is at this place.
-    fn begun(alloc: Global, joint: Joint, first: Typed, place: usize) -> Result<Chain, Fault> {
-        fits(&first, Type::Bool, place)?;
+    fn begun(alloc: Global, joint: Joint, first: Typed, place: usize) -> Result<Chain, Fault>
+        ensures exact { Passes chain_of result (fits (operand_of first) Truth place) (begun_with (operand_of first) place) }
+        ensures joint { IfOk result (λ c. c.joint ≡ joint) }
+    {
+        fits(&first, ValueType::Bool, place)?;
         let mut parts = Vec::new(alloc);
         parts.push(first.expr)?;
         Ok(Chain {
             joint,
             parts,
+            place,
             misfit: None,
         })
     }
 
-    /// Adds a part, which has to fit at once where the chain goes on.
-    fn push(&mut self, part: Typed, place: usize, goes_on: bool) -> Result<(), Fault> {
-        self.misfit = misfit_of(&part, place);
-        if goes_on && let Some(place) = self.misfit {
+    /// Adds a part that isn't the last one: the joint behind it is at this place.
+    fn push(&mut self, part: Typed, place: usize) -> Result<(), Fault>
+        ensures exact { Passes (λ x. chain_of self.new) result (option_map misfit_at (part_misfit (operand_of part) self.old.place)) (longer (chain_of self.old) (operand_of part) place) }
+        ensures joint { self.new.joint ≡ self.old.joint }
+    {
+        if let Some(place) = misfit_of(&part, self.place) {
             return Err(misfit(place));
         }
+        self.place = place;
         self.parts.push(part.expr)?;
         Ok(())
     }
 
-    fn ended(self) -> Typed {
+    /// Adds the last part.
+    fn end(&mut self, part: Typed) -> Result<(), Fault>
+        ensures exact { Makes (λ x. ended_chain self.new) result (chained (joined_by self.old.joint) (chain_of self.old) (operand_of part)) }
+        ensures joint { self.new.joint ≡ self.old.joint }
+    {
+        self.misfit = misfit_of(&part, self.place);
+        self.parts.push(part.expr)?;
+        Ok(())
+    }
+
+    /// Adds the part before these tokens. Gives whether it is the last one, and what follows it or the joint behind it.
+    fn link<'t>(&mut self, part: Typed, tokens: &'t [Token]) -> Result<(bool, &'t [Token]), Fault>
+        ensures reads { Gives (λ x. (linked x.0 self.new, kinds x.1.now)) result (read (part_joint (joint_mark self.old.joint) (other_mark self.old.joint) (joined_by self.old.joint) (chain_of self.old) (operand_of part)) (kinds tokens.now)) }
+        ensures joint { self.new.joint ≡ self.old.joint }
+        ensures shorter { IfOk result (λ x. length x.1.now ≤ length tokens.now) }
+    {
+        match self.joint.after(tokens)? {
+            Some(next) => {
+                self.push(part, tokens.len())?;
+                Ok((false, next))
+            }
+            None => {
+                self.end(part)?;
+                Ok((true, tokens))
+            }
+        }
+    }
+
+    fn ended(self) -> Typed
+        ensures { operand_of result ≡ ended_chain self }
+    {
         let Chain {
             joint,
             parts,
             misfit,
+            ..
         } = self;
         let expr = match joint {
             Joint::And => Expr::And(parts),
@@ -125,20 +196,21 @@ impl Chain {
         };
         Typed {
             expr,
-            ty: Type::Bool,
+            ty: ValueType::Bool,
             is_open: false,
             misfit,
         }
     }
 }
 
-/// An operand: a negation, what begins with a parenthesis, or a leaf.
+/// An operand: a negation, what begins with a parenthesis, or what has none.
 #[cycle(expr)]
 fn unary<'t>(
     cx: Context<'_>,
     depth: u32,
     tokens: &'t [Token],
 ) -> Result<(Typed, &'t [Token]), Fault>
+    ensures reads { Gives (λ x. (operand_of x.0, kinds x.1.now)) result (read (unary_text (place_of cx.entry) depth) (kinds tokens.now)) }
     ensures shorter { IfOk result (λ x. length x.1.now < length tokens.now) }
 {
     if let Some(behind) = after_mark(Mark::Not, tokens) {
@@ -146,16 +218,17 @@ fn unary<'t>(
             return Err(deep(tokens));
         }
         let (operand, rest) = unary(cx, depth - 1, behind)?;
-        let typed = negated(cx.alloc, operand, tokens.len())?;
-        return Ok((typed, rest));
+        return negated(cx.alloc, operand, tokens.len(), rest);
     }
-    match group_at(cx, depth, tokens)? {
-        Some((group, behind)) => {
-            let (parts, rest) = parts_at(cx, depth - 1, group, behind)?;
-            let typed = made(cx.alloc, group, tokens, parts)?;
+    match opening_at(cx, depth, tokens)? {
+        Some(opened) => {
+            let shape = opened.opening.shape();
+            let place = opened.place;
+            let (parts, rest) = parts_at(cx, depth - 1, Group { shape, place }, opened.behind)?;
+            let typed = made(cx.alloc, opened.opening, parts)?;
             Ok((typed, rest))
         }
-        None => leaf_at(cx, depth, tokens),
+        None => atom_at(cx, depth, tokens),
     }
 }
 
@@ -166,6 +239,7 @@ fn comparison<'t>(
     depth: u32,
     tokens: &'t [Token],
 ) -> Result<(Typed, &'t [Token]), Fault>
+    ensures reads { Gives (λ x. (operand_of x.0, kinds x.1.now)) result (read (comparison_of (unary_text (place_of cx.entry) depth)) (kinds tokens.now)) }
     ensures shorter { IfOk result (λ x. length x.1.now < length tokens.now) }
 {
     let (left, rest) = unary(cx, depth, tokens)?;
@@ -174,9 +248,7 @@ fn comparison<'t>(
     };
     fits_left(op, &left, rest.len())?;
     let (right, end) = unary(cx, depth, behind)?;
-    let misfit = waiting(&right, takes_right(op, left.ty, right.ty), rest.len())?;
-    let typed = compared(cx.alloc, op, left, right, misfit)?;
-    Ok((typed, end))
+    compared(cx.alloc, op, left, right, (rest.len(), end))
 }
 
 /// The expression at the front, with so many levels below it at most. What may stand behind it is the caller's to
@@ -187,42 +259,23 @@ pub fn expression<'t>(
     depth: u32,
     tokens: &'t [Token],
 ) -> Result<(Typed, &'t [Token]), Fault>
+    ensures reads { Gives (λ x. (operand_of x.0, kinds x.1.now)) result (read (expression_text (place_of cx.entry) depth) (kinds tokens.now)) }
     ensures shorter { IfOk result (λ x. length x.1.now < length tokens.now) }
 {
     let (first, rest) = comparison(cx, depth, tokens)?;
     let Some(joint) = joint_at(rest) else {
         return Ok((first, rest));
     };
+    let mut left = mark_at(joint.mark(), rest)?;
     let mut chain = Chain::begun(cx.alloc, joint, first, rest.len())?;
-    let mut end = rest;
-    let mut behind = joint.after(rest)?;
-    'parts: while let Some(left) = behind {
-        let place = end.len();
+    'parts: loop {
         let (part, after) = comparison(cx, depth, left)?;
-        behind = joint.after(after)?;
-        chain.push(part, place, behind.is_some())?;
-        end = after;
+        let (is_last, next) = chain.link(part, after)?;
+        if is_last {
+            return Ok((chain.ended(), next));
+        }
+        left = next;
     }
-    Ok((chain.ended(), end))
-}
-
-/// Adds the part that is next. Gives whether it is the last one, and what follows.
-#[cycle(expr)]
-fn part<'t>(
-    cx: Context<'_>,
-    depth: u32,
-    group: Group<'_>,
-    parts: &mut Parts,
-    tokens: &'t [Token],
-) -> Result<(bool, &'t [Token]), Fault>
-    ensures enough { IfOk result (λ x. IsTrue x.0 → least group.entry.shape ≤ length parts.new.exprs.items) }
-    ensures shorter { IfOk result (λ x. length x.1.now < length tokens.now) }
-{
-    let (part, rest) = expression(cx, depth, tokens)?;
-    let (is_last, end) = part_end(group, parts.exprs.len(), rest)?;
-    parts.fits_next(group, is_last, &part, tokens.len())?;
-    parts.push(part)?;
-    Ok((is_last, end))
 }
 
 /// The parts of the group, from behind its parenthesis to its end.
@@ -233,7 +286,9 @@ fn parts_at<'t>(
     group: Group<'_>,
     tokens: &'t [Token],
 ) -> Result<(Parts, &'t [Token]), Fault>
+    ensures reads { Gives (λ x. (parts_of x.0, kinds x.1.now)) result (read (enclosed (place_of cx.entry) (expression_text (place_of cx.entry) depth) (shape_of group.entry.shape) group.entry.place) (kinds tokens.now)) }
     ensures enough { IfOk result (λ x. least group.entry.shape ≤ length x.0.exprs.items) }
+    ensures room { IfOk result (λ x. length x.0.exprs.items < limit group.entry.shape (length x.0.exprs.items)) }
     ensures shorter { IfOk result (λ x. length x.1.now < length tokens.now) }
 {
     let mut parts = Parts::new(cx.alloc, tokens.len());
@@ -242,11 +297,12 @@ fn parts_at<'t>(
     }
     let mut left = tokens;
     'parts: loop {
-        let (is_last, rest) = part(cx, depth, group, &mut parts, left)?;
+        let (part, after) = expression(cx, depth, left)?;
+        let (is_last, next) = parts.add(group, part, left.len(), after)?;
         if is_last {
-            return Ok((parts, rest));
+            return Ok((parts, next));
         }
-        left = rest;
+        left = next;
     }
 }
 
@@ -258,6 +314,7 @@ pub fn arguments<'t>(
     place: usize,
     tokens: &'t [Token],
 ) -> Result<(Vec<Expr>, &'t [Token]), Fault>
+    ensures reads { Gives (λ x. (exprs_view x.0.items, kinds x.1.now)) result (read (sequence (enclosed (place_of cx.entry) (expression_text (place_of cx.entry) depth) (arguments signature.now.params) place) (λ parts. gives parts.trees)) (kinds tokens.now)) }
     ensures shorter { IfOk result (λ x. length x.1.now < length tokens.now) }
 {
     let shape = Shape::Call(signature);

@@ -1,4 +1,9 @@
 //! Where an expression stands.
+ghost use Rattle.std.specs.Prelude.{◌≡◌, length};
+ghost use Rattle.ixp_tokens.specs.declared.fault.Cause.TheVariants.{Deep, Unknown, Misfit};
+ghost use Rattle.ixp_tokens.specs.declared.fault.Fault.TheVariants.{Stop};
+ghost use Rattle.ixp_exprs.specs.Names.{is_function, is_define};
+
 use crate::Env;
 use ixp_tokens::{Cause, Fault, Token};
 use std::alloc::Global;
@@ -14,14 +19,18 @@ pub enum Scope {
 }
 
 impl Scope {
-    pub(crate) fn is_function(self, number: usize) -> bool {
+    pub(crate) fn is_function(self, number: usize) -> bool
+        ensures { result ≡ is_function self number }
+    {
         match self {
             Scope::Function(own) => own == number,
             _ => false,
         }
     }
 
-    pub(crate) fn is_define(self) -> bool {
+    pub(crate) fn is_define(self) -> bool
+        ensures { result ≡ is_define self }
+    {
         match self {
             Scope::Define => true,
             _ => false,
@@ -40,16 +49,22 @@ pub struct Context<'e> {
 }
 
 /// One level too many begins here.
-pub(crate) fn deep(tokens: &[Token]) -> Fault {
+pub(crate) fn deep(tokens: &[Token]) -> Fault
+    ensures { result ≡ Stop Deep (length tokens.now) }
+{
     Fault::Stop(Cause::Deep, tokens.len())
 }
 
 /// No item or parameter of the wanted sort has the name that stands here.
-pub(crate) fn unknown(tokens: &[Token]) -> Fault {
+pub(crate) fn unknown(tokens: &[Token]) -> Fault
+    ensures { result ≡ Stop Unknown (length tokens.now) }
+{
     Fault::Stop(Cause::Unknown, tokens.len())
 }
 
 /// The types don't fit at this place.
-pub(crate) fn misfit(place: usize) -> Fault {
+pub(crate) fn misfit(place: usize) -> Fault
+    ensures { result ≡ Stop Misfit place }
+{
     Fault::Stop(Cause::Misfit, place)
 }

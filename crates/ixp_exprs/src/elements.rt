@@ -1,5 +1,10 @@
 //! The elements of sets.
-ghost use Rattle.std.specs.Prelude.{◌<◌, ◌≤◌, length, IfOk};
+ghost use Rattle.std.specs.Prelude.{◌≡◌, ◌<◌, ◌≤◌, length, IfOk, IfSome, nat_lt, option_map};
+ghost use Rattle.ixp_tokens.specs.Reading.{read, kinds, Gives};
+ghost use Rattle.ixp_exprs.specs.Names.{names_at};
+ghost use Rattle.ixp_exprs.specs.Answers.{Refuses};
+ghost use Rattle.ixp_exprs.specs.Sets.{numeral, range, bounded_length, bounds, pattern_end, pattern_text, too_great};
+ghost use Rattle.ixp_exprs.specs.Sets.{star_in, part_too_great, pair_end, triple_end, may_be_pair, may_be_triple, second_end, tuple_end, tuple_text};
 
 use crate::Context;
 use crate::context::{deep, unknown};
@@ -7,10 +12,11 @@ use ixp_num::{Pattern, Prefix};
 use ixp_tokens::{Cause, Fault, Kind, Mark, Token, after_mark, mark_at, number_at, unexpected};
 
 /// The greatest part of a pair.
-pub(crate) const PART_LIMIT: u32 = 65535;
+const PART_LIMIT: u32 = 65535;
 
 /// A number, or the name of a defined one.
 fn number_or_name_at<'t>(cx: Context<'_>, tokens: &'t [Token]) -> Result<(u32, &'t [Token]), Fault>
+    ensures reads { Gives (λ x. (x.0, kinds x.1.now)) result (read (numeral (names_at cx.entry)) (kinds tokens.now)) }
     ensures shorter { IfOk result (λ x. length x.1.now < length tokens.now) }
 {
     let [first, rest @ ..] = tokens else {
@@ -31,6 +37,7 @@ pub(crate) fn range_at<'t>(
     cx: Context<'_>,
     tokens: &'t [Token],
 ) -> Result<((u32, u32), &'t [Token]), Fault>
+    ensures reads { Gives (λ x. (x.0, kinds x.1.now)) result (read (range (names_at cx.entry)) (kinds tokens.now)) }
     ensures shorter { IfOk result (λ x. length x.1.now < length tokens.now) }
 {
     let (low, rest) = number_or_name_at(cx, tokens)?;
@@ -43,6 +50,7 @@ pub(crate) fn range_at<'t>(
 
 /// A length from the lowest one to the highest one that is lawful there.
 fn length_at(lowest: u8, highest: u8, tokens: &[Token]) -> Result<(u8, &[Token]), Fault>
+    ensures reads { Gives (λ x. (x.0, kinds x.1.now)) result (read (bounded_length lowest highest) (kinds tokens.now)) }
     ensures shorter { IfOk result (λ x. length x.1.now < length tokens.now) }
 {
     let (number, rest) = number_at(tokens)?;
@@ -57,6 +65,7 @@ fn length_at(lowest: u8, highest: u8, tokens: &[Token]) -> Result<(u8, &[Token])
 
 /// The bounds in braces behind a prefix.
 fn bounds_at(prefix: Prefix, tokens: &[Token]) -> Result<(Pattern, &[Token]), Fault>
+    ensures reads { Gives (λ x. (x.0, kinds x.1.now)) result (read (bounds prefix) (kinds tokens.now)) }
     ensures shorter { IfOk result (λ x. length x.1.now < length tokens.now) }
 {
     let most = prefix.family.bits();
@@ -69,6 +78,7 @@ fn bounds_at(prefix: Prefix, tokens: &[Token]) -> Result<(Pattern, &[Token]), Fa
 
 /// What stands behind the prefix of a pattern.
 fn pattern_with(prefix: Prefix, tokens: &[Token]) -> Result<(Pattern, &[Token]), Fault>
+    ensures reads { Gives (λ x. (x.0, kinds x.1.now)) result (read (pattern_end prefix) (kinds tokens.now)) }
     ensures shorter { IfOk result (λ x. length x.1.now ≤ length tokens.now) }
 {
     if let Some(rest) = after_mark(Mark::BlockOpen, tokens) {
@@ -87,6 +97,7 @@ fn pattern_with(prefix: Prefix, tokens: &[Token]) -> Result<(Pattern, &[Token]),
 
 /// A prefix, with or without bounds.
 pub(crate) fn pattern_at(tokens: &[Token]) -> Result<(Pattern, &[Token]), Fault>
+    ensures reads { Gives (λ x. (x.0, kinds x.1.now)) result (read (pattern_text) (kinds tokens.now)) }
     ensures shorter { IfOk result (λ x. length x.1.now < length tokens.now) }
 {
     let [first, rest @ ..] = tokens else {
@@ -112,22 +123,49 @@ pub(crate) enum Arity {
     Triple,
 }
 
+/// Whether the tuples so far let the next one be a pair.
+fn may_be_pair(wanted: Option<Arity>) -> bool
+    ensures { result ≡ may_be_pair wanted }
+{
+    match wanted {
+        Some(Arity::Triple) => false,
+        _ => true,
+    }
+}
+
+/// Whether the tuples so far let the next one be a triple.
+fn may_be_triple(wanted: Option<Arity>) -> bool
+    ensures { result ≡ may_be_triple wanted }
+{
+    match wanted {
+        Some(Arity::Pair) => false,
+        _ => true,
+    }
+}
+
+/// Whether a part of a pair, at whose place so many tokens are left, is small enough.
+pub(crate) fn small_part(part: Option<u32>, place: usize) -> Result<(), Fault>
+    ensures { Refuses result (part_too_great part place) }
+{
+    match part {
+        Some(number) if number > PART_LIMIT => Err(Fault::Stop(Cause::Number, place)),
+        _ => Ok(()),
+    }
+}
+
 /// The end of a pair of these parts, which must be small enough. Their places are how many tokens were left.
 fn pair_end<'t>(
     first: (u32, usize),
     second: (Option<u32>, usize),
     tokens: &'t [Token],
 ) -> Result<(Tuple, &'t [Token]), Fault>
+    ensures reads { Gives (λ x. (x.0, kinds x.1.now)) result (read (pair_end first.0 first.1 second.0 second.1) (kinds tokens.now)) }
     ensures shorter { IfOk result (λ x. length x.1.now < length tokens.now) }
 {
     let rest = mark_at(Mark::Close, tokens)?;
-    if first.0 > PART_LIMIT {
-        return Err(Fault::Stop(Cause::Number, first.1));
-    }
-    match second.0 {
-        Some(part) if part > PART_LIMIT => Err(Fault::Stop(Cause::Number, second.1)),
-        _ => Ok((Tuple::Pair(first.0, second.0), rest)),
-    }
+    small_part(Some(first.0), first.1)?;
+    small_part(second.0, second.1)?;
+    Ok((Tuple::Pair(first.0, second.0), rest))
 }
 
 /// The third part of a triple, and its end.
@@ -137,6 +175,7 @@ fn triple_end<'t>(
     b: u32,
     tokens: &'t [Token],
 ) -> Result<(Tuple, &'t [Token]), Fault>
+    ensures reads { Gives (λ x. (x.0, kinds x.1.now)) result (read (triple_end (names_at cx.entry) a b) (kinds tokens.now)) }
     ensures shorter { IfOk result (λ x. length x.1.now < length tokens.now) }
 {
     if let Some(rest) = after_mark(Mark::Star, tokens) {
@@ -148,6 +187,41 @@ fn triple_end<'t>(
     Ok((Tuple::Triple(a, b, Some(c)), rest))
 }
 
+/// What is behind the second part, a number.
+fn second_end<'t>(
+    cx: Context<'_>,
+    wanted: Option<Arity>,
+    first: (u32, usize),
+    second: (u32, usize),
+    tokens: &'t [Token],
+) -> Result<(Tuple, &'t [Token]), Fault>
+    ensures reads { Gives (λ x. (x.0, kinds x.1.now)) result (read (second_end (names_at cx.entry) wanted first.0 first.1 second.0 second.1) (kinds tokens.now)) }
+    ensures shorter { IfOk result (λ x. length x.1.now < length tokens.now) }
+{
+    if may_be_triple(wanted)
+        && let Some(rest) = after_mark(Mark::Comma, tokens)
+    {
+        return triple_end(cx, first.0, second.0, rest);
+    }
+    if may_be_pair(wanted) {
+        pair_end(first, (Some(second.0), second.1), tokens)
+    } else {
+        Err(unexpected(tokens))
+    }
+}
+
+/// What follows a star as the second part of a pair, if one is next.
+fn after_star(wanted: Option<Arity>, tokens: &[Token]) -> Option<&[Token]>
+    ensures reads { option_map (λ r. kinds r.now) result ≡ star_in wanted (kinds tokens.now) }
+    ensures shorter { IfSome result (λ r. length r.now < length tokens.now) }
+{
+    if may_be_pair(wanted) {
+        after_mark(Mark::Star, tokens)
+    } else {
+        None
+    }
+}
+
 /// The tuple from its second part on.
 fn tuple_end<'t>(
     cx: Context<'_>,
@@ -155,26 +229,15 @@ fn tuple_end<'t>(
     first: (u32, usize),
     tokens: &'t [Token],
 ) -> Result<(Tuple, &'t [Token]), Fault>
+    ensures reads { Gives (λ x. (x.0, kinds x.1.now)) result (read (tuple_end (names_at cx.entry) wanted first.0 first.1) (kinds tokens.now)) }
     ensures shorter { IfOk result (λ x. length x.1.now < length tokens.now) }
 {
     let place = tokens.len();
-    if let Some(rest) = after_mark(Mark::Star, tokens) {
-        if wanted == Some(Arity::Triple) {
-            return Err(unexpected(tokens));
-        }
+    if let Some(rest) = after_star(wanted, tokens) {
         return pair_end(first, (None, place), rest);
     }
     let (second, rest) = number_or_name_at(cx, tokens)?;
-    if wanted != Some(Arity::Pair)
-        && let Some(rest) = after_mark(Mark::Comma, rest)
-    {
-        return triple_end(cx, first.0, second, rest);
-    }
-    let (pair, end) = pair_end(first, (Some(second), place), rest)?;
-    if wanted == Some(Arity::Triple) {
-        return Err(unexpected(rest));
-    }
-    Ok((pair, end))
+    second_end(cx, wanted, first, (second, place), rest)
 }
 
 /// A tuple of the wanted kind, or of any where none is wanted yet. Its parenthesis is one level deeper.
@@ -184,6 +247,7 @@ pub(crate) fn tuple_at<'t>(
     wanted: Option<Arity>,
     tokens: &'t [Token],
 ) -> Result<(Tuple, &'t [Token]), Fault>
+    ensures reads { Gives (λ x. (x.0, kinds x.1.now)) result (read (tuple_text (names_at cx.entry) (nat_lt 0 depth) wanted) (kinds tokens.now)) }
     ensures shorter { IfOk result (λ x. length x.1.now < length tokens.now) }
 {
     let rest = mark_at(Mark::Open, tokens)?;

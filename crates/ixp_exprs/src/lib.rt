@@ -21,4 +21,4 @@ pub use chain::{arguments, expression};
 pub use context::{Context, Scope};
 pub use env::{Declared, Env, Signature, Table, defined_number, own_name_at};
 pub use leaf::state_of;
-pub use types::{Type, Typed, fits, settled, type_of};
+pub use types::{Typed, ValueType, fits, settled, type_of};

@@ -1,18 +1,26 @@
 //! The trees of groups.
-ghost use Rattle.std.specs.Prelude.{◌≡◌, ◌≤◌, ◌<◌, ◌+◌, length, OnOk};
-ghost use Rattle.ixp_exprs.specs.Groups.{least};
+ghost use Rattle.std.specs.Prelude.{◌≡◌, ◌≤◌, ◌<◌, ◌++◌, ◌∷◌, [], length, IfOk, IfErr, box_value};
+ghost use Rattle.ixp_lang.specs.Views.{expr_view, exprs_view};
+ghost use Rattle.ixp_tokens.specs.declared.fault.Fault.TheVariants.{NoMemory};
+ghost use Rattle.ixp_exprs.specs.declared.types.ValueType.TheVariants.{Bool as Truth, State, Pair, Triple};
+ghost use Rattle.ixp_exprs.specs.Answers.{Makes};
+ghost use Rattle.ixp_exprs.specs.Operands.{operand_of, closed};
+ghost use Rattle.ixp_exprs.specs.Expressions.{plain_tree, check_tree};
+ghost use Rattle.ixp_exprs.specs.Groups.{least, limit, shape_in, parts_of, finished, literal_pair, literal_triple, call_tree};
 
-use crate::group::{Group, Shape};
+use crate::group::Opening;
 use crate::parts::{Parts, literal_number};
-use crate::{Type, Typed};
+use crate::{Signature, Typed, ValueType};
 use ixp_lang::{Expr, Value};
-use ixp_tokens::{Fault, Token, name_at};
+use ixp_num::Name;
+use ixp_tokens::Fault;
 use std::alloc::Global;
 
 /// Takes the last part out.
 fn last_part(alloc: Global, exprs: &mut Vec<Expr>) -> Result<Box<Expr>, Fault>
     requires { 0 < length exprs.old.items }
-    ensures { OnOk result (length exprs.new.items + 1 ≡ length exprs.old.items) }
+    ensures last { IfOk result (λ part. exprs.old.items ≡ exprs.new.items ++ box_value part ∷ []) }
+    ensures memory { IfErr result (λ f. f ≡ NoMemory) }
 {
     let Some(expr) = exprs.pop() else {
         unreachable!()
@@ -22,7 +30,9 @@ fn last_part(alloc: Global, exprs: &mut Vec<Expr>) -> Result<Box<Expr>, Fault>
 }
 
 /// The pair, if both parts are literals.
-fn literal_pair(exprs: &[Expr]) -> Option<Value> {
+fn literal_pair(exprs: &[Expr]) -> Option<Value>
+    ensures { result ≡ literal_pair (exprs_view exprs.now) }
+{
     let [a, b] = exprs else {
         return None;
     };
@@ -32,7 +42,9 @@ fn literal_pair(exprs: &[Expr]) -> Option<Value> {
 }
 
 /// The triple, if all parts are literals.
-fn literal_triple(exprs: &[Expr]) -> Option<Value> {
+fn literal_triple(exprs: &[Expr]) -> Option<Value>
+    ensures { result ≡ literal_triple (exprs_view exprs.now) }
+{
     let [a, b, c] = exprs else {
         return None;
     };
@@ -43,7 +55,8 @@ fn literal_triple(exprs: &[Expr]) -> Option<Value> {
 }
 
 fn pair_of(alloc: Global, mut exprs: Vec<Expr>) -> Result<Expr, Fault>
-    requires { 2 ≤ length exprs.items }
+    requires { length exprs.items ≡ 2 }
+    ensures { Makes (λ e. closed (expr_view e) Pair) result (plain_tree (exprs_view exprs.items) Truth) }
 {
     if let Some(value) = literal_pair(exprs.as_slice()) {
         return Ok(Expr::Lit(value));
@@ -54,7 +67,8 @@ fn pair_of(alloc: Global, mut exprs: Vec<Expr>) -> Result<Expr, Fault>
 }
 
 fn triple_of(alloc: Global, mut exprs: Vec<Expr>) -> Result<Expr, Fault>
-    requires { 3 ≤ length exprs.items }
+    requires { length exprs.items ≡ 3 }
+    ensures { Makes (λ e. closed (expr_view e) Triple) result (plain_tree (exprs_view exprs.items) Truth) }
 {
     if let Some(value) = literal_triple(exprs.as_slice()) {
         return Ok(Expr::Lit(value));
@@ -66,8 +80,10 @@ fn triple_of(alloc: Global, mut exprs: Vec<Expr>) -> Result<Expr, Fault>
 }
 
 /// The expression itself, which has this type, or a tuple.
-fn plain_of(alloc: Global, ty: Type, mut exprs: Vec<Expr>) -> Result<Typed, Fault>
-    requires { 1 ≤ length exprs.items }
+fn plain_of(alloc: Global, ty: ValueType, mut exprs: Vec<Expr>) -> Result<Typed, Fault>
+    requires enough { 1 ≤ length exprs.items }
+    requires few { length exprs.items < 4 }
+    ensures { Makes operand_of result (plain_tree (exprs_view exprs.items) ty) }
 {
     match exprs.len() {
         1 => {
@@ -76,46 +92,47 @@ fn plain_of(alloc: Global, ty: Type, mut exprs: Vec<Expr>) -> Result<Typed, Faul
             };
             Ok(Typed::closed(expr, ty))
         }
-        2 => Ok(Typed::closed(pair_of(alloc, exprs)?, Type::Pair)),
-        _ => Ok(Typed::closed(triple_of(alloc, exprs)?, Type::Triple)),
+        2 => Ok(Typed::closed(pair_of(alloc, exprs)?, ValueType::Pair)),
+        _ => Ok(Typed::closed(triple_of(alloc, exprs)?, ValueType::Triple)),
     }
 }
 
-/// The call of the function that is named first.
-fn call_of(alloc: Global, ty: Type, tokens: &[Token], args: Vec<Expr>) -> Result<Typed, Fault> {
-    let (name, _) = name_at(tokens)?;
+/// The call of a function.
+fn call_of(
+    alloc: Global,
+    name: &Name,
+    signature: &Signature,
+    args: Vec<Expr>,
+) -> Result<Typed, Fault>
+    ensures { Makes operand_of result (call_tree name.now signature.now (exprs_view args.items)) }
+{
+    let ty = signature.returns.unwrap_or(ValueType::Bool);
     let name = name.copied(alloc)?;
     Ok(Typed::closed(Expr::Call { name, args }, ty))
 }
 
-/// The check against the table that is named behind the parenthesis.
-fn roa_check_of(alloc: Global, tokens: &[Token], mut exprs: Vec<Expr>) -> Result<Typed, Fault>
-    requires { 2 ≤ length exprs.items }
+/// The check against a table.
+fn roa_check_of(alloc: Global, table: &Name, mut exprs: Vec<Expr>) -> Result<Typed, Fault>
+    requires { length exprs.items ≡ 2 }
+    ensures { Makes operand_of result (closed (check_tree table.now (exprs_view exprs.items)) State) }
 {
-    let (table, _) = name_at(tokens.get(2..).unwrap_or(&[]))?;
     let table = table.copied(alloc)?;
     let origin = last_part(alloc, &mut exprs)?;
     let net = last_part(alloc, &mut exprs)?;
     let check = Expr::RoaCheck { table, net, origin };
-    Ok(Typed::closed(check, Type::State))
+    Ok(Typed::closed(check, ValueType::State))
 }
 
-/// The tree of the group that begins with these tokens.
-pub(crate) fn made(
-    alloc: Global,
-    group: Group<'_>,
-    tokens: &[Token],
-    parts: Parts,
-) -> Result<Typed, Fault>
-    requires { least group.shape ≤ length parts.exprs.items }
+/// The tree of the group that was opened so.
+pub(crate) fn made(alloc: Global, opening: Opening<'_, '_>, parts: Parts) -> Result<Typed, Fault>
+    requires enough { least (shape_in opening) ≤ length parts.exprs.items }
+    requires few { length parts.exprs.items < limit (shape_in opening) (length parts.exprs.items) }
+    ensures { Makes operand_of result (finished opening.entry (parts_of parts)) }
 {
     let Parts { exprs, ty, .. } = parts;
-    match group.shape {
-        Shape::Plain => plain_of(alloc, ty, exprs),
-        Shape::Call(signature) => {
-            let ty = signature.returns.unwrap_or(Type::Bool);
-            call_of(alloc, ty, tokens, exprs)
-        }
-        Shape::RoaCheck => roa_check_of(alloc, tokens, exprs),
+    match opening {
+        Opening::Plain => plain_of(alloc, ty, exprs),
+        Opening::Call(name, signature) => call_of(alloc, name, signature, exprs),
+        Opening::Check(table) => roa_check_of(alloc, table, exprs),
     }
 }

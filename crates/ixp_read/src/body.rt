@@ -1,5 +1,5 @@
 //! What a reader of statements knows of the function or filter that it reads.
-use ixp_exprs::{Context, Env, Scope, Type};
+use ixp_exprs::{Context, Env, Scope, ValueType};
 use ixp_tokens::{Cause, Fault, Kind, Mark, Token, unexpected};
 use std::alloc::Global;
 
@@ -35,14 +35,14 @@ impl<'e> Frame<'e> {
 #[derive(Clone, Copy)]
 pub(crate) struct Returned {
     /// The type that was written, or that of the first `return`.
-    pub ty: Option<Type>,
+    pub ty: Option<ValueType>,
     /// Whether there was a `return`.
     pub is_met: bool,
 }
 
 impl Returned {
     /// A `return` at this place of such a value.
-    pub(crate) fn meet(&mut self, ty: Type, place: usize) -> Result<(), Fault> {
+    pub(crate) fn meet(&mut self, ty: ValueType, place: usize) -> Result<(), Fault> {
         if !ty.is_of_values() {
             return Err(Fault::Stop(Cause::Misfit, place));
         }

@@ -2,7 +2,7 @@
 ghost use Rattle.std.specs.Prelude.{◌<◌, ◌≤◌, length, IfOk};
 
 use crate::body::{Frame, Returned, misfit, unknown};
-use ixp_exprs::{Context, Type, Typed, arguments, expression, fits, own_name_at, settled};
+use ixp_exprs::{Context, Typed, ValueType, arguments, expression, fits, own_name_at, settled};
 use ixp_lang::{Expr, Stmt};
 use ixp_tokens::{
     Fault, Kind, Mark, Token, after_mark, after_word, mark_at, name_at, unexpected, word_at,
@@ -12,7 +12,7 @@ use ixp_tokens::{
 fn last_at<'t>(
     cx: Context<'_>,
     depth: u32,
-    wanted: Type,
+    wanted: ValueType,
     tokens: &'t [Token],
 ) -> Result<(Expr, &'t [Token]), Fault>
     ensures shorter { IfOk result (λ x. length x.1.now < length tokens.now) }
@@ -27,7 +27,7 @@ fn last_at<'t>(
 fn enclosed_at<'t>(
     cx: Context<'_>,
     depth: u32,
-    wanted: Type,
+    wanted: ValueType,
     tokens: &'t [Token],
 ) -> Result<(Expr, &'t [Token]), Fault>
     ensures shorter { IfOk result (λ x. length x.1.now < length tokens.now) }
@@ -89,7 +89,7 @@ fn next_hop_at<'t>(
     ensures shorter { IfOk result (λ x. length x.1.now < length tokens.now) }
 {
     let rest = mark_at(Mark::Equal, tokens)?;
-    let (value, rest) = last_at(cx, depth, Type::Ip, rest)?;
+    let (value, rest) = last_at(cx, depth, ValueType::Ip, rest)?;
     Ok((Stmt::SetNextHop(value), rest))
 }
 
@@ -103,7 +103,7 @@ fn prepend_at<'t>(
 {
     let rest = mark_at(Mark::Dot, tokens)?;
     let rest = word_at(b"prepend", rest)?;
-    let (value, rest) = enclosed_at(cx, depth, Type::Int, rest)?;
+    let (value, rest) = enclosed_at(cx, depth, ValueType::Int, rest)?;
     Ok((Stmt::Prepend(value), rest))
 }
 
@@ -117,11 +117,11 @@ fn pairs_at<'t>(
 {
     let rest = mark_at(Mark::Dot, tokens)?;
     if let Some(rest) = after_word(b"add", rest) {
-        let (value, rest) = enclosed_at(cx, depth, Type::Pair, rest)?;
+        let (value, rest) = enclosed_at(cx, depth, ValueType::Pair, rest)?;
         return Ok((Stmt::AddPair(value), rest));
     }
     let rest = word_at(b"delete", rest)?;
-    let (value, rest) = enclosed_at(cx, depth, Type::PairSet, rest)?;
+    let (value, rest) = enclosed_at(cx, depth, ValueType::PairSet, rest)?;
     Ok((Stmt::DeletePairs(value), rest))
 }
 
@@ -135,11 +135,11 @@ fn triples_at<'t>(
 {
     let rest = mark_at(Mark::Dot, tokens)?;
     if let Some(rest) = after_word(b"add", rest) {
-        let (value, rest) = enclosed_at(cx, depth, Type::Triple, rest)?;
+        let (value, rest) = enclosed_at(cx, depth, ValueType::Triple, rest)?;
         return Ok((Stmt::AddTriple(value), rest));
     }
     let rest = word_at(b"delete", rest)?;
-    let (value, rest) = enclosed_at(cx, depth, Type::TripleSet, rest)?;
+    let (value, rest) = enclosed_at(cx, depth, ValueType::TripleSet, rest)?;
     Ok((Stmt::DeleteTriples(value), rest))
 }
 

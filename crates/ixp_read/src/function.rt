@@ -1,9 +1,12 @@
 //! Functions and filters.
-ghost use Rattle.std.specs.Prelude.{◌<◌, ◌≤◌, length, IfOk};
+ghost use Rattle.std.specs.Prelude.{◌≡◌, ◌<◌, ◌≤◌, length, IfOk};
+ghost use Rattle.ixp_tokens.specs.Reading.{read, kinds, Gives};
+ghost use Rattle.ixp_exprs.specs.Expressions.{word_in};
+ghost use Rattle.ixp_read.specs.Functions.{type_in, set_of, has_sets, type_text, written_text};
 
 use crate::body::{Frame, Returned, misfit};
 use crate::stmt::block_end;
-use ixp_exprs::{Declared, Env, Scope, Signature, Type, own_name_at, type_of};
+use ixp_exprs::{Declared, Env, Scope, Signature, ValueType, own_name_at, type_of};
 use ixp_lang::{Item, Stmt, Ty};
 use ixp_num::{Items, Name};
 use ixp_tokens::{Cause, Fault, Kind, Mark, Token, after_mark, after_word, mark_at, unexpected};
@@ -13,57 +16,91 @@ use std::alloc::Global;
 const DEPTH: u32 = 64;
 
 /// The type that the keyword is.
-fn word_type(word: &[u8]) -> Option<Ty> {
-    match word {
-        b"int" => Some(Ty::Int),
-        b"bool" => Some(Ty::Bool),
-        b"ip" => Some(Ty::Ip),
-        b"prefix" => Some(Ty::Prefix),
-        b"pair" => Some(Ty::Pair),
-        b"lc" => Some(Ty::Lc),
+fn word_type(word: &[u8]) -> Option<Ty>
+    ensures { result ≡ type_in word.now }
+{
+    if word == b"int".as_slice() {
+        return Some(Ty::Int);
+    }
+    if word == b"bool".as_slice() {
+        return Some(Ty::Bool);
+    }
+    if word == b"ip".as_slice() {
+        return Some(Ty::Ip);
+    }
+    if word == b"prefix".as_slice() {
+        return Some(Ty::Prefix);
+    }
+    if word == b"pair".as_slice() {
+        return Some(Ty::Pair);
+    }
+    if word == b"lc".as_slice() {
+        return Some(Ty::Lc);
+    }
+    None
+}
+
+/// The type that the token is.
+fn token_type(kind: &Kind) -> Option<Ty>
+    ensures { result ≡ word_in type_in kind.now }
+{
+    match kind {
+        Kind::Word(word) => word_type(word.as_bytes()),
         _ => None,
     }
 }
 
 /// The type of the sets of such elements.
-fn set_type(ty: Ty) -> Option<Ty> {
+fn set_type(ty: Ty) -> Ty
+    ensures { result ≡ set_of ty }
+{
     match ty {
-        Ty::Int => Some(Ty::IntSet),
-        Ty::Ip => Some(Ty::IpSet),
-        Ty::Prefix => Some(Ty::PrefixSet),
-        Ty::Pair => Some(Ty::PairSet),
-        Ty::Lc => Some(Ty::LcSet),
-        _ => None,
+        Ty::Int => Ty::IntSet,
+        Ty::Ip => Ty::IpSet,
+        Ty::Prefix => Ty::PrefixSet,
+        Ty::Pair => Ty::PairSet,
+        Ty::Lc => Ty::LcSet,
+        other => other,
+    }
+}
+
+/// Whether there are sets of such elements.
+fn has_sets(ty: Ty) -> bool
+    ensures { result ≡ has_sets ty }
+{
+    match ty {
+        Ty::Bool => false,
+        _ => true,
     }
 }
 
 /// A type.
 fn type_at(tokens: &[Token]) -> Result<(Ty, &[Token]), Fault>
+    ensures reads { Gives (λ x. (x.0, kinds x.1.now)) result (read type_text (kinds tokens.now)) }
     ensures shorter { IfOk result (λ x. length x.1.now < length tokens.now) }
 {
     let [first, rest @ ..] = tokens else {
         return Err(unexpected(tokens));
     };
-    let Kind::Word(word) = &first.kind else {
+    let Some(ty) = token_type(&first.kind) else {
         return Err(unexpected(tokens));
     };
-    let Some(ty) = word_type(word.as_bytes()) else {
-        return Err(unexpected(tokens));
-    };
-    match (set_type(ty), after_word(b"set", rest)) {
-        (Some(set), Some(rest)) => Ok((set, rest)),
-        _ => Ok((ty, rest)),
+    if has_sets(ty)
+        && let Some(behind) = after_word(b"set", rest)
+    {
+        return Ok((set_type(ty), behind));
     }
+    Ok((ty, rest))
 }
 
 /// What a function's head declares.
 #[derive(Drop)]
 struct Head {
     name: Name,
-    /// Which function it is: how many tokens were left at its name.
+    /// Which function it is: how many items stand before it.
     number: usize,
     params: Items<(Ty, Name)>,
-    types: Items<Type>,
+    types: Items<ValueType>,
 }
 
 /// The parameter that is next. Its name is free in the function.
@@ -90,6 +127,7 @@ fn parameter_at<'t>(
 fn head_at<'t>(
     alloc: Global,
     env: &mut Env,
+    number: usize,
     tokens: &'t [Token],
 ) -> Result<(Head, &'t [Token]), Fault>
     ensures shorter { IfOk result (λ x. length x.1.now < length tokens.now) }
@@ -98,7 +136,7 @@ fn head_at<'t>(
     env.declare(alloc, &name, Declared::Begun)?;
     let mut head = Head {
         name,
-        number: tokens.len(),
+        number,
         params: Items::new(alloc),
         types: Items::new(alloc),
     };
@@ -117,7 +155,8 @@ fn head_at<'t>(
 }
 
 /// The type that a function is said to return, if one is.
-fn written_at(tokens: &[Token]) -> Result<(Option<Type>, &[Token]), Fault>
+fn written_at(tokens: &[Token]) -> Result<(Option<ValueType>, &[Token]), Fault>
+    ensures reads { Gives (λ x. (x.0, kinds x.1.now)) result (read written_text (kinds tokens.now)) }
     ensures shorter { IfOk result (λ x. length x.1.now ≤ length tokens.now) }
 {
     let Some(rest) = after_mark(Mark::Arrow, tokens) else {
@@ -158,18 +197,19 @@ fn body_at<'t>(
 #[derive(Drop)]
 struct Body {
     body: Vec<Stmt>,
-    returns: Option<Type>,
+    returns: Option<ValueType>,
 }
 
-/// What follows `function`.
+/// What follows `function`. So many items stand before it.
 pub(crate) fn function_at<'t>(
     alloc: Global,
     env: &mut Env,
+    number: usize,
     tokens: &'t [Token],
 ) -> Result<(Item, &'t [Token]), Fault>
     ensures shorter { IfOk result (λ x. length x.1.now < length tokens.now) }
 {
-    let (head, rest) = head_at(alloc, env, tokens)?;
+    let (head, rest) = head_at(alloc, env, number, tokens)?;
     let (end, rest) = body_at(alloc, env, head.number, rest)?;
     let Head {
         name,

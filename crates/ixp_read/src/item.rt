@@ -110,6 +110,7 @@ fn protocol_at<'t>(
 fn word_item_at<'t>(
     alloc: Global,
     env: &mut Env,
+    number: usize,
     word: &[u8],
     tokens: &'t [Token],
     rest: &'t [Token],
@@ -123,16 +124,18 @@ fn word_item_at<'t>(
         b"roa4" => table_at(alloc, env, Kind::Roa4, rest),
         b"roa6" => table_at(alloc, env, Kind::Roa6, rest),
         b"define" => define_at(alloc, env, tokens.len(), rest),
-        b"function" => function_at(alloc, env, rest),
+        b"function" => function_at(alloc, env, number, rest),
         b"filter" => filter_at(alloc, env, rest),
         b"protocol" => protocol_at(alloc, env, rest),
         _ => Err(unexpected(tokens)),
     }
 }
 
+/// An item, before which there are so many.
 fn item_at<'t>(
     alloc: Global,
     env: &mut Env,
+    number: usize,
     tokens: &'t [Token],
 ) -> Result<(Item, &'t [Token]), Fault>
     ensures shorter { IfOk result (λ x. length x.1.now < length tokens.now) }
@@ -141,7 +144,7 @@ fn item_at<'t>(
         return Err(unexpected(tokens));
     };
     match &first.kind {
-        TokenKind::Word(word) => word_item_at(alloc, env, word.as_bytes(), tokens, rest),
+        TokenKind::Word(word) => word_item_at(alloc, env, number, word.as_bytes(), tokens, rest),
         _ => Err(unexpected(tokens)),
     }
 }
@@ -152,7 +155,7 @@ pub(crate) fn items_at(alloc: Global, tokens: &[Token]) -> Result<Vec<Item>, Fau
     let mut items = Vec::new(alloc);
     let mut left = tokens;
     'each: while !left.is_empty() {
-        let (item, rest) = item_at(alloc, &mut env, left)?;
+        let (item, rest) = item_at(alloc, &mut env, items.len(), left)?;
         items.push(item)?;
         left = rest;
     }

@@ -1,8 +1,11 @@
 //! The labels of a `case`.
 ghost use Rattle.std.specs.Prelude.{◌<◌, ◌≤◌, length, IfOk};
+ghost use Rattle.ixp_tokens.specs.Reading.{read, kinds, Gives, begins};
+ghost use Rattle.ixp_read.specs.Statements.{label_text, labels_text, no_case, is_state};
+ghost use Rattle.ixp_read.specs.Views.{range_end};
 
 use crate::body::misfit;
-use ixp_exprs::{Type, state_of};
+use ixp_exprs::{ValueType, state_of};
 use ixp_lang::Label;
 use ixp_num::Items;
 use ixp_tokens::{Fault, Kind, Mark, Token, after_mark, mark_at, number_at, unexpected};
@@ -18,13 +21,13 @@ pub(crate) struct Case {
 
 impl Case {
     /// A `case` at this place about a value of this type.
-    pub(crate) fn of(ty: Type, place: usize) -> Result<Case, Fault> {
+    pub(crate) fn of(ty: ValueType, place: usize) -> Result<Case, Fault> {
         match ty {
-            Type::Int => Ok(Case {
+            ValueType::Int => Ok(Case {
                 is_of_states: false,
                 place,
             }),
-            Type::State => Ok(Case {
+            ValueType::State => Ok(Case {
                 is_of_states: true,
                 place,
             }),
@@ -47,6 +50,7 @@ pub(crate) fn is_label(tokens: &[Token]) -> bool {
 
 /// The end of a label that begins with this number.
 fn range_at(low: u32, tokens: &[Token]) -> Result<(Label, &[Token]), Fault>
+    ensures reads { Gives (λ x. (x.0, kinds x.1.now)) result (read (range_end low) (kinds tokens.now)) }
     ensures shorter { IfOk result (λ x. length x.1.now ≤ length tokens.now) }
 {
     let Some(rest) = after_mark(Mark::Range, tokens) else {

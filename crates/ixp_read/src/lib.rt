@@ -10,6 +10,7 @@ mod fault;
 mod function;
 mod item;
 mod label;
+pub mod laws;
 mod protocol;
 mod read;
 mod session;

@@ -1,5 +1,9 @@
 //! BGP sessions.
-ghost use Rattle.std.specs.Prelude.{◌<◌, ◌≤◌, length, IfOk};
+ghost use Rattle.std.specs.Prelude.{◌≡◌, ◌<◌, ◌≤◌, length, IfOk};
+ghost use Rattle.ixp_tokens.specs.Pieces.{addr_in};
+ghost use Rattle.ixp_tokens.specs.Reading.{read, kinds, Gives};
+ghost use Rattle.ixp_read.specs.Protocols.{asn_text, local_text, neighbor_text, client_text, password_text, limit_text, family_text, peering_text};
+ghost use Rattle.ixp_read.specs.Views.{local_of, neighbor_of, peering_of, a_string};
 
 use crate::protocol::{Owner, Ways, table_of_at, ways_at};
 use ixp_exprs::{Declared, Env};
@@ -12,6 +16,7 @@ use std::alloc::Global;
 
 /// `as NUM;`
 fn asn_at(tokens: &[Token]) -> Result<(Asn, &[Token]), Fault>
+    ensures reads { Gives (λ x. (x.0, kinds x.1.now)) result (read asn_text (kinds tokens.now)) }
     ensures shorter { IfOk result (λ x. length x.1.now < length tokens.now) }
 {
     let rest = word_at(b"as", tokens)?;
@@ -27,22 +32,29 @@ struct Local {
     asn: Asn,
 }
 
+/// The address that the token is, if it is one.
+fn address_in(kind: &Kind) -> Option<Addr>
+    ensures { result ≡ addr_in kind.now }
+{
+    match kind {
+        Kind::Addr(addr) => Some(*addr),
+        _ => None,
+    }
+}
+
 /// `local IP as NUM;`, the address being left out where the system is to choose it.
 fn local_at(tokens: &[Token]) -> Result<(Local, &[Token]), Fault>
+    ensures reads { Gives (λ x. (local_of x.0, kinds x.1.now)) result (read local_text (kinds tokens.now)) }
     ensures shorter { IfOk result (λ x. length x.1.now < length tokens.now) }
 {
     let rest = word_at(b"local", tokens)?;
-    match addr_at(rest) {
-        Ok((addr, rest)) => {
-            let (asn, rest) = asn_at(rest)?;
-            let addr = Some(addr);
-            Ok((Local { addr, asn }, rest))
-        }
-        Err(_) => {
-            let (asn, rest) = asn_at(rest)?;
-            Ok((Local { addr: None, asn }, rest))
-        }
-    }
+    let [first, behind @ ..] = rest else {
+        return Err(unexpected(rest));
+    };
+    let addr = address_in(&first.kind);
+    let left = if addr.is_some() { behind } else { rest };
+    let (asn, rest) = asn_at(left)?;
+    Ok((Local { addr, asn }, rest))
 }
 
 /// The other end of a session.
@@ -54,6 +66,7 @@ struct Neighbor {
 
 /// `neighbor IP as NUM;`
 fn neighbor_at(tokens: &[Token]) -> Result<(Neighbor, &[Token]), Fault>
+    ensures reads { Gives (λ x. (neighbor_of x.0, kinds x.1.now)) result (read neighbor_text (kinds tokens.now)) }
     ensures shorter { IfOk result (λ x. length x.1.now < length tokens.now) }
 {
     let rest = word_at(b"neighbor", tokens)?;
@@ -64,6 +77,7 @@ fn neighbor_at(tokens: &[Token]) -> Result<(Neighbor, &[Token]), Fault>
 
 /// `rs client;`, if it is there.
 fn client_at(tokens: &[Token]) -> Result<(bool, &[Token]), Fault>
+    ensures reads { Gives (λ x. (x.0, kinds x.1.now)) result (read client_text (kinds tokens.now)) }
     ensures shorter { IfOk result (λ x. length x.1.now ≤ length tokens.now) }
 {
     let Some(rest) = after_word(b"rs", tokens) else {
@@ -76,6 +90,7 @@ fn client_at(tokens: &[Token]) -> Result<(bool, &[Token]), Fault>
 
 /// The text that is next.
 fn text_at(alloc: Global, tokens: &[Token]) -> Result<(Items<u8>, &[Token]), Fault>
+    ensures reads { Gives (λ x. (x.0, kinds x.1.now)) result (read a_string (kinds tokens.now)) }
     ensures shorter { IfOk result (λ x. length x.1.now < length tokens.now) }
 {
     let [first, rest @ ..] = tokens else {
@@ -92,6 +107,7 @@ fn text_at(alloc: Global, tokens: &[Token]) -> Result<(Items<u8>, &[Token]), Fau
 
 /// `password STRING;`, if it is there.
 fn password_at(alloc: Global, tokens: &[Token]) -> Result<(Option<Items<u8>>, &[Token]), Fault>
+    ensures reads { Gives (λ x. (x.0, kinds x.1.now)) result (read password_text (kinds tokens.now)) }
     ensures shorter { IfOk result (λ x. length x.1.now ≤ length tokens.now) }
 {
     let Some(rest) = after_word(b"password", tokens) else {
@@ -104,6 +120,7 @@ fn password_at(alloc: Global, tokens: &[Token]) -> Result<(Option<Items<u8>>, &[
 
 /// `import limit NUM action block;`, if it is there.
 fn limit_at(tokens: &[Token]) -> Result<(Option<u32>, &[Token]), Fault>
+    ensures reads { Gives (λ x. (x.0, kinds x.1.now)) result (read limit_text (kinds tokens.now)) }
     ensures shorter { IfOk result (λ x. length x.1.now ≤ length tokens.now) }
 {
     let Some(rest) = after_word(b"import", tokens) else {
@@ -128,6 +145,7 @@ struct Channel {
 
 /// The family of a channel.
 fn family_at(tokens: &[Token]) -> Result<(Family, &[Token]), Fault>
+    ensures reads { Gives (λ x. (x.0, kinds x.1.now)) result (read family_text (kinds tokens.now)) }
     ensures shorter { IfOk result (λ x. length x.1.now < length tokens.now) }
 {
     if let Some(rest) = after_word(b"ipv4", tokens) {
@@ -171,6 +189,7 @@ struct Peering {
 }
 
 fn peering_at(alloc: Global, tokens: &[Token]) -> Result<(Peering, &[Token]), Fault>
+    ensures reads { Gives (λ x. (peering_of x.0, kinds x.1.now)) result (read peering_text (kinds tokens.now)) }
     ensures shorter { IfOk result (λ x. length x.1.now < length tokens.now) }
 {
     let (local, rest) = local_at(tokens)?;

@@ -4,7 +4,7 @@ ghost use Rattle.std.specs.Prelude.{◌<◌, ◌≤◌, length, IfSome, IfOk};
 use crate::body::{Frame, Returned, begins_statement, deep, no_branch};
 use crate::change::plain_at;
 use crate::label::{Case, is_label, labels_at};
-use ixp_exprs::{Context, Type, expression, fits, settled};
+use ixp_exprs::{Context, ValueType, expression, fits, settled};
 use ixp_lang::{Expr, Label, Stmt};
 use ixp_num::Items;
 use ixp_tokens::{Fault, Kind, Mark, Token, after_mark, after_word, mark_at, word_at};
@@ -43,7 +43,7 @@ fn test_at<'t>(
 {
     let (test, rest) = expression(cx, depth, tokens)?;
     let rest = word_at(b"then", rest)?;
-    fits(&test, Type::Bool, cx.statement)?;
+    fits(&test, ValueType::Bool, cx.statement)?;
     Ok((test.expr, rest))
 }
 

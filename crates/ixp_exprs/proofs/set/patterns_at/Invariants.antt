@@ -1,9 +1,14 @@
-use Rattle.std.proofs.Common.{◌≤◌, length}
-use Rattle.ixp_exprs.proofs.Behind.{left_of, IsWithin}
+use Rattle.std.proofs.Common.{◌≡◌, ◌≤◌, ◌<◌, ℕ, nat_lt, length}
+use Rattle.ixp_tokens.specs.Reading.{read, kinds, read_rounds}
+use Rattle.ixp_exprs.specs.Lists.{list_round, listed}
+use Rattle.ixp_exprs.specs.Sets.{pattern_text}
 use Rattle.ixp_exprs.proofs.set.patterns_at.Given as goal
 
 abbrev pub invariant-each : goal.invariant-each
-invariant-each l = (length l.end ≤ length l.tokens) × IsWithin (length l.tokens) l.behind
+invariant-each l = record {
+  reads : (k : ℕ) × (length l.left ≤ k) × (read_rounds k (λ s ts. read (list_round (λ before. pattern_text) s) ts) l.patterns (kinds l.left) ≡ read (listed (λ before. pattern_text)) (kinds l.tokens));
+  shorter : length l.left ≤ length l.tokens;
+}
 
 abbrev pub decreases-each : goal.decreases-each
-decreases-each l = left_of l.behind
+decreases-each l = length l.left

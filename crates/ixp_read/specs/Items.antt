@@ -1,0 +1,108 @@
+-- Items and configurations (BIRD 2 User's Guide, chapter "Configuration").
+use Rattle.std.specs.Prelude.{ℕ, Bool, true, false, ◌||◌, List, [], ◌∷◌, ◌++◌, length, codes, Option, Some, None}
+use Rattle.ixp_num.specs.declared.addr.Addr.{Addr}
+use Rattle.ixp_num.specs.declared.family.Family.{Family}
+use Rattle.ixp_num.specs.declared.family.Family.TheVariants.{V4, V6}
+use Rattle.ixp_lang.specs.Trees.{ItemTree, router_id_item, table_item, define_item}
+use Rattle.ixp_lang.specs.declared.item.Kind.{Kind}
+use Rattle.ixp_lang.specs.declared.item.Kind.TheVariants.{Ipv4, Ipv6, Roa4, Roa6}
+use Rattle.ixp_tokens.specs.declared.token.Kind.{Kind as Token}
+use Rattle.ixp_tokens.specs.declared.token.Kind.TheVariants as token
+use Rattle.ixp_tokens.specs.declared.token.Mark.TheVariants.{Semicolon, Equal}
+use Rattle.ixp_tokens.specs.Grammars.{Grammar, gives, takes, sequence, choice, rounds, checks, unless, here, onward, done}
+use Rattle.ixp_tokens.specs.Pieces.{the_mark, the_word}
+use Rattle.ixp_exprs.specs.declared.env.Declared.{Declared}
+use Rattle.ixp_exprs.specs.declared.env.Declared.TheVariants as declared
+use Rattle.ixp_exprs.specs.declared.env.Table.{Table}
+use Rattle.ixp_exprs.specs.declared.context.Scope.TheVariants as scope
+use Rattle.ixp_exprs.specs.Names.{Names, defined_number}
+use Rattle.ixp_exprs.specs.Lists.{ended}
+use Rattle.ixp_exprs.specs.Operands.{Operand, settled}
+use Rattle.ixp_exprs.specs.Expressions.{Place, expression_text}
+use Rattle.ixp_read.specs.Functions.{Declares, standing, free_name, function_end, filter_end}
+use Rattle.ixp_read.specs.Protocols.{protocol_end}
+
+abbrev pub if_v4 : Family → Addr → Option Addr
+if_v4 V4 addr = Some addr
+if_v4 V6 addr = None
+
+abbrev pub v4_addr_in : Token → Option Addr
+v4_addr_in (token.Addr addr) = if_v4 addr.family addr
+v4_addr_in _ = None
+
+-- what follows `router`
+abbrev pub router_id_end : Names → Grammar Declares
+router_id_end names = sequence (the_word (codes "id")) (λ tt. sequence (takes v4_addr_in) (λ addr. ended Semicolon (router_id_item addr, names)))
+
+abbrev pub is_roa : Kind → Bool
+is_roa Ipv4 = false
+is_roa Ipv6 = false
+is_roa Roa4 = true
+is_roa Roa6 = true
+
+abbrev pub unowned : Kind → Table
+unowned kind = record { is_roa = is_roa kind; in_session = false; in_pipe = false }
+
+-- what follows the kind of a table
+abbrev pub table_end : Kind → Names → Grammar Declares
+table_end kind names =
+    sequence (the_word (codes "table")) (λ tt.
+    sequence (free_name names) (λ name. ended Semicolon (table_item kind name, standing names name (declared.Table (unowned kind)))))
+
+-- how many levels a definition may have
+abbrev pub define_levels : ℕ
+define_levels = 64
+
+-- where the value of a definition stands, which begins at this place
+abbrev pub define_place : ℕ → Names → Place
+define_place statement names = record { names = names; scope = scope.Define; statement = statement }
+
+-- a definition's value, built of literals and defined names alone, and the semicolon
+abbrev pub defined_value : ℕ → Names → Grammar Operand
+defined_value statement names =
+    sequence (expression_text (define_place statement names) define_levels) (λ value.
+    sequence (the_mark Semicolon) (λ tt. checks (settled value) (gives value)))
+
+abbrev pub defined : Names → List ℕ → Operand → Declares
+defined names name value = (define_item name value.tree, standing names name (declared.Define value.ty (defined_number names value.tree)))
+
+-- what follows `define`, which stands at this place
+abbrev pub define_end : ℕ → Names → Grammar Declares
+define_end statement names =
+    sequence (free_name names) (λ name.
+    sequence (the_mark Equal) (λ tt. sequence (defined_value statement names) (λ value. gives (defined names name value))))
+
+-- an item, before which there are so many
+unfoldable pub item_text : ℕ → Names → Grammar Declares
+item_text number names =
+    here (λ place.
+    choice (sequence (the_word (codes "router")) (λ tt. router_id_end names))
+    (choice (sequence (the_word (codes "ipv4")) (λ tt. table_end Ipv4 names))
+    (choice (sequence (the_word (codes "ipv6")) (λ tt. table_end Ipv6 names))
+    (choice (sequence (the_word (codes "roa4")) (λ tt. table_end Roa4 names))
+    (choice (sequence (the_word (codes "roa6")) (λ tt. table_end Roa6 names))
+    (choice (sequence (the_word (codes "define")) (λ tt. define_end place names))
+    (choice (sequence (the_word (codes "function")) (λ tt. function_end number names))
+    (choice (sequence (the_word (codes "filter")) (λ tt. filter_end names))
+    (sequence (the_word (codes "protocol")) (λ tt. protocol_end names))))))))))
+
+-- the items so far, and what names stand for behind them
+pub record Begun : Type 0 where
+  pub items : List ItemTree
+  pub names : Names
+
+abbrev pub nothing_declared : Names
+nothing_declared = λ name. None
+
+abbrev pub with_item : Begun → Declares → Begun
+with_item before declares = record { items = before.items ++ declares.0 ∷ []; names = declares.1 }
+
+abbrev pub is_more : List Token → Bool
+is_more [] = false
+is_more (token ∷ tokens) = true
+
+-- items up to the end of the text
+abbrev pub config_text : Grammar (List ItemTree)
+config_text =
+    rounds (λ before. choice (sequence (item_text (length before.items) before.names) (λ declares. gives (onward (with_item before declares)))) (unless is_more (gives (done before.items))))
+    (record { items = []; names = nothing_declared })
