@@ -1,0 +1,4 @@
+pub mod Canonical
+pub mod CanonicalItems
+pub mod Printed
+pub mod Spelling

@@ -1,0 +1,23 @@
+-- When tokens spell an expression's tree.
+use Rattle.std.specs.Prelude.{◌≡◌, ℕ, false, List, None}
+use Rattle.ixp_lang.specs.Trees.{ExprTree}
+use Rattle.ixp_tokens.specs.declared.token.Kind.{Kind}
+use Rattle.ixp_tokens.specs.declared.token.Mark.TheVariants.{And, Or}
+use Rattle.ixp_tokens.specs.Grammars.{Took}
+use Rattle.ixp_tokens.specs.Pieces.{is_mark, is_next}
+use Rattle.ixp_exprs.specs.declared.types.ValueType.{ValueType}
+use Rattle.ixp_exprs.specs.declared.context.Scope.{Scope}
+use Rattle.ixp_exprs.specs.Names.{Names}
+use Rattle.ixp_exprs.specs.Operands.{Operand}
+use Rattle.ixp_exprs.specs.Expressions.{expression_text}
+
+-- Where names stand for these, the tokens at the front are an expression of so many levels, whose types fit, and say this tree
+-- of this type. So many tokens are left at the first one of its statement.
+abbrev pub Spells : Names → Scope → ℕ → ℕ → ExprTree → ValueType → List Kind → List Kind → Type 0
+Spells names scope levels statement tree ty tokens rest =
+    (o : Operand) × (o.tree ≡ tree) × (o.ty ≡ ty) × (o.misfit ≡ None)
+    × Took (expression_text (record { names = names; scope = scope; statement = statement }) levels) o tokens rest
+
+-- neither `&&` nor `||` is next
+abbrev pub EndsChains : List Kind → Type 0
+EndsChains rest = (is_next (is_mark And) rest ≡ false) × (is_next (is_mark Or) rest ≡ false)

@@ -1,0 +1,45 @@
+//! The canonical tokens of a tree, and the laws that they spell it wherever some tokens do: so what is left out, parentheses
+//! for example, changes nothing. The functions do nothing: they are called for what they ensure.
+#![tactic(auto)]
+
+ghost use Rattle.std.specs.Prelude.{◌≡◌, ℕ, ◌≤◌, List, []};
+ghost use Rattle.ixp_lang.specs.Trees.{ExprTree, ItemTree};
+ghost use Rattle.ixp_tokens.specs.declared.token.Kind.{Kind};
+ghost use Rattle.ixp_tokens.specs.Grammars.{Took};
+ghost use Rattle.ixp_exprs.specs.declared.types.ValueType.{ValueType};
+ghost use Rattle.ixp_exprs.specs.declared.context.Scope.{Scope};
+ghost use Rattle.ixp_exprs.specs.Names.{Names};
+ghost use Rattle.ixp_read.specs.Items.{config_text};
+ghost use Rattle.ixp_print.specs.Texts.{config_text as printed};
+ghost use Rattle.ixp_canonical.specs.Canonical.{expr_tokens};
+ghost use Rattle.ixp_canonical.specs.CanonicalItems.{config_tokens};
+ghost use Rattle.ixp_canonical.specs.Printed.{AreWritten, HasTokens, SpellsText};
+ghost use Rattle.ixp_canonical.specs.Spelling.{Spells, EndsChains};
+
+/// An expression's canonical tokens spell its tree, with its type, wherever some tokens do: in any statement, and with as
+/// many levels or more. Behind them neither `&&` nor `||` may stand, which would go on with a chain.
+pub fn canonical_tokens_spell_their_expression()
+    ensures { (names : Names) (scope : Scope) (e : ExprTree) (t : ValueType) (levels more statement other : ℕ) (tokens rest behind : List Kind) →
+        levels ≤ more → Spells names scope levels statement e t tokens rest → EndsChains behind → Spells names scope more other e t (expr_tokens e behind) behind }
+{}
+
+/// The canonical tokens of a configuration spell it whole, with nothing behind them, wherever some tokens do. They have braces
+/// round each branch, parentheses only where they are needed, no types that functions return, and no `else` that does nothing.
+pub fn canonical_tokens_spell_their_configuration()
+    ensures { (configuration : List ItemTree) (tokens : List Kind) → Took config_text configuration tokens [] → Took config_text configuration (config_tokens configuration) [] }
+{}
+
+/// The text of a configuration that [`ixp_print`] writes has the configuration's canonical tokens, if names,
+/// numbers and strings in it are such as texts have: a name that is a keyword, for example, would be read as that keyword.
+pub fn printed_text_has_the_canonical_tokens()
+    ensures { (configuration : List ItemTree) → AreWritten (config_tokens configuration) → HasTokens (printed configuration) (config_tokens configuration) }
+{}
+
+/// The text that is printed of a configuration spells that configuration whole, and no other, if some tokens spell it and its
+/// names, numbers and strings are such as texts have.
+pub fn printed_text_spells_its_configuration()
+    ensures spelt { (configuration : List ItemTree) (tokens : List Kind) → Took config_text configuration tokens [] → AreWritten (config_tokens configuration) →
+        SpellsText (printed configuration) configuration }
+    ensures alone { (configuration other : List ItemTree) (tokens : List Kind) → Took config_text configuration tokens [] → AreWritten (config_tokens configuration) →
+        SpellsText (printed configuration) other → other ≡ configuration }
+{}
