@@ -11,7 +11,7 @@ use Rattle.ixp_lang.specs.Trees.{StmtTree, StmtTrees, stmts, stmts_end, stmts_mo
 use Rattle.ixp_exprs.specs.declared.context.Scope.{Scope}
 use Rattle.ixp_exprs.specs.Names.{Names}
 use Rattle.ixp_exprs.specs.Operands.{settled}
-use Rattle.ixp_read.specs.Statements.{Returned, Said, said, Statements, deeper, statements_of, block_end, is_if_else, labels_text, Arms, with_arm, arms, arms_text, case_end, Subject, subject_end, no_case, case_text, Frame}
+use Rattle.ixp_stmts.specs.Statements.{Returned, Said, said, Statements, deeper, statements_of, block_end, is_if_else, labels_text, Arms, with_arm, arms, arms_text, case_end, Subject, subject_end, no_case, case_text, Frame}
 use Rattle.ixp_print.specs.Texts.{state_text}
 use Rattle.ixp_canonical.specs.Canonical.{number, sign, word, list_of, expr_tokens}
 use Rattle.ixp_canonical.specs.CanonicalItems.{label_tokens, stmt_tokens, stmts_tokens, arms_tokens, other_tokens}

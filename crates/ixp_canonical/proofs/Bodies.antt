@@ -15,8 +15,9 @@ use Rattle.ixp_exprs.specs.Operands.{misfit_at}
 use Rattle.ixp_tokens.specs.Pieces.{the_word}
 use Rattle.ixp_exprs.specs.Lists.{ended}
 use Rattle.ixp_exprs.specs.declared.env.Declared.TheVariants.{Begun}
-use Rattle.ixp_read.specs.Statements.{Said, said, body_text}
-use Rattle.ixp_read.specs.Functions.{Declares, standing, free_name, type_text, Params, is_free_in, param_text, no_params, params_text, as_written, levels_inside, Head, head_text, Body, body_with, frame_in, body_end, function_end, filter_end}
+use Rattle.ixp_stmts.specs.Statements.{Said, said, body_text}
+use Rattle.ixp_exprs.specs.Declarations.{Declares, standing, free_name, is_free_in}
+use Rattle.ixp_read.specs.Functions.{type_text, Params, param_text, no_params, params_text, as_written, levels_inside, Head, head_text, Body, body_with, frame_in, body_end, function_end, filter_end}
 use Rattle.ixp_canonical.specs.Canonical.{name, sign}
 use Rattle.ixp_canonical.specs.CanonicalItems.{ty_tokens, stmts_tokens, body_tokens, param_tokens, more_params_tokens, params_tokens, item_tokens}
 use Rattle.ixp_canonical.proofs.Basics.{is_so, so_again}

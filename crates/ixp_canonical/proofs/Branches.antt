@@ -4,7 +4,7 @@ use Rattle.ixp_tokens.specs.declared.token.Kind.{Kind}
 use Rattle.ixp_tokens.specs.declared.token.Mark.TheVariants as mark
 use Rattle.ixp_tokens.specs.Grammars.{Took}
 use Rattle.ixp_lang.specs.Trees.{ExprTree, StmtTree, StmtTrees, if_then, stmts}
-use Rattle.ixp_read.specs.Statements.{Returned, Said, said, Statements, deeper, block_text, branch_text, else_text, is_if_else, Frame}
+use Rattle.ixp_stmts.specs.Statements.{Returned, Said, said, Statements, deeper, block_text, branch_text, else_text, is_if_else, Frame}
 use Rattle.ixp_canonical.specs.Canonical.{sign}
 use Rattle.ixp_canonical.specs.CanonicalItems.{stmt_tokens, stmts_tokens, else_tokens}
 use Rattle.ixp_exprs.specs.declared.context.Scope.{Scope}

@@ -10,7 +10,7 @@ use Rattle.ixp_lang.specs.declared.stmt.Label.{Label}
 use Rattle.ixp_lang.specs.declared.stmt.Label.TheVariants.{Range as Between}
 use Rattle.ixp_exprs.specs.Expressions.{state_in, word_in}
 use Rattle.ixp_exprs.specs.Lists.{listed}
-use Rattle.ixp_read.specs.Statements.{label_text, labels_text}
+use Rattle.ixp_stmts.specs.Statements.{label_text, labels_text}
 use Rattle.ixp_print.specs.Texts.{state_text}
 use Rattle.ixp_canonical.specs.Canonical.{number, sign, list_of}
 use Rattle.ixp_canonical.specs.CanonicalItems.{label_tokens}

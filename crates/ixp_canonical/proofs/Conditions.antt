@@ -7,7 +7,7 @@ use Rattle.ixp_exprs.specs.declared.types.ValueType.TheVariants.{Bool as Truth}
 use Rattle.ixp_exprs.specs.declared.context.Scope.{Scope}
 use Rattle.ixp_exprs.specs.Types.{same_type}
 use Rattle.ixp_exprs.specs.Names.{Names}
-use Rattle.ixp_read.specs.Statements.{Returned, Said, said, Statements, deeper, if_text, test_end, is_if_else, else_text, Frame}
+use Rattle.ixp_stmts.specs.Statements.{Returned, Said, said, Statements, deeper, if_text, test_end, is_if_else, else_text, Frame}
 use Rattle.ixp_canonical.specs.Canonical.{word, expr_tokens}
 use Rattle.ixp_canonical.specs.CanonicalItems.{stmt_tokens, else_tokens}
 use Rattle.ixp_canonical.proofs.Basics.{Within, sound, none_unfit, fits_again}

@@ -15,8 +15,8 @@ use Rattle.ixp_exprs.specs.declared.context.Scope.TheVariants as scope
 use Rattle.ixp_exprs.specs.declared.env.Declared.TheVariants.{Table}
 use Rattle.ixp_exprs.specs.Names.{Names}
 use Rattle.ixp_exprs.specs.Operands.{Operand}
-use Rattle.ixp_read.specs.Functions.{Declares, standing}
-use Rattle.ixp_read.specs.Items.{if_v4, v4_addr_in, router_id_end, unowned, table_end, define_levels, defined, define_end, item_text, Begun, nothing_declared, with_item, is_more, config_text}
+use Rattle.ixp_exprs.specs.Declarations.{nothing_declared, Declares, standing}
+use Rattle.ixp_read.specs.Items.{if_v4, v4_addr_in, router_id_end, unowned, table_end, define_levels, defined, define_end, declaration_text, table_or, item_text, Begun, with_item, is_more, config_text}
 use Rattle.ixp_print.specs.Texts.{kind_text}
 use Rattle.ixp_canonical.specs.Canonical.{sign}
 use Rattle.ixp_canonical.specs.CanonicalItems.{item_tokens, items_tokens, config_tokens}
@@ -43,7 +43,7 @@ module _ (number : ℕ) (names : Names) where
   ItemAgain d = (others : List Kind) → Took (item_text number names) d (item_tokens d.0 others) others
 
   router_again : (d : Declares) (ts rest : List Kind) → Took (router_id_end names) d ts rest → ItemAgain d
-  unfolding item_text
+  unfolding item_text table_or declaration_text
   router_again d ts rest (x, a, id, (addr, b, token, (y, c, semicolon, (is, same)))) =
       subst ItemAgain (sym is)
       (let k : (k : Kind) × (v4_addr_in k ≡ Some addr) = took_token v4_addr_in addr a b token in
@@ -91,7 +91,7 @@ module _ (number : ℕ) (names : Names) where
       )))
 
   item_again : (d : Declares) (ts rest : List Kind) → Took (item_text number names) d ts rest → ItemAgain d
-  unfolding item_text TableAgain
+  unfolding item_text table_or declaration_text TableAgain
   item_again d ts rest (inl (x, a, word_, took)) = router_again d a rest took
   item_again d ts rest (inr (inl (x, a, word_, took))) = λ others. inr (inl (table_again table.Ipv4 d a rest took others))
   item_again d ts rest (inr (inr (inl (x, a, word_, took)))) = λ others. inr (inr (inl (table_again table.Ipv6 d a rest took others)))

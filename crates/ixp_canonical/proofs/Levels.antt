@@ -6,7 +6,7 @@ use Rattle.ixp_tokens.specs.Grammars.{Took}
 use Rattle.ixp_lang.specs.Trees.{StmtTree, stmts}
 use Rattle.ixp_exprs.specs.declared.context.Scope.{Scope}
 use Rattle.ixp_exprs.specs.Names.{Names}
-use Rattle.ixp_read.specs.Statements.{Returned, Said, said, no_branch, plain_text, statement_with, statement_text, body_text, Frame}
+use Rattle.ixp_stmts.specs.Statements.{Returned, Said, said, no_branch, plain_text, statement_with, statement_text, body_text, Frame}
 use Rattle.ixp_canonical.specs.Canonical.{sign}
 use Rattle.ixp_canonical.specs.CanonicalItems.{stmt_tokens, stmts_tokens}
 use Rattle.ixp_canonical.proofs.Basics.{Within, within_same, never_took}

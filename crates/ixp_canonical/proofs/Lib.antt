@@ -6,6 +6,7 @@ pub mod Cases
 pub mod Conditions
 pub mod Expressions
 pub mod Items
+pub mod Keeping
 pub mod Laws
 pub mod Levels
 pub mod Listed
@@ -21,3 +22,8 @@ pub mod Sets
 pub mod Statements
 pub mod Steps
 pub mod Tokens
+pub mod WrittenExpressions
+pub mod WrittenItems
+pub mod WrittenSets
+pub mod WrittenStatements
+pub mod WrittenTokens

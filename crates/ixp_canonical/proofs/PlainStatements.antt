@@ -12,7 +12,7 @@ use Rattle.ixp_exprs.specs.declared.context.Scope.{Scope}
 use Rattle.ixp_exprs.specs.Types.{same_type}
 use Rattle.ixp_exprs.specs.Names.{Names, function_of}
 use Rattle.ixp_exprs.specs.Expressions.{Parts}
-use Rattle.ixp_read.specs.Statements.{value_end, enclosed_end, params_of, change_text}
+use Rattle.ixp_stmts.specs.Statements.{value_end, enclosed_end, params_of, change_text}
 use Rattle.ixp_canonical.specs.Canonical.{expr_tokens, sign}
 use Rattle.ixp_canonical.specs.CanonicalItems.{stmt_tokens, last_tokens}
 use Rattle.ixp_canonical.proofs.Basics.{Within, sound, none_unfit, fits_again, there, there_again}

@@ -1,5 +1,5 @@
 -- The printed text of an expression has its canonical tokens.
-use Rattle.std.proofs.Common.{◌≡◌, ℕ, Bool, true, false, not, ◌&&◌, ◌==◌, List, [], ◌∷◌, ◌++◌, codes, refl, sym, ap, ◌∙◌, subst, append_assoc}
+use Rattle.std.proofs.Common.{◌≡◌, ℕ, Bool, true, false, List, ◌∷◌, ◌++◌, codes, refl, sym, ◌∙◌, subst, append_assoc}
 use Rattle.ixp_lang.specs.declared.value.Value.TheVariants as value
 use Rattle.ixp_lang.specs.declared.expr.Attr.{Attr}
 use Rattle.ixp_lang.specs.declared.expr.Attr.TheVariants as attr

@@ -13,24 +13,19 @@ use Rattle.ixp_lang.specs.declared.item.Use.{Use}
 use Rattle.ixp_lang.specs.declared.item.Use.TheVariants.{All, Nothing, Named}
 use Rattle.ixp_lang.specs.declared.item.Pipe.{Pipe}
 use Rattle.ixp_lang.specs.declared.item.Bgp.{Bgp}
-use Rattle.ixp_lang.specs.Trees.{ExprTree, StmtTrees, ItemTree, router_id_item, table_item, define_item, function_item, filter_item, device_item, pipe_item, bgp_item}
+use Rattle.ixp_lang.specs.Trees.{StmtTrees, ItemTree, router_id_item, table_item, define_item, function_item, filter_item, device_item, pipe_item, bgp_item}
 use Rattle.ixp_tokens.specs.declared.token.Kind.{Kind}
 use Rattle.ixp_tokens.specs.declared.token.Mark.TheVariants as mark
 use Rattle.ixp_tokens.specs.Words.{is_profile_word}
 use Rattle.ixp_print.specs.Texts.{expr_text, stmts_text, line, body_text, param_text, ty_text, use_text, kind_text, channel_text, head_line, nameless_head, pipe_text, local_text, client_text, password_text, limit_text, bgp_channel_text, bgp_text, device_text, item_text, config_text}
 use Rattle.ixp_canonical.specs.Canonical.{Before, word, name, number, sign, addr_tokens}
-use Rattle.ixp_canonical.specs.CanonicalItems.{ty_tokens, last_tokens, body_tokens, param_tokens, more_params_tokens, params_tokens, use_tokens, table_tokens, head_tokens, pipe_tokens, asn_tokens, local_tokens, client_tokens, password_tokens, limit_tokens, channel_tokens, bgp_tokens, device_tokens, item_tokens, items_tokens, config_tokens}
-use Rattle.ixp_canonical.specs.Printed.{HasTokens, AreWritten, SpellsText}
-use Rattle.ixp_tokens.specs.Grammars.{Took}
-use Rattle.ixp_read.specs.Items.{config_text as spelt_text}
-use Rattle.ixp_tokens.specs.Reading.{kinds}
-use Rattle.ixp_tokens.proofs.TokenLaws.{one_tokens}
-use Rattle.ixp_read.proofs.ConfigurationLaws.{one_config}
-use Rattle.ixp_canonical.proofs.Items.{configuration_law}
-use Rattle.ixp_canonical.proofs.Steps.{Reads, reads_all, nothing_reads, parted, blank_reads, ends, name_reads, number_reads, addr_reads, text_reads, sign_reads}
+use Rattle.ixp_canonical.specs.CanonicalItems.{ty_tokens, body_tokens, param_tokens, more_params_tokens, params_tokens, use_tokens, table_tokens, head_tokens, pipe_tokens, asn_tokens, local_tokens, client_tokens, password_tokens, limit_tokens, channel_tokens, bgp_tokens, device_tokens, item_tokens, items_tokens, config_tokens}
+use Rattle.ixp_read.specs.Answers.{HasTokens}
+use Rattle.ixp_canonical.specs.Printed.{AreWritten}
+use Rattle.ixp_canonical.proofs.Steps.{Reads, reads_all, nothing_reads, parted, ends, name_reads, number_reads, addr_reads, text_reads, sign_reads}
 use Rattle.ixp_canonical.proofs.PrintedSets.{Prints, IsWord}
 use Rattle.ixp_canonical.proofs.PrintedExpressions.{close, expr_prints}
-use Rattle.ixp_canonical.proofs.PrintedStatements.{Lines, Indent, line_reads, new_line, blank, word_blank, word_end, semicolon, open_block, close_line, last_reads, stmts_prints}
+use Rattle.ixp_canonical.proofs.PrintedStatements.{Lines, Indent, line_reads, blank, word_blank, word_end, semicolon, open_block, close_line, stmts_prints}
 
 flush : Indent []
 flush rest behind reads = reads
@@ -297,15 +292,3 @@ items_print (i ∷ is) = item_prints i (config_text is) (items_tokens is []) (it
 -- the printed text of a configuration has its canonical tokens
 pub printed_law : (c : List ItemTree) → AreWritten (config_tokens c) → HasTokens (config_text c) (config_tokens c)
 printed_law c written = reads_all (config_text c) (config_tokens c) (items_print c) written
-
-pub spells_law : (c : List ItemTree) (tokens : List Kind) → Took spelt_text c tokens [] → AreWritten (config_tokens c) → SpellsText (config_text c) c
-spells_law c tokens took written = (config_tokens c, printed_law c written, configuration_law c tokens took)
-
-one_spelling : (text : List ℕ) (c d : List ItemTree) → SpellsText text c → SpellsText text d → c ≡ d
-one_spelling text c d (tokens, (placed, have, same), took) (others, (found, hold, is), reads) =
-    let all : placed ≡ found = one_tokens text placed found have hold in
-    let e : others ≡ tokens = sym is ∙ sym (ap kinds all) ∙ same in
-    one_config tokens c d took (subst (λ t. Took spelt_text d t []) e reads)
-
-pub alone_law : (c other : List ItemTree) (tokens : List Kind) → Took spelt_text c tokens [] → AreWritten (config_tokens c) → SpellsText (config_text c) other → other ≡ c
-alone_law c other tokens took written spells = one_spelling (config_text c) other c spells (spells_law c tokens took written)

@@ -10,9 +10,9 @@ use Rattle.ixp_tokens.specs.Pieces.{the_word}
 use Rattle.ixp_lang.specs.declared.item.Use.{Use}
 use Rattle.ixp_lang.specs.declared.item.Use.TheVariants.{Named}
 use Rattle.ixp_exprs.specs.declared.env.Table.{Table}
-use Rattle.ixp_exprs.specs.Names.{Names}
-use Rattle.ixp_read.specs.Functions.{Declares}
-use Rattle.ixp_read.specs.Protocols.{is_filter, use_text, Ways, ways_text, Owner, filler, peer_pipe, session, table_in, was_taken, taken_fault, Owned, owned_table, device_end, Ends, ends_text, pipe_end, Local, local_text, Neighbor, neighbor_text, client_text, password_text, limit_text, family_text, Channel, channel_text, Peering, peering_text, bgp_end, protocol_end}
+use Rattle.ixp_exprs.specs.Names.{Names, table_of}
+use Rattle.ixp_exprs.specs.Declarations.{Declares}
+use Rattle.ixp_protocols.specs.Protocols.{is_filter, use_text, Ways, ways_text, Owner, filler, peer_pipe, session, was_taken, taken_fault, Owned, owned_table, device_end, Ends, ends_text, pipe_end, Local, local_text, Neighbor, neighbor_text, client_text, password_text, limit_text, family_text, Channel, channel_text, Peering, peering_text, bgp_end, protocol_end}
 use Rattle.ixp_print.specs.Texts.{channel_text as family_word}
 use Rattle.ixp_canonical.specs.Canonical.{Before, word, sign, addr_tokens}
 use Rattle.ixp_canonical.specs.CanonicalItems.{use_tokens, ways_tokens, table_tokens, asn_tokens, local_tokens, client_tokens, password_tokens, limit_tokens, item_tokens}
@@ -48,7 +48,7 @@ taken_again owner (Some table) left other e = not_taken (was_taken owner table) 
 table_again : (owner : Owner) (names : Names) (o : Owned) (ts rest : List Kind) → Took (owned_table owner names) o ts rest → (others : List Kind) → Took (owned_table owner names) o (table_tokens o.name others) others
 table_again owner names o ts rest (x, a, table_, (n, b, token, (fit, (y, c, semicolon, (is, same))))) others =
     subst (λ (z : Owned). Took (owned_table owner names) z (table_tokens z.name others) others) (sym is)
-    (tt, _, (refl, refl), (n, _, (refl, refl), (taken_again owner (table_in (names n)) _ _ fit, (tt, _, (refl, refl), (refl, refl)))))
+    (tt, _, (refl, refl), (n, _, (refl, refl), (taken_again owner (table_of (names n)) _ _ fit, (tt, _, (refl, refl), (refl, refl)))))
 
 -- Protocols, behind the word.
 abbrev ProtocolAgain : Names → Declares → Type 0

@@ -11,7 +11,7 @@ use Rattle.ixp_exprs.specs.Types.{is_of_values}
 use Rattle.ixp_exprs.specs.Names.{Names}
 use Rattle.ixp_exprs.specs.Operands.{settled, misfit_at}
 use Rattle.ixp_exprs.specs.Sets.{unless_so}
-use Rattle.ixp_read.specs.Statements.{Returned, same_as, may_meet, met, Said, said, Statements, statements_of, with_statement, block_end, is_if_else, may_return, return_text}
+use Rattle.ixp_stmts.specs.Statements.{Returned, same_as, may_meet, met, Said, said, Statements, statements_of, with_statement, block_end, is_if_else, may_return, return_text}
 use Rattle.ixp_canonical.specs.Canonical.{sign}
 use Rattle.ixp_canonical.specs.CanonicalItems.{stmt_tokens, stmts_tokens}
 use Rattle.ixp_canonical.proofs.Basics.{Within, sound, both_none, none_settled, is_so, so_again}

@@ -1,5 +1,5 @@
 -- A text with one token or one blank more at its front.
-use Rattle.std.proofs.Common.{◌≡◌, ◌≢◌, inl, inr, ℕ, suc, ◌≤◌, ◌<◌, ◌^◌, Bool, true, false, not, ◌&&◌, ◌||◌, ◌==◌, List, [], ◌∷◌, ◌++◌, length, codes, decimal, Option, Some, None, Ok, refl, sym, ap, ◌∙◌, arith, subst, append_assoc}
+use Rattle.std.proofs.Common.{◌≡◌, inl, inr, ℕ, ◌≤◌, ◌<◌, ◌^◌, Bool, true, false, not, ◌&&◌, ◌||◌, ◌==◌, List, [], ◌∷◌, ◌++◌, length, decimal, Some, None, Ok, refl, sym, ap, ◌∙◌, arith, subst, append_assoc}
 use Rattle.std.specs.List.{list_all}
 use Rattle.std.proofs.lemmas.Bool.{and_parts, or_parts, eqb-true}
 use Rattle.std.proofs.lemmas.Bool.Decides.{nat_tests}
@@ -15,18 +15,19 @@ use Rattle.ixp_tokens.specs.declared.token.Kind.TheVariants as kind
 use Rattle.ixp_tokens.specs.declared.token.Mark.{Mark}
 use Rattle.ixp_tokens.specs.declared.token.Mark.TheVariants as mark
 use Rattle.ixp_tokens.specs.declared.token.Token.{Token}
-use Rattle.ixp_tokens.specs.Bytes.{begins_with, is_digit, is_hexadecimal, is_letter, is_word_byte, is_address_byte, is_text_byte}
+use Rattle.ixp_tokens.specs.Bytes.{begins_with, is_digit, is_hexadecimal, is_letter, is_word_byte, is_address_byte}
 use Rattle.ixp_tokens.specs.Gaps.{Gap}
 use Rattle.ixp_tokens.specs.Pieces.{same_mark}
 use Rattle.ixp_tokens.specs.Tokens.{Stands, Tokens, is_last, word_kind, mark_text, AreDigits}
 use Rattle.ixp_tokens.specs.Reading.{kinds}
-use Rattle.ixp_tokens.specs.Cutting.{behind_blank, is_colon_text}
+use Rattle.ixp_tokens.specs.Cutting.{behind_blank}
 use Rattle.ixp_tokens.specs.Written.{FewColons, NoOctet, NoLength, joins}
 use Rattle.ixp_tokens.proofs.GapLaws.{gap_here, gap_more, one_gap}
 use Rattle.ixp_tokens.proofs.TokenLaws.{one_stands}
 use Rattle.ixp_tokens.proofs.Standing.{few_colons, digits_are_words, word_stands, number_stands, text_stands, other_mark_stands, colon_stands}
 use Rattle.ixp_tokens.proofs.AddressTexts.{decimal_digits, address_stands, prefix_stands}
-use Rattle.ixp_canonical.specs.Printed.{HasTokens, IsWritten, AreWritten}
+use Rattle.ixp_read.specs.Answers.{HasTokens}
+use Rattle.ixp_canonical.specs.Printed.{IsWritten, AreWritten}
 
 -- the text has these tokens, if they are such as texts have
 pub Reads : List ℕ → List Kind → Type 0

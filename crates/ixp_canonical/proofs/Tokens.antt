@@ -25,11 +25,11 @@ use Rattle.ixp_canonical.proofs.Basics.{sound, never_took}
 
 -- Literals.
 
-mapped : {A : Type 0} (f : A → Operand) (x : Option A) (o : Operand) → option_map f x ≡ Some o → (a : A) × (o ≡ f a)
+pub mapped : {A : Type 0} (f : A → Operand) (x : Option A) (o : Operand) → option_map f x ≡ Some o → (a : A) × (o ≡ f a)
 mapped f None o e = absurd cc
 mapped f (Some a) o e = (a, (let h : o ≡ f a = cc in h))
 
-either_some : {A : Type 0} (x y : Option A) (a : A) → or_else x y ≡ Some a → (x ≡ Some a) ⊎ (y ≡ Some a)
+pub either_some : {A : Type 0} (x y : Option A) (a : A) → or_else x y ≡ Some a → (x ≡ Some a) ⊎ (y ≡ Some a)
 either_some None y a e = inr e
 either_some (Some b) y a e = inl e
 

@@ -13,7 +13,8 @@ ghost use Rattle.ixp_read.specs.Items.{config_text};
 ghost use Rattle.ixp_print.specs.Texts.{config_text as printed};
 ghost use Rattle.ixp_canonical.specs.Canonical.{expr_tokens};
 ghost use Rattle.ixp_canonical.specs.CanonicalItems.{config_tokens};
-ghost use Rattle.ixp_canonical.specs.Printed.{AreWritten, HasTokens, SpellsText};
+ghost use Rattle.ixp_read.specs.Answers.{HasTokens, SpellsText};
+ghost use Rattle.ixp_canonical.specs.Printed.{AreWritten};
 ghost use Rattle.ixp_canonical.specs.Spelling.{Spells, EndsChains};
 
 /// An expression's canonical tokens spell its tree, with its type, wherever some tokens do: in any statement, and with as
@@ -35,11 +36,13 @@ pub fn printed_text_has_the_canonical_tokens()
     ensures { (configuration : List ItemTree) → AreWritten (config_tokens configuration) → HasTokens (printed configuration) (config_tokens configuration) }
 {}
 
-/// The text that is printed of a configuration spells that configuration whole, and no other, if some tokens spell it and its
-/// names, numbers and strings are such as texts have.
+/// What a text spells has names, numbers and strings such as texts have, and so have its canonical tokens.
+pub fn what_a_text_spells_is_written()
+    ensures { (text : List ℕ) (configuration : List ItemTree) → SpellsText text configuration → AreWritten (config_tokens configuration) }
+{}
+
+/// Where some text spells a configuration, the text that is printed of it spells that configuration whole, and no other.
 pub fn printed_text_spells_its_configuration()
-    ensures spelt { (configuration : List ItemTree) (tokens : List Kind) → Took config_text configuration tokens [] → AreWritten (config_tokens configuration) →
-        SpellsText (printed configuration) configuration }
-    ensures alone { (configuration other : List ItemTree) (tokens : List Kind) → Took config_text configuration tokens [] → AreWritten (config_tokens configuration) →
-        SpellsText (printed configuration) other → other ≡ configuration }
+    ensures spelt { (configuration : List ItemTree) (text : List ℕ) → SpellsText text configuration → SpellsText (printed configuration) configuration }
+    ensures alone { (configuration other : List ItemTree) (text : List ℕ) → SpellsText text configuration → SpellsText (printed configuration) other → other ≡ configuration }
 {}

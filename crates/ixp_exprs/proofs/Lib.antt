@@ -17,6 +17,7 @@ pub mod Rounds
 pub mod SetTuples
 pub mod Stars
 pub mod Steps
+pub mod Sure
 pub mod WholeExpressions
 pub mod WholeLists
 pub mod WholeSets

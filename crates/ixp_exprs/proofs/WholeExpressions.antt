@@ -5,6 +5,7 @@ use Rattle.std.proofs.Common.{◌≡◌, ℕ, zero, suc, pred, ◌+◌, ◌<◌,
 use Rattle.ixp_lang.specs.Trees.{ExprTree, ExprTrees, conjunction, disjunction}
 use Rattle.ixp_lang.specs.declared.expr.Attr.{Attr}
 use Rattle.ixp_lang.specs.declared.expr.Op.TheVariants as op
+use Rattle.ixp_tokens.specs.declared.fault.Cause.{Cause}
 use Rattle.ixp_tokens.specs.declared.fault.Cause.TheVariants.{Mixed, Deep}
 use Rattle.ixp_tokens.specs.declared.token.Kind.{Kind}
 use Rattle.ixp_tokens.specs.declared.token.Kind.TheVariants as kind
@@ -19,7 +20,7 @@ use Rattle.ixp_tokens.proofs.Looks.{Look, full_look, token_look}
 use Rattle.ixp_tokens.proofs.ClearLooks.{Clearly, clear_token, clear_bars, first_test}
 use Rattle.ixp_tokens.proofs.Known.{next_mark}
 use Rattle.ixp_tokens.proofs.Viable.{HasText, Supplied, supplied_takes, supplied_bars, supplied_rounds, supplied_end}
-use Rattle.ixp_tokens.proofs.Whole.{Part, Whole, part_of, whole_gives, whole_takes, text_behind, text_free, whole_then, part_then, whole_sequence, part_choice, whole_left, whole_right, whole_choice, whole_checks, part_here, whole_here, whole_wider}
+use Rattle.ixp_tokens.proofs.Whole.{Part, Whole, can_end, can_follow, passes_on, part_of, whole_gives, whole_takes, text_behind, text_free, whole_then, part_then, whole_sequence, part_choice, whole_left, whole_right, whole_choice, whole_checks, part_here, whole_here, whole_wider}
 use Rattle.ixp_exprs.specs.declared.env.Signature.{Signature}
 use Rattle.ixp_exprs.specs.declared.types.ValueType.{ValueType}
 use Rattle.ixp_exprs.specs.Operands.{Operand}
@@ -69,6 +70,9 @@ module _ (unary upper : Grammar Operand) (w : Whole unary upper unary_look []) w
     joint_text : (f : Grammar (Step Chain Operand)) (v : Step Chain Operand) → HasText (bars (is_next (is_mark other)) Mixed (choice f (gives v)))
     joint_text f v p = (v, [], p, (refl, inr (refl, refl)))
 
+    abbrev joint_or_end : Step Chain Operand → Step Chain Operand → Option (Cause × ℕ) → Grammar (Step Chain Operand)
+    joint_or_end go stay o = choice (sequence (the_mark joint) (λ x. checks o (gives go))) (gives stay)
+
     part_joint : (go stay : Step Chain Operand) (o : Option _)
         → Whole (bars (is_next (is_mark other)) Mixed (choice (sequence (the_mark joint) (λ x. checks o (gives go))) (gives stay)))
         (bars (is_next (is_mark other)) Mixed (choice (sequence (the_mark joint) (λ x. checks o (gives go))) (gives stay)))
@@ -76,7 +80,7 @@ module _ (unary upper : Grammar Operand) (w : Whole unary upper unary_look []) w
     part_joint go stay o =
         let inner = part_choice (part_of (whole_then (whole_mark joint) (λ x. whole_checks (whole_gives go)))) (part_of (whole_gives stay)) refl refl in
         record {
-          supplied = supplied_bars (is_next (is_mark other)) Mixed _ _ inner.supplied;
+          supplied = supplied_bars (is_next (is_mark other)) Mixed _ _ inner.supplied (passes_on (is_next (is_mark other)) (joint_or_end go stay o) (joint_or_end go stay o) (first_test (is_mark other)));
           clearly = clear_bars (is_next (is_mark other)) Mixed (marked other ∷ []) (next_mark other) inner.clearly (first_test (is_mark other));
           text = joint_text (sequence (the_mark joint) (λ x. checks o (gives go))) stay;
         }
@@ -97,9 +101,11 @@ module _ (unary upper : Grammar Operand) (w : Whole unary upper unary_look []) w
       supplied =
           supplied_rounds (chain_part unary joint other joined) (chain_part upper joint other joined) chain (λ t. Unit {0}) tt (λ t i. (whole_chain_part apart t).supplied) (λ t u x y i fine. tt)
           (λ t u i j.
-          text_behind (chain_part upper joint other joined t) (rounds (chain_part upper joint other joined) u) (full_look operand_starts (marked joint ∷ marked mark.Dot ∷ operators))
+          can_end (chain_part upper joint other joined t) (rounds (chain_part upper joint other joined) u) (whole_chain_part apart t).clearly.clear (onward u)
+          (text_behind (chain_part upper joint other joined t) (rounds (chain_part upper joint other joined) u) (full_look operand_starts (marked joint ∷ marked mark.Dot ∷ operators))
           (full_look operand_starts (marked joint ∷ marked mark.Dot ∷ operators)) (marked other ∷ []) (marked other ∷ []) (whole_chain_part apart t).clearly
-          (clear_chain_rounds upper w.clearly joint other joined apart u) free (last_part u) (onward u));
+          (clear_chain_rounds upper w.clearly joint other joined apart u) free (last_part u) (onward u)))
+          (λ t u i j. can_follow (chain_part upper joint other joined t) (rounds (chain_part upper joint other joined) u) (whole_chain_part apart t).clearly.clear (onward u));
       clearly = clear_chain_rounds upper w.clearly joint other joined apart chain;
       text = last_part chain;
     }
@@ -210,7 +216,10 @@ module _ (expression longer_one : Grammar Operand) (w : Whole expression longer_
   whole_rounds shape place I tokens keeps texts t i = record {
     supplied =
         supplied_rounds (part_text expression shape place) (part_text longer_one shape place) t I i (λ s j. by_token s (tokens s j)) keeps
-        (λ s u j k. text_free (part_text longer_one shape place s) (rounds (part_text longer_one shape place) u) (token_look operand_starts) (clear_part_text longer_one w.clearly shape place s) (texts u k) (onward u));
+        (λ s u j k.
+        can_end (part_text longer_one shape place s) (rounds (part_text longer_one shape place) u) (clear_part_text longer_one w.clearly shape place s).clear (onward u)
+        (text_free (part_text longer_one shape place s) (rounds (part_text longer_one shape place) u) (token_look operand_starts) (clear_part_text longer_one w.clearly shape place s) (texts u k) (onward u)))
+        (λ s u j k. can_follow (part_text longer_one shape place s) (rounds (part_text longer_one shape place) u) (clear_part_text longer_one w.clearly shape place s).clear (onward u));
     clearly = clear_parts_rounds longer_one w.clearly shape place t;
     text = texts t i;
   }

@@ -12,14 +12,15 @@ use Rattle.ixp_tokens.specs.declared.token.Kind.{Kind}
 use Rattle.ixp_tokens.specs.declared.token.Kind.TheVariants as kind
 use Rattle.ixp_tokens.specs.declared.token.Mark.{Mark}
 use Rattle.ixp_tokens.specs.declared.token.Mark.TheVariants.{Comma}
-use Rattle.ixp_tokens.specs.Grammars.{Grammar, gives, sequence, choice, rounds, bars, Step, onward, done}
-use Rattle.ixp_tokens.specs.Pieces.{rank, the_mark, is_mark, is_next, if_so, a_name, a_number, an_addr}
+use Rattle.ixp_tokens.specs.Grammars.{Grammar, gives, takes, sequence, choice, rounds, bars, here, Step, onward, done}
+use Rattle.ixp_tokens.specs.Pieces.{rank, the_mark, is_mark, the_word, is_next, if_so, a_name, a_number, an_addr}
 use Rattle.ixp_tokens.specs.Syntax.{Spot, spot, Fine, Scan, stopped, and_then, begins_at, scanned, scan}
-use Rattle.ixp_tokens.proofs.Fronts.{Front, marked, name, number, addr, are_apart}
+use Rattle.ixp_tokens.proofs.Fronts.{Front, marked, keyword, is_same, name, number, addr, are_apart}
 use Rattle.ixp_tokens.proofs.Looks.{Look, full_look, token_look}
-use Rattle.ixp_tokens.proofs.ClearLooks.{clear_mark, clear_name, clear_number, clear_addr}
+use Rattle.ixp_tokens.proofs.Known.{known_word}
+use Rattle.ixp_tokens.proofs.ClearLooks.{clear_token, clear_mark, clear_name, clear_number, clear_addr}
 use Rattle.ixp_tokens.proofs.Viable.{HasText, Supplied, supplied_takes, supplied_rounds, supplied_end, IsEnd}
-use Rattle.ixp_tokens.proofs.Whole.{Part, Whole, part_of, whole_gives, whole_takes, whole_then, whole_sequence, whole_right, text_free}
+use Rattle.ixp_tokens.proofs.Whole.{Part, Whole, part_of, whole_gives, whole_takes, whole_then, whole_sequence, whole_right, text_free, can_end, can_follow}
 use Rattle.ixp_exprs.specs.Lists.{never, only, ended, listed, deepened}
 use Rattle.ixp_exprs.proofs.ClearLists.{clear_never, clear_listed}
 
@@ -36,6 +37,9 @@ whole_name = whole_takes (kind.Name []) [] refl clear_name
 
 pub whole_number : Whole a_number a_number (token_look (number ∷ [])) []
 whole_number = whole_takes (kind.Number 0) 0 refl clear_number
+
+pub whole_word : (w : List ℕ) → Whole (the_word w) (the_word w) (token_look (keyword w ∷ [])) []
+whole_word w = whole_takes (kind.Word w) tt (ap if_so (is_same w w refl)) (clear_token _ (keyword w ∷ []) (known_word w))
 
 pub an_addr_there : Addr
 an_addr_there = record { family = V4; value = 0; fits = lit< tt }
@@ -62,30 +66,47 @@ or_false : (b : Bool) → (b || false) ≡ is_some (if_so b)
 or_false true = refl
 or_false false = refl
 
-opens_both : {A : Type 0} (m : Mark) (g : Unit {0} → Grammar A) (x : Spot) → begins_at (bars (is_next (is_mark m)) Deep (never {A = A})) x ≡ begins_at (sequence (the_mark m) g) x
-opens_both m g (p, []) = refl
-opens_both m g (p, k ∷ ts) = or_false (is_mark m k)
+module _ {A : Type 0} (test : Kind → Bool) (g : Unit {0} → Grammar A) where
+  abbrev tested : Grammar A
+  tested = sequence (takes (λ token. if_so (test token))) g
 
-abbrev barred_scan : (A : Type 0) → Bool → List Kind → Scan A
-barred_scan A b ts = if b then stopped Deep ts else stopped Unexpected ts
+  abbrev too_deep : Grammar A
+  too_deep = bars (is_next test) Deep never
 
-end_by : {A : Type 0} (b : Bool) (p : ℕ) (k : Kind) (ts : List Kind) (go : Unit {0} → Spot → Scan A)
-    → (barred_scan A b (k ∷ ts) ≡ stopped Deep (k ∷ ts)) ⊎ ((c : Cause) × (barred_scan A b (k ∷ ts) ≡ stopped c (k ∷ ts)) × (and_then (scanned (if_so b) p k ts) go ≡ stopped c (k ∷ ts)))
-end_by true p k ts go = inl refl
-end_by false p k ts go = inr (Unexpected, refl, refl)
+  opens_both : (x : Spot) → begins_at too_deep x ≡ begins_at tested x
+  opens_both (p, []) = refl
+  opens_both (p, k ∷ ts) = or_false (test k)
 
-ends_both : {A : Type 0} (m : Mark) (g : Unit {0} → Grammar A) (x : Spot) → IsEnd (bars (is_next (is_mark m)) Deep never) (sequence (the_mark m) g) x
-ends_both m g (p, []) = inr (inr (Unexpected, refl, refl))
-ends_both {A} m g (p, k ∷ ts) = by_mark (end_by (is_mark m k) p k ts (λ x y. scan (g x) y))
+  abbrev barred_scan : Bool → List Kind → Scan A
+  barred_scan b ts = if b then stopped Deep ts else stopped Unexpected ts
+
+  end_by : (b : Bool) (p : ℕ) (k : Kind) (ts : List Kind) (go : Unit {0} → Spot → Scan A)
+      → (barred_scan b (k ∷ ts) ≡ stopped Deep (k ∷ ts)) ⊎ ((c : Cause) × (barred_scan b (k ∷ ts) ≡ stopped c (k ∷ ts)) × (and_then (scanned (if_so b) p k ts) go ≡ stopped c (k ∷ ts)))
+  end_by true p k ts go = inl refl
+  end_by false p k ts go = inr (Unexpected, refl, refl)
+
+  ends_both : (x : Spot) → IsEnd too_deep tested x
+  ends_both (p, []) = inr (inr (Unexpected, refl, refl))
+  ends_both (p, k ∷ ts) = by_mark (end_by (test k) p k ts (λ x y. scan (g x) y))
+    where
+      by_mark : (barred_scan (test k) (k ∷ ts) ≡ stopped Deep (k ∷ ts)) ⊎ ((c : Cause) × (barred_scan (test k) (k ∷ ts) ≡ stopped c (k ∷ ts)) × (and_then (scanned (if_so (test k)) p k ts) (λ x y. scan (g x) y) ≡ stopped c (k ∷ ts)))
+          → IsEnd too_deep tested (spot p (k ∷ ts))
+      by_mark (inl deep) = inl deep
+      by_mark (inr same) = inr (inr same)
+
+ends_here : {A : Type 0} (test : Kind → Bool) (g : ℕ → Unit {0} → Grammar A) (x : Spot) → IsEnd (bars (is_next test) Deep never) (here (λ n. sequence (takes (λ token. if_so (test token))) (g n))) x
+ends_here {A} test g x = by_end (ends_both test (g x.0) x)
   where
-    by_mark : (barred_scan A (is_mark m k) (k ∷ ts) ≡ stopped Deep (k ∷ ts)) ⊎ ((c : Cause) × (barred_scan A (is_mark m k) (k ∷ ts) ≡ stopped c (k ∷ ts)) × (and_then (scanned (if_so (is_mark m k)) p k ts) (λ x y. scan (g x) y) ≡ stopped c (k ∷ ts)))
-        → IsEnd (bars (is_next (is_mark m)) Deep never) (sequence (the_mark m) g) (spot p (k ∷ ts))
-    by_mark (inl deep) = inl deep
-    by_mark (inr same) = inr (inr same)
+    by_end : IsEnd (bars (is_next test) Deep never) (sequence (takes (λ token. if_so (test token))) (g x.0)) x → IsEnd (bars (is_next test) Deep never) (here (λ n. sequence (takes (λ token. if_so (test token))) (g n))) x
+    by_end e = e
 
 -- no level is left in the first
+pub supplied_deep : {A : Type 0} (test : Kind → Bool) (g : ℕ → Unit {0} → Grammar A) → Supplied A (bars (is_next test) Deep never) (here (λ n. sequence (takes (λ token. if_so (test token))) (g n)))
+supplied_deep test g =
+    supplied_end (bars (is_next test) Deep never) (here (λ n. sequence (takes (λ token. if_so (test token))) (g n))) (λ x. opens_both test (g x.0) x) (λ x. ends_here test g x)
+
 pub supplied_level : {A : Type 0} (m : Mark) (g : Unit {0} → Grammar A) → Supplied A (bars (is_next (is_mark m)) Deep never) (sequence (the_mark m) g)
-supplied_level m g = supplied_end (bars (is_next (is_mark m)) Deep never) (sequence (the_mark m) g) (opens_both m g) (ends_both m g)
+supplied_level m g = supplied_end (bars (is_next (is_mark m)) Deep never) (sequence (the_mark m) g) (opens_both (is_mark m) g) (ends_both (is_mark m) g)
 
 pub whole_level : {A : Type 0} {f h : Unit {0} → Grammar A} {l : Look} (m : Mark) → ((x : Unit {0}) → Whole (f x) (h x) l []) → Whole (bars (is_next (is_mark m)) Deep never) (sequence (the_mark m) h) (full_look (marked m ∷ []) l.ends) []
 whole_level {A} {f} {h} {l} m w =
@@ -120,7 +141,10 @@ module _ {A : Type 0} (item other : List A → Grammar A) (fs es : List Front) (
   whole_listed apart = record {
     supplied =
         supplied_rounds (round item) (round other) [] (λ t. Unit {0}) tt (λ t i. (whole_round apart t).supplied) (λ t u x y i fine. tt)
-        (λ t u i j. text_free (round other t) (rounds (round other) u) (full_look fs (marked Comma ∷ es)) (whole_round apart t).clearly (last_text u) (onward u));
+        (λ t u i j.
+        can_end (round other t) (rounds (round other) u) (whole_round apart t).clearly.clear (onward u)
+        (text_free (round other t) (rounds (round other) u) (full_look fs (marked Comma ∷ es)) (whole_round apart t).clearly (last_text u) (onward u)))
+        (λ t u i j. can_follow (round other t) (rounds (round other) u) (whole_round apart t).clearly.clear (onward u));
     clearly = clear_listed other fs es [] (λ items. (w items).clearly) apart;
     text = last_text [];
   }

@@ -1,6 +1,7 @@
 -- The names that a text declares.
 use Rattle.std.specs.Prelude.{ℕ, Bool, true, false, ◌==◌, not, List, Option, Some, None, if◌then◌else◌}
 use Rattle.std.specs.Option.{is_none}
+use Rattle.ixp_lang.specs.Trees.{ItemTree}
 use Rattle.ixp_tokens.specs.declared.fault.Cause.TheVariants.{Twice}
 use Rattle.ixp_tokens.specs.Grammars.{Grammar, sequence, checks, here, gives}
 use Rattle.ixp_tokens.specs.Pieces.{a_name, same_word}
@@ -8,6 +9,14 @@ use Rattle.ixp_exprs.specs.declared.env.Declared.{Declared}
 use Rattle.ixp_exprs.specs.declared.env.Declared.TheVariants.{Parameter}
 use Rattle.ixp_exprs.specs.Names.{Names}
 use Rattle.ixp_exprs.specs.Sets.{unless_so}
+
+-- before any item no name is declared
+abbrev pub nothing_declared : Names
+nothing_declared name = None
+
+-- an item, and what names stand for behind it
+abbrev pub Declares : Type 0
+Declares = ItemTree × Names
 
 -- from now on the name stands for this
 abbrev pub standing : Names → List ℕ → Declared → Names

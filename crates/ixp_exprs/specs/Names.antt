@@ -8,6 +8,7 @@ use Rattle.ixp_lang.specs.declared.value.Value.TheVariants as value
 use Rattle.ixp_exprs.specs.declared.types.ValueType.{ValueType}
 use Rattle.ixp_exprs.specs.declared.env.Signature.{Signature}
 use Rattle.ixp_exprs.specs.declared.env.Declared.{Declared}
+use Rattle.ixp_exprs.specs.declared.env.Table.{Table as Holder}
 use Rattle.ixp_exprs.specs.declared.env.Env.{Env}
 use Rattle.ixp_exprs.specs.declared.env.Declared.TheVariants.{Table, Define, Function, Filter, Protocol, Begun, Parameter}
 use Rattle.ixp_exprs.specs.declared.context.Context.{Context}
@@ -29,6 +30,11 @@ names_at cx = names_of cx.env.now
 abbrev pub number_of : Option Declared → Option ℕ
 number_of (Some (Define ty number)) = number
 number_of _ = None
+
+-- the table of a name, and who has it
+abbrev pub table_of : Option Declared → Option Holder
+table_of (Some (Table table)) = Some table
+table_of _ = None
 
 -- the function of a name
 abbrev pub function_of : Option Declared → Option Signature

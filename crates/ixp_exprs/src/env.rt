@@ -4,8 +4,9 @@ ghost use Rattle.std.specs.Option.{is_none};
 ghost use Rattle.ixp_lang.specs.Views.{expr_view};
 ghost use Rattle.ixp_tokens.specs.Pieces.{a_name};
 ghost use Rattle.ixp_tokens.specs.Reading.{read, kinds, Gives};
-ghost use Rattle.ixp_exprs.specs.Declarations.{standing, gives_way, is_free_in, free_name};
-ghost use Rattle.ixp_exprs.specs.Names.{names_of, number_of, function_of, value_of, defined_number};
+ghost use Rattle.ixp_exprs.specs.Answers.{Makes};
+ghost use Rattle.ixp_exprs.specs.Declarations.{nothing_declared, standing, gives_way, is_free_in, free_name};
+ghost use Rattle.ixp_exprs.specs.Names.{names_of, number_of, table_of, function_of, value_of, defined_number};
 
 use crate::{Scope, ValueType};
 use ixp_lang::{Expr, Value};
@@ -94,10 +95,12 @@ fn gives_way(declared: &Declared, function: usize) -> bool
     }
 }
 
-/// The table's words in the map, to be changed.
-fn table_in(declared: &mut Declared) -> Option<&mut Table> {
+/// The table, and who has it.
+fn table_in(declared: &Declared) -> Option<Table>
+    ensures { result ≡ table_of (Some declared.now) }
+{
     match declared {
-        Declared::Table(table) => Some(table),
+        Declared::Table(table) => Some(*table),
         _ => None,
     }
 }
@@ -105,7 +108,7 @@ fn table_in(declared: &mut Declared) -> Option<&mut Table> {
 impl Env {
     /// No name is declared. It takes no memory.
     pub fn new(alloc: Global) -> Env
-        ensures { (name : List ℕ) → names_of result name ≡ None }
+        ensures { names_of result ≡ nothing_declared }
     {
         Env {
             names: BTreeMap::new(alloc),
@@ -140,14 +143,16 @@ impl Env {
         value_in(self.get(name)?, scope)
     }
 
-    /// The table of this name, so that what is known of it can be changed.
-    pub fn table_mut(&mut self, name: &Name) -> Option<&mut Table> {
-        table_in(self.names.get_mut(name.as_bytes())?)
+    /// The table of this name, and who has it.
+    pub fn table(&self, name: &Name) -> Option<Table>
+        ensures { result ≡ table_of (names_of self.now name.now) }
+    {
+        table_in(self.get(name)?)
     }
 
     /// From now on the name stands for this.
     pub fn declare(&mut self, alloc: Global, name: &Name, what: Declared) -> Result<(), Fault>
-        ensures { IfOk result (λ x. (other : List ℕ) → names_of self.new other ≡ standing (names_of self.old) name.now what other) }
+        ensures { Makes (λ x. names_of self.new) result (standing (names_of self.old) name.now what) }
     {
         let key = Vec::from_slice(alloc, name.as_bytes())?;
         let _ = self.names.insert(key, what)?;

@@ -9,9 +9,9 @@ use Rattle.ixp_tokens.proofs.Clear.{IsSeen}
 use Rattle.ixp_tokens.proofs.ClearLooks.{it_goes, clear_parted}
 use Rattle.ixp_tokens.proofs.Fines.{goes_no_end_by}
 use Rattle.ixp_tokens.proofs.Laws.{sound, complete, one_reading}
-use Rattle.ixp_read.specs.Items.{Begun, is_more, config_text}
-use Rattle.ixp_read.proofs.Sure.{behind_else}
-use Rattle.ixp_read.proofs.SureItems.{round, config_clear}
+use Rattle.ixp_read.specs.Items.{Begun, is_more, config_round, config_text}
+use Rattle.ixp_exprs.proofs.Sure.{behind_else}
+use Rattle.ixp_read.proofs.SureItems.{config_clear}
 
 config_parted : Parted config_text
 config_parted = clear_parted (IsSeen behind_else) config_text config_clear
@@ -32,11 +32,11 @@ no_more : (tokens rest : List Kind) → is_more tokens ≡ false → tokens ≡ 
 no_more [] rest none same = sym same
 no_more (k ∷ tokens) rest none same = absurd cc
 
-last_round : (before : Begun) (c : List ItemTree) (tokens rest : List Kind) → Took (round before) (done c) tokens rest → rest ≡ []
+last_round : (before : Begun) (c : List ItemTree) (tokens rest : List Kind) → Took (config_round before) (done c) tokens rest → rest ≡ []
 last_round before c tokens rest (inl (declares, mid, item, (same, end))) = absurd cc
 last_round before c tokens rest (inr (none, (same, end))) = no_more tokens rest none end
 
-rounds_end : (n : ℕ) (before : Begun) (c : List ItemTree) (tokens rest : List Kind) → Rounds (λ s. Took (round s)) n before c tokens rest → rest ≡ []
+rounds_end : (n : ℕ) (before : Begun) (c : List ItemTree) (tokens rest : List Kind) → Rounds (λ s. Took (config_round s)) n before c tokens rest → rest ≡ []
 rounds_end zero before c tokens rest took = last_round before c tokens rest took
 rounds_end (suc n) before c tokens rest (next, mid, took, more) = rounds_end n next c mid rest more
 

@@ -1,8 +1,10 @@
+pub mod AnswerLaws
 pub mod ConfigurationLaws
 pub mod ConfigurationStops
-pub mod Several
-pub mod Sure
+pub mod HeadSteps
+pub mod ItemSteps
+pub mod RoundSteps
+pub mod SteadyItems
 pub mod SureFunctions
 pub mod SureItems
-pub mod SureProtocols
-pub mod SureStatements
+pub mod WholeItems

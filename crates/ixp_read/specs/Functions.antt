@@ -1,38 +1,25 @@
 -- Functions and filters.
 use Rattle.std.specs.Prelude.{ℕ, Bool, true, false, ◌&&◌, ◌==◌, not, List, [], ◌∷◌, ◌++◌, codes, Option, Some, None, if◌then◌else◌}
-use Rattle.std.specs.Option.{is_some, is_none}
-use Rattle.ixp_lang.specs.Trees.{StmtTree, stmts, ItemTree, function_item, filter_item}
+use Rattle.std.specs.Option.{is_some}
+use Rattle.ixp_lang.specs.Trees.{StmtTree, stmts, function_item, filter_item}
 use Rattle.ixp_lang.specs.declared.item.Ty.{Ty}
 use Rattle.ixp_lang.specs.declared.item.Ty.TheVariants as ty
-use Rattle.ixp_tokens.specs.declared.fault.Cause.{Cause}
 use Rattle.ixp_tokens.specs.declared.fault.Cause.TheVariants.{Twice}
 use Rattle.ixp_tokens.specs.declared.token.Mark.TheVariants.{Semicolon, Open, Close, BlockOpen, Arrow}
-use Rattle.ixp_tokens.specs.Grammars.{Grammar, gives, takes, sequence, choice, rounds, checks, here, onward, done}
+use Rattle.ixp_tokens.specs.Grammars.{Step, Grammar, gives, takes, sequence, choice, rounds, checks, here, onward, done}
 use Rattle.ixp_tokens.specs.Pieces.{the_mark, the_word, same_word, a_name}
 use Rattle.ixp_exprs.specs.declared.types.ValueType.{ValueType}
 use Rattle.ixp_exprs.specs.declared.env.Signature.{Signature}
-use Rattle.ixp_exprs.specs.declared.env.Declared.{Declared}
 use Rattle.ixp_exprs.specs.declared.env.Declared.TheVariants.{Function, Filter, Begun, Parameter}
 use Rattle.ixp_exprs.specs.declared.context.Scope.TheVariants as scope
 use Rattle.ixp_exprs.specs.Types.{type_of}
 use Rattle.ixp_exprs.specs.Names.{Names}
+use Rattle.ixp_exprs.specs.Declarations.{Declares, standing, is_free_in, free_name}
 use Rattle.ixp_exprs.specs.Lists.{only, ended}
 use Rattle.ixp_exprs.specs.Sets.{unless_so}
 use Rattle.ixp_exprs.specs.Operands.{misfit_at}
 use Rattle.ixp_exprs.specs.Expressions.{word_in}
-use Rattle.ixp_read.specs.Statements.{Frame, Returned, Said, body_text}
-
--- from now on the name stands for this
-abbrev pub standing : Names → List ℕ → Declared → Names
-standing names name what = λ other. if same_word other name then Some what else names other
-
--- an item, and what names stand for behind it
-abbrev pub Declares : Type 0
-Declares = ItemTree × Names
-
--- the name of an item, which nothing has yet
-abbrev pub free_name : Names → Grammar (List ℕ)
-free_name names = here (λ left. sequence a_name (λ name. checks (unless_so (is_none (names name)) (Twice, left)) (gives name)))
+use Rattle.ixp_stmts.specs.Statements.{Frame, Returned, Said, body_text}
 
 -- Types as they are written.
 
@@ -64,12 +51,6 @@ type_text =
 
 -- Functions.
 
--- a parameter of this function may have the name: at most parameters of other functions have it
-abbrev pub is_free_in : Option Declared → ℕ → Bool
-is_free_in None number = true
-is_free_in (Some (Parameter other t)) number = not (other == number)
-is_free_in (Some _) number = false
-
 -- the parameters so far, and what names stand for with them
 pub record Params : Type 0 where
   pub params : List (Ty × List ℕ)
@@ -93,14 +74,15 @@ param_text number before =
 abbrev pub no_params : Names → Params
 no_params names = record { params = []; types = []; names = names }
 
+-- one parameter behind those before it, and a semicolon where another one follows
+abbrev pub param_round : ℕ → Params → Grammar (Step Params Params)
+param_round number before = sequence (param_text number before) (λ params. choice (ended Semicolon (onward params)) (gives (done params)))
+
 -- the parameters of the function that has this number, in parentheses
 abbrev pub params_text : ℕ → Names → Grammar Params
 params_text number names =
     sequence (the_mark Open) (λ tt.
-    choice (ended Close (no_params names))
-    (sequence
-    (rounds (λ before. sequence (param_text number before) (λ params. choice (ended Semicolon (onward params)) (gives (done params)))) (no_params names))
-    (λ params. ended Close params)))
+    choice (ended Close (no_params names)) (sequence (rounds (param_round number) (no_params names)) (λ params. ended Close params)))
 
 -- the type that a function is said to return, if one is
 abbrev pub written_text : Grammar (Option ValueType)
@@ -137,14 +119,17 @@ body_with body = record { statements = body.it; returns = body.returned.ty }
 abbrev pub frame_in : ℕ → Names → Frame
 frame_in number names = record { names = names; scope = scope.Function number }
 
--- a type that is written needs a `return`
-abbrev pub body_end : ℕ → Names → Grammar Body
-body_end number names =
+-- a body with so many levels in it at most; a type that is written needs a `return`
+abbrev pub body_within : ℕ → ℕ → Names → Grammar Body
+body_within levels number names =
     here (λ place.
     sequence written_text (λ written.
     sequence (the_mark BlockOpen) (λ tt.
-    sequence (body_text (frame_in number names) levels_inside (as_written written)) (λ body.
+    sequence (body_text (frame_in number names) levels (as_written written)) (λ body.
     checks (unless_so (not (is_some written && not body.returned.is_met)) (misfit_at place)) (gives (body_with body))))))
+
+abbrev pub body_end : ℕ → Names → Grammar Body
+body_end number names = body_within levels_inside number names
 
 abbrev pub signature_of : Head → Body → Signature
 signature_of head body = record { params = head.params.types; returns = body.returns }
@@ -153,15 +138,24 @@ abbrev pub function_with : Head → Body → Declares
 function_with head body =
     (function_item head.name head.params.params (stmts body.statements), standing head.params.names head.name (Function (signature_of head body)))
 
--- what follows `function`, before which there are so many items
-abbrev pub function_end : ℕ → Names → Grammar Declares
-function_end number names =
-    sequence (head_text number names) (λ head. sequence (body_end number head.params.names) (λ body. gives (function_with head body)))
+-- what follows `function`, before which there are so many items, with so many levels in its block at most
+abbrev pub function_within : ℕ → ℕ → Names → Grammar Declares
+function_within levels number names =
+    sequence (head_text number names) (λ head. sequence (body_within levels number head.params.names) (λ body. gives (function_with head body)))
 
--- what follows `filter`
-abbrev pub filter_end : Names → Grammar Declares
-filter_end names =
+abbrev pub function_end : ℕ → Names → Grammar Declares
+function_end number names = function_within levels_inside number names
+
+abbrev pub filter_with : Names → List ℕ → Said (List StmtTree) → Declares
+filter_with names name body = (filter_item name (stmts body.it), standing names name Filter)
+
+-- what follows `filter`, with so many levels in its block at most
+abbrev pub filter_within : ℕ → Names → Grammar Declares
+filter_within levels names =
     sequence (free_name names) (λ name.
     sequence (the_mark BlockOpen) (λ tt.
-    sequence (body_text (record { names = names; scope = scope.Filter }) levels_inside (as_written None)) (λ body.
-    gives (filter_item name (stmts body.it), standing names name Filter))))
+    sequence (body_text (record { names = names; scope = scope.Filter }) levels (as_written None)) (λ body.
+    gives (filter_with names name body))))
+
+abbrev pub filter_end : Names → Grammar Declares
+filter_end names = filter_within levels_inside names

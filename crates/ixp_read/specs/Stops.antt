@@ -1,29 +1,35 @@
 -- Where no configuration goes on, as far as syntax tells: types, names and the ranges of numbers left aside.
-use Rattle.std.specs.Prelude.{◌≡◌, ℕ, true, List, ◌∷◌, ◌++◌, length, codes}
+use Rattle.std.specs.Prelude.{◌≡◌, ℕ, ◌+◌, ◌<◌, List, length}
+use Rattle.ixp_lang.specs.Trees.{ItemTree}
+use Rattle.ixp_tokens.specs.declared.fault.Cause.{Cause}
+use Rattle.ixp_tokens.specs.declared.fault.Cause.TheVariants.{Deep}
 use Rattle.ixp_tokens.specs.declared.token.Kind.{Kind}
-use Rattle.ixp_tokens.specs.declared.token.Mark.TheVariants.{Colon}
-use Rattle.ixp_tokens.specs.Pieces.{is_mark, is_word, is_next}
-use Rattle.ixp_tokens.specs.Syntax.{spot, scan, refused, IsFineText}
-use Rattle.ixp_read.specs.Items.{config_text}
+use Rattle.ixp_tokens.specs.Grammars.{Grammar}
+use Rattle.ixp_tokens.specs.Syntax.{spot, scan, refused, IsFineText, StopsAt}
+use Rattle.ixp_read.specs.Functions.{levels_inside}
+use Rattle.ixp_read.specs.Items.{define_levels, item_within, config_of, config_text}
+
+-- a configuration that may have so many levels more than others
+abbrev pub config_with : ℕ → Grammar (List ItemTree)
+config_with more = config_of (item_within (record { of_define = define_levels + more; inside = levels_inside + more }))
 
 -- the tokens are a configuration by their syntax; places are numbered from so many down
 abbrev pub IsFine : ℕ → List Kind → Type 0
 IsFine = IsFineText config_text
 
+-- or one that has so many levels more
+abbrev pub IsFineWith : ℕ → ℕ → List Kind → Type 0
+IsFineWith more = IsFineText (config_with more)
+
 -- the reading ends at something that isn't syntax
 abbrev pub IsRefused : List Kind → Type 0
 IsRefused tokens = scan config_text (spot (length tokens) tokens) ≡ refused
 
--- an `else` has a colon behind it in both, or in none
-abbrev pub SameElse : Kind → List Kind → List Kind → Type 0
-SameElse token r s = is_word (codes "else") token ≡ true → is_next (is_mark Colon) r ≡ is_next (is_mark Colon) s
-
--- With so many tokens left no text goes on: none begins with what is before the place and the token there. (Of an `else` this
--- says it of the texts that have a colon behind it as this one has, or as it has none.)
-pub record NoneGoesOn (tokens : List Kind) (left : ℕ) : Type 0 where
-  pub front : List Kind
-  pub rest : List Kind
-  pub parts : tokens ≡ front ++ rest
-  pub left_is : left ≡ length rest
-  pub no_more : (token : Kind) (others more : List Kind) → rest ≡ token ∷ others → SameElse token others more → ¬ (IsFine (length tokens) (front ++ token ∷ more))
-  pub not_in : ¬ (IsFine (length tokens) tokens)
+-- With so many tokens left no configuration goes on: some configuration begins with what is before the place, with a level more
+-- than there may be perhaps, and none with what is before it and the token there. If the cause isn't that there are too many
+-- levels, none with more of them does either.
+abbrev pub NoneGoesOn : List Kind → Cause → ℕ → Type 0
+NoneGoesOn tokens cause left =
+    (more : ℕ) → 0 < more
+    → StopsAt (IsFineWith more (length tokens)) (IsFine (length tokens)) tokens left
+    × (¬ (cause ≡ Deep) → StopsAt (IsFineWith more (length tokens)) (IsFineWith more (length tokens)) tokens left)

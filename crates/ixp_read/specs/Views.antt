@@ -1,27 +1,30 @@
 -- What the program's own values say, in the words of the grammar.
-use Rattle.std.specs.Prelude.{ℕ, List}
-use Rattle.ixp_lang.specs.declared.stmt.Label.{Label}
-use Rattle.ixp_lang.specs.declared.stmt.Label.TheVariants.{Range as Between}
-use Rattle.ixp_tokens.specs.declared.token.Mark.TheVariants.{Range}
-use Rattle.ixp_tokens.specs.Grammars.{Grammar, gives, takes, sequence, choice}
-use Rattle.ixp_tokens.specs.Pieces.{the_mark, a_number}
-use Rattle.ixp_read.specs.Protocols as grammar
-use Rattle.ixp_read.specs.declared.session.Local.{Local}
-use Rattle.ixp_read.specs.declared.session.Neighbor.{Neighbor}
-use Rattle.ixp_read.specs.declared.session.Peering.{Peering}
+use Rattle.std.specs.Prelude.{Bool, true, false, List, map}
+use Rattle.ixp_lang.specs.Trees.{ItemTree}
+use Rattle.ixp_lang.specs.Views.{stmts_view, item_view}
+use Rattle.ixp_lang.specs.declared.item.Item.{Item}
+use Rattle.ixp_tokens.specs.Grammars.{Step, onward, done}
+use Rattle.ixp_exprs.specs.Names.{Names}
+use Rattle.ixp_read.specs.Functions as grammar
+use Rattle.ixp_read.specs.Items.{Begun}
+use Rattle.ixp_read.specs.declared.params.Params.{Params}
+use Rattle.ixp_read.specs.declared.function.Head.{Head}
+use Rattle.ixp_read.specs.declared.function.Body.{Body}
 
-abbrev pub a_string : Grammar (List ℕ)
-a_string = takes grammar.string_in
+-- parameters, where names stand for this
+abbrev pub params_of : Params → Names → grammar.Params
+params_of p names = record { params = p.params; types = p.types; names = names }
 
-abbrev pub local_of : Local → grammar.Local
-local_of l = record { addr = l.addr; asn = l.asn }
+abbrev pub head_of : Head → Names → grammar.Head
+head_of h names = record { name = h.name; params = params_of h.params names }
 
-abbrev pub neighbor_of : Neighbor → grammar.Neighbor
-neighbor_of n = record { addr = n.addr; asn = n.asn }
+abbrev pub body_of : Body → grammar.Body
+body_of b = record { statements = stmts_view b.body.items; returns = b.returns }
 
-abbrev pub peering_of : Peering → grammar.Peering
-peering_of p = record { here_ = local_of p.local; there = neighbor_of p.neighbor; rs_client = p.rs_client; password = p.password }
+abbrev pub begun_of : List Item → Names → Begun
+begun_of items names = record { items = map item_view items; names = names }
 
--- the label that begins with this number
-abbrev pub range_end : ℕ → Grammar Label
-range_end low = choice (sequence (the_mark Range) (λ tt. sequence a_number (λ high. gives (Between low high)))) (gives (Between low low))
+-- the end of the text, or one item more
+abbrev pub round_says : Bool → Begun → Step Begun (List ItemTree)
+round_says true begun = done begun.items
+round_says false begun = onward begun

@@ -1,10 +1,13 @@
 //! Laws of configurations. The functions do nothing: each is called for what it ensures.
-ghost use Rattle.std.specs.Prelude.{◌≡◌, ◌⊎◌, ℕ, List, [], Ok, Err};
+ghost use Rattle.std.specs.Prelude.{◌≡◌, ◌⊎◌, ℕ, List, [], Result, Ok, Err};
 ghost use Rattle.ixp_lang.specs.Trees.{ItemTree};
+ghost use Rattle.ixp_lang.specs.declared.item.Config.{Config};
 ghost use Rattle.ixp_tokens.specs.declared.fault.Cause.{Cause};
 ghost use Rattle.ixp_tokens.specs.declared.token.Kind.{Kind};
 ghost use Rattle.ixp_tokens.specs.Grammars.{Took};
 ghost use Rattle.ixp_tokens.specs.Reading.{read};
+ghost use Rattle.ixp_read.specs.declared.fault.ReadFault.{ReadFault};
+ghost use Rattle.ixp_read.specs.Answers.{ConfigAnswer, IsTold, SameAnswer};
 ghost use Rattle.ixp_read.specs.Items.{config_text};
 ghost use Rattle.ixp_read.specs.Stops.{IsRefused, NoneGoesOn};
 
@@ -24,8 +27,15 @@ pub fn read_is_spelt()
     ensures spelt { (tokens : List Kind) (c : List ItemTree) (rest : List Kind) → read config_text tokens ≡ Ok (c, rest) → Took config_text c tokens [] }
 {}
 
-/// Where syntax ends a reading, it is at a place with which no configuration goes on; else it is a type, a name or a
-/// range of numbers that ends it.
+/// A reading that fails ends at a type, a name or a range of numbers; or syntax ends it, at the first place where no
+/// configuration goes on: some configuration, with a level more perhaps, begins with the tokens before it, none with
+/// these and the one that is there.
 pub fn none_goes_on()
-    ensures { (tokens : List Kind) (cause : Cause) (left : ℕ) → read config_text tokens ≡ Err (cause, left) → IsRefused tokens ⊎ NoneGoesOn tokens left }
+    ensures { (tokens : List Kind) (cause : Cause) (left : ℕ) → read config_text tokens ≡ Err (cause, left) → IsRefused tokens ⊎ NoneGoesOn tokens cause left }
+{}
+
+/// A text has one answer: one configuration, or one fault at one place. So what [`crate::read_config`] ensures says exactly
+/// what it answers, want of memory left aside.
+pub fn one_answer()
+    ensures { (text : List ℕ) (one other : Result Config ReadFault) → IsTold one → IsTold other → ConfigAnswer text one → ConfigAnswer text other → SameAnswer one other }
 {}

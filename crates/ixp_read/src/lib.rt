@@ -1,22 +1,19 @@
 //! The reader of filter texts: this profile of BIRD 2's language (User's Guide, chapters "Configuration" and "Filters").
 //!
-//! [`read_config`] gives the tree of a text, or the first place where no text goes on and why. Every call returns;
-//! that a text is read as its tree isn't claimed yet.
+//! [`read_config`] gives the tree that the text's tokens spell by the grammar of `specs/Items.antt`, or the place where
+//! the reading of the tokens stops, and why (`ConfigAnswer` of `specs/Answers.antt`). A text has one such answer
+//! ([`laws::one_answer`]); where syntax stops a reading, no configuration goes on ([`laws::none_goes_on`]).
 #![tactic(auto)]
 
-mod body;
-mod change;
 mod fault;
 mod function;
 mod item;
-mod label;
 pub mod laws;
-mod protocol;
+mod params;
 mod read;
-mod session;
-mod stmt;
 #[cfg(test)]
 mod tests;
+mod ty;
 
 pub use fault::ReadFault;
 pub use read::read_config;

@@ -1,12 +1,11 @@
 -- A reading depends on the tokens up to its place, and the first one behind, alone. So no fine text begins with the tokens up
 -- to the place where syntax stops a reading, and the one that is there.
 use Rattle.std.proofs.Common.{◌≡◌, ℕ, zero, suc, pred, ◌+◌, ◌<◌, ◌≤◌, ◌⊎◌, inl, inr, Bool, true, false, not, ◌&&◌, ◌||◌, List, [], ◌∷◌, ◌++◌, length, Option, Some, None, refl, sym, ap, ◌∙◌, arith, subst, append_assoc, length-append, if◌then◌else◌}
-use Rattle.std.specs.Option.{is_some}
 use Rattle.ixp_tokens.specs.declared.token.Kind.{Kind}
 use Rattle.ixp_tokens.specs.declared.fault.Cause.{Cause}
 use Rattle.ixp_tokens.specs.declared.fault.Cause.TheVariants.{Unexpected}
 use Rattle.ixp_tokens.specs.Grammars.{Step, onward, done, Grammar, gives, takes, sequence, choice, rounds, checks, bars, unless, here}
-use Rattle.ixp_tokens.specs.Syntax.{Spot, spot, Fine, Scan, said, stopped, refused, and_then, begins_at, scanned, stepping, scan_rounds, unless_refused, scan}
+use Rattle.ixp_tokens.specs.Syntax.{Spot, spot, Fine, Scan, said, stopped, refused, and_then, begins_at, scanned, stepping, scan_rounds, scan}
 use Rattle.ixp_tokens.proofs.Clear.{MayEmpty, Sight, IsSeen, ClearBy}
 use Rattle.ixp_tokens.proofs.Seen.{Like, like_behind, like_of}
 use Rattle.ixp_tokens.proofs.Sizes.{fewer}
@@ -36,7 +35,7 @@ module _ (sight : Sight) where
   abbrev pub IsAlike : {A : Type 0} → Grammar A → Type 0
   IsAlike {A} f = (p : ℕ) (ts : List Kind) (e : End A) (rest : List Kind) → scan f (spot p ts) ≡ ended e rest → Alike sight f p ts e rest
 
-  then_ended : {A B : Type 0} (s : Scan A) (g : A → Spot → Scan B) (e : End B) (rest : List Kind) → and_then s g ≡ ended e rest
+  pub then_ended : {A B : Type 0} (s : Scan A) (g : A → Spot → Scan B) (e : End B) (rest : List Kind) → and_then s g ≡ ended e rest
       → ((a : A) × (z : Spot) × (s ≡ said a z) × (g a z ≡ ended e rest)) ⊎ ((c : Cause) × (s ≡ stopped c rest) × (e ≡ stops c))
   then_ended (said a z) g e rest h = inl (a, z, refl, h)
   then_ended {A} {B} (stopped c r) g (stops d) rest h = inr (d, let both = stops_same B c d r rest h in ap (λ x. stopped x r) both.0 ∙ ap (stopped d) both.1, refl)
@@ -45,43 +44,49 @@ module _ (sight : Sight) where
   then_ended refused g (says v q) rest h = absurd cc
 
   -- the same first token, behind the same tokens
-  same_first : (taken rest other ts : List Kind) → ts ≡ taken ++ rest → Like sight rest other → Like sight ts (taken ++ other)
+  pub same_first : (taken rest other ts : List Kind) → ts ≡ taken ++ rest → Like sight rest other → Like sight ts (taken ++ other)
   same_first taken rest other ts parts same = subst (λ x. Like sight x (taken ++ other)) (sym parts) (like_behind sight taken rest other same)
 
-  cons_head : (k : Kind) (ts : List Kind) (j : Kind) (us : List Kind) → (k ∷ ts) ≡ j ∷ us → k ≡ j
+  pub cons_head : (k : Kind) (ts : List Kind) (j : Kind) (us : List Kind) → (k ∷ ts) ≡ j ∷ us → k ≡ j
   cons_head k ts j us e = cc
 
-  none_first : (rest other : List Kind) → [] ≡ rest → ¬ (Like sight rest other)
+  pub none_first : (rest other : List Kind) → [] ≡ rest → ¬ (Like sight rest other)
   none_first rest other none same = let e : [] ≡ same.token ∷ same.first_rest = none ∙ same.first in cc
 
-  in_place : {A : Type 0} (f : Grammar A) (p : ℕ) (ts : List Kind) (e : End A) (rest : List Kind) → ts ≡ rest → ((other : List Kind) → Like sight rest other → scan f (spot p other) ≡ ended e other) → Alike sight f p ts e rest
+  pub in_place : {A : Type 0} (f : Grammar A) (p : ℕ) (ts : List Kind) (e : End A) (rest : List Kind) → ts ≡ rest → ((other : List Kind) → Like sight rest other → scan f (spot p other) ≡ ended e other) → Alike sight f p ts e rest
   in_place f p ts e rest same h = record { taken = []; parts = same; again = h }
 
-  sequence_alike : {A B : Type 0} (f : Grammar B) (g : B → Grammar A) → IsAlike f → ((b : B) → IsAlike (g b)) → IsAlike (sequence f g)
+  -- a part that says b again before what is alike, and then another
+  pub both_alike : {A B : Type 0} (f : Grammar B) (g : B → Grammar A) (b : B) (p : ℕ) (ts : List Kind) (q : ℕ) (mid : List Kind) (e : End A) (rest front : List Kind) → ts ≡ front ++ mid → (two : Alike sight (g b) q mid e rest)
+      → ((other : List Kind) → Like sight rest other → scan f (spot p (front ++ (two.taken ++ other))) ≡ said b (spot q (two.taken ++ other))) → Alike sight (sequence f g) p ts e rest
+  both_alike f g b p ts q mid e rest front parts two again = record {
+    taken = front ++ two.taken;
+    parts = parts ∙ ap (λ x. front ++ x) two.parts ∙ sym (append_assoc front two.taken rest);
+    again = λ other same.
+        ap (λ x. and_then (scan f (spot p x)) (λ a y. scan (g a) y)) (append_assoc front two.taken other)
+        ∙ ap (λ x. and_then x (λ a y. scan (g a) y)) (again other same)
+        ∙ two.again other same;
+  }
+
+  -- the first part stops
+  pub stop_first : {A B : Type 0} (f : Grammar B) (g : B → Grammar A) (p : ℕ) (ts : List Kind) (e : End A) (rest : List Kind) (c : Cause) → Alike sight f p ts (stops c) rest → e ≡ stops c → Alike sight (sequence f g) p ts e rest
+  stop_first f g p ts e rest c one is = record {
+    taken = one.taken;
+    parts = one.parts;
+    again = λ other same. ap (λ x. and_then x (λ a y. scan (g a) y)) (one.again other same) ∙ ap (λ x. ended x other) (sym is);
+  }
+
+  pub sequence_alike : {A B : Type 0} (f : Grammar B) (g : B → Grammar A) → IsAlike f → ((b : B) → IsAlike (g b)) → IsAlike (sequence f g)
   sequence_alike {A} {B} f g hf hg p ts e rest h = by_parts (then_ended (scan f (spot p ts)) _ e rest h)
     where
       by_both : (b : B) (q : ℕ) (mid : List Kind) → Alike sight f p ts (says b q) mid → Alike sight (g b) q mid e rest → Alike sight (sequence f g) p ts e rest
-      by_both b q mid one two = record {
-        taken = one.taken ++ two.taken;
-        parts = one.parts ∙ ap (λ x. one.taken ++ x) two.parts ∙ sym (append_assoc one.taken two.taken rest);
-        again = λ other same.
-            ap (λ x. and_then (scan f (spot p x)) (λ a y. scan (g a) y)) (append_assoc one.taken two.taken other)
-            ∙ ap (λ x. and_then x (λ a y. scan (g a) y)) (one.again (two.taken ++ other) (same_first two.taken rest other mid two.parts same))
-            ∙ two.again other same;
-      }
-
-      by_stop : (c : Cause) → Alike sight f p ts (stops c) rest → e ≡ stops c → Alike sight (sequence f g) p ts e rest
-      by_stop c one is = record {
-        taken = one.taken;
-        parts = one.parts;
-        again = λ other same. ap (λ x. and_then x (λ a y. scan (g a) y)) (one.again other same) ∙ ap (λ x. ended x other) (sym is);
-      }
+      by_both b q mid one two = both_alike f g b p ts q mid e rest one.taken one.parts two (λ other same. one.again (two.taken ++ other) (same_first two.taken rest other mid two.parts same))
 
       by_parts : ((b : B) × (z : Spot) × (scan f (spot p ts) ≡ said b z) × (scan (g b) z ≡ ended e rest)) ⊎ ((c : Cause) × (scan f (spot p ts) ≡ stopped c rest) × (e ≡ stops c)) → Alike sight (sequence f g) p ts e rest
       by_parts (inl (b, z, one, two)) = by_both b z.0 z.1 (hf p ts (says b z.0) z.1 one) (hg b z.0 z.1 e rest two)
-      by_parts (inr (c, one, is)) = by_stop c (hf p ts (stops c) rest one) is
+      by_parts (inr (c, one, is)) = stop_first f g p ts e rest c (hf p ts (stops c) rest one) is
 
-  begins_alike : {A : Type 0} (f : Grammar A) → ClearBy (IsSeen sight) f → (p : ℕ) (k : Kind) (r s : List Kind) → (sight.fork k ≡ true → sight.turn r ≡ sight.turn s) → begins_at f (spot p (k ∷ r)) ≡ begins_at f (spot p (k ∷ s))
+  pub begins_alike : {A : Type 0} (f : Grammar A) → ClearBy (IsSeen sight) f → (p : ℕ) (k : Kind) (r s : List Kind) → (sight.fork k ≡ true → sight.turn r ≡ sight.turn s) → begins_at f (spot p (k ∷ r)) ≡ begins_at f (spot p (k ∷ s))
   begins_alike (gives w) clear p k r s h = refl
   begins_alike (takes c) clear p k r s h = refl
   begins_alike (sequence f g) clear p k r s h = begins_alike f clear.0 p k r s h
@@ -92,17 +97,21 @@ module _ (sight : Sight) where
   begins_alike (unless t f) clear p k r s h = ap (λ b. not b && begins_at f (spot p (k ∷ r))) (clear.0.1 k r s h) ∙ ap (λ b. not (t (k ∷ s)) && b) (begins_alike f clear.1 p k r s h)
   begins_alike (here f) clear p k r s h = begins_alike (f p) (clear p) p k r s h
 
-  begins_first : {A : Type 0} (f : Grammar A) → ClearBy (IsSeen sight) f → (p : ℕ) (r s : List Kind) → Like sight r s → begins_at f (spot p s) ≡ begins_at f (spot p r)
-  begins_first f clear p r s same =
-      ap (λ x. begins_at f (spot p x)) same.second ∙ begins_alike f clear p same.token same.second_rest same.first_rest (λ e. sym (same.next e)) ∙ sym (ap (λ x. begins_at f (spot p x)) same.first)
+  -- it begins with the one where it begins with the other
+  abbrev pub BeginsAlike : {A : Type 0} → Grammar A → Type 0
+  BeginsAlike f = (p : ℕ) (k : Kind) (r s : List Kind) → (sight.fork k ≡ true → sight.turn r ≡ sight.turn s) → begins_at f (spot p (k ∷ r)) ≡ begins_at f (spot p (k ∷ s))
 
-  test_first : (t : List Kind → Bool) → IsSeen sight t → (r s : List Kind) → Like sight r s → t s ≡ t r
+  pub begins_first : {A : Type 0} (f : Grammar A) → BeginsAlike f → (p : ℕ) (r s : List Kind) → Like sight r s → begins_at f (spot p s) ≡ begins_at f (spot p r)
+  begins_first f begins p r s same =
+      ap (λ x. begins_at f (spot p x)) same.second ∙ begins p same.token same.second_rest same.first_rest (λ e. sym (same.next e)) ∙ sym (ap (λ x. begins_at f (spot p x)) same.first)
+
+  pub test_first : (t : List Kind → Bool) → IsSeen sight t → (r s : List Kind) → Like sight r s → t s ≡ t r
   test_first t first r s same = ap t same.second ∙ first.1 same.token same.second_rest same.first_rest (λ e. sym (same.next e)) ∙ sym (ap t same.first)
 
-  if_is : {A : Type 0} (b c : Bool) (s t : A) → b ≡ c → (if b then s else t) ≡ (if c then s else t)
+  pub if_is : {A : Type 0} (b c : Bool) (s t : A) → b ≡ c → (if b then s else t) ≡ (if c then s else t)
   if_is b c s t e = ap (λ x. if x then s else t) e
 
-  choice_alike : {A : Type 0} (f g : Grammar A) → ClearBy (IsSeen sight) f → IsAlike f → IsAlike g → IsAlike (choice f g)
+  pub choice_alike : {A : Type 0} (f g : Grammar A) → BeginsAlike f → IsAlike f → IsAlike g → IsAlike (choice f g)
   choice_alike {A} f g clear hf hg p ts e rest h = by_first (begins_at f (spot p ts)) refl h
     where
       by_one : (b : Bool) → begins_at f (spot p ts) ≡ b → (c : Grammar A) → ((x : Spot) → (if b then scan f x else scan g x) ≡ scan c x) → Alike sight c p ts e rest → Alike sight (choice f g) p ts e rest
@@ -118,12 +127,12 @@ module _ (sight : Sight) where
       by_first true is one = by_one true is f (λ x. refl) (hf p ts e rest one)
       by_first false is one = by_one false is g (λ x. refl) (hg p ts e rest one)
 
-  stopped_is : {A : Type 0} (c : Cause) (r : List Kind) (e : End A) (rest : List Kind) → stopped c r ≡ ended e rest → (e ≡ stops c) × (r ≡ rest)
+  pub stopped_is : {A : Type 0} (c : Cause) (r : List Kind) (e : End A) (rest : List Kind) → stopped c r ≡ ended e rest → (e ≡ stops c) × (r ≡ rest)
   stopped_is {A} c r (stops d) rest h = let both = stops_same A c d r rest h in (sym (ap stops both.0), both.1)
   stopped_is c r (says v q) rest h = absurd cc
 
   -- a test, and what stands where it fails
-  test_alike : {A : Type 0} (f h : Grammar A) (t : List Kind → Bool) (c : Cause) → IsSeen sight t → IsAlike f → ((x : Spot) → scan h x ≡ (if t x.1 then stopped c x.1 else scan f x)) → IsAlike h
+  pub test_alike : {A : Type 0} (f h : Grammar A) (t : List Kind → Bool) (c : Cause) → IsSeen sight t → IsAlike f → ((x : Spot) → scan h x ≡ (if t x.1 then stopped c x.1 else scan f x)) → IsAlike h
   test_alike {A} f h t c first hf is p ts e rest at = by_test (t ts) refl (sym (is (spot p ts)) ∙ at)
     where
       by_free : t ts ≡ false → Alike sight f p ts e rest → Alike sight h p ts e rest
@@ -145,7 +154,7 @@ module _ (sight : Sight) where
 
   -- Rounds, whatever number of them is enough.
 
-  stepping_ended : {S A : Type 0} (go : S → Spot → Scan A) (a : Step S A) (z : Spot) (e : End A) (rest : List Kind) → stepping go a z ≡ ended e rest
+  pub stepping_ended : {S A : Type 0} (go : S → Spot → Scan A) (a : Step S A) (z : Spot) (e : End A) (rest : List Kind) → stepping go a z ≡ ended e rest
       → ((v : A) × (a ≡ done v) × (said v z ≡ ended e rest)) ⊎ ((t : S) × (a ≡ onward t) × (go t z ≡ ended e rest))
   stepping_ended go (onward t) z e rest h = inr (t, refl, h)
   stepping_ended go (done v) z e rest h = inl (v, refl, h)
@@ -159,7 +168,7 @@ module _ (sight : Sight) where
   said_end : {A : Type 0} (v w : A) (z : Spot) (q : ℕ) (rest : List Kind) → v ≡ w → z ≡ spot q rest → says w q ≡ says v z.0
   said_end v w z q rest is same = sym (ap (λ x. says x z.0) is ∙ ap (λ (x : Spot). says w x.0) same)
 
-  said_is : {A : Type 0} (v : A) (z : Spot) (e : End A) (rest : List Kind) → said v z ≡ ended e rest → (e ≡ says v z.0) × (z.1 ≡ rest)
+  pub said_is : {A : Type 0} (v : A) (z : Spot) (e : End A) (rest : List Kind) → said v z ≡ ended e rest → (e ≡ says v z.0) × (z.1 ≡ rest)
   said_is v z (says w q) rest h = (said_end v w z q rest (said_value v w z (spot q rest) h) (said_place v w z q rest h), ap (λ (x : Spot). x.1) (said_place v w z q rest h))
   said_is v z (stops c) rest h = absurd cc
 
@@ -168,7 +177,7 @@ module _ (sight : Sight) where
   some_rounds (suc m) round s x e rest h = h _
 
   -- the last round, or one that stops
-  last_alike : {S A : Type 0} (f : S → Grammar (Step S A)) (s : S) (p : ℕ) (ts : List Kind) (a : End (Step S A)) (e : End A) (rest : List Kind) → Alike sight (f s) p ts a rest
+  pub last_alike : {S A : Type 0} (f : S → Grammar (Step S A)) (s : S) (p : ℕ) (ts : List Kind) (a : End (Step S A)) (e : End A) (rest : List Kind) → Alike sight (f s) p ts a rest
       → ((go : S → Spot → Scan A) (other : List Kind) → and_then (ended a other) (stepping go) ≡ ended e other) → RoundsAlike sight f s p ts e rest
   last_alike f s p ts a e rest one h = record {
     taken = one.taken;
@@ -182,66 +191,73 @@ module _ (sight : Sight) where
   more_size : (xs : List Kind) (a b : List Kind) → length (xs ++ (a ++ b)) ≡ length xs + length (a ++ b)
   more_size xs a b = length-append xs (a ++ b)
 
-  more_alike : {S A : Type 0} (f : S → Grammar (Step S A)) (s t : S) (p : ℕ) (ts : List Kind) (q : ℕ) (mid : List Kind) (e : End A) (rest : List Kind) → Alike sight (f s) p ts (says (onward t) q) mid
-      → length mid < length ts → RoundsAlike sight f t q mid e rest → RoundsAlike sight f s p ts e rest
-  more_alike {S} {A} f s t p ts q mid e rest one less two = record {
-    taken = one.taken ++ two.taken;
-    parts = one.parts ∙ ap (λ x. one.taken ++ x) two.parts ∙ sym (append_assoc one.taken two.taken rest);
-    again = λ m other same fits. ap (λ x. scan_rounds m (λ t z. scan (f t) z) s (spot p x)) (append_assoc one.taken two.taken other) ∙ by_fuel m other same (subst (λ x. length x ≤ m) (append_assoc one.taken two.taken other) fits);
+  -- a round that says again that it goes on before what is alike, and then others
+  pub more_alike : {S A : Type 0} (f : S → Grammar (Step S A)) (s t : S) (p : ℕ) (ts : List Kind) (q : ℕ) (mid : List Kind) (e : End A) (rest front : List Kind) → ts ≡ front ++ mid
+      → length mid < length ts → (two : RoundsAlike sight f t q mid e rest)
+      → ((other : List Kind) → Like sight rest other → scan (f s) (spot p (front ++ (two.taken ++ other))) ≡ said (onward t) (spot q (two.taken ++ other))) → RoundsAlike sight f s p ts e rest
+  more_alike {S} {A} f s t p ts q mid e rest front parts less two again = record {
+    taken = front ++ two.taken;
+    parts = parts ∙ ap (λ x. front ++ x) two.parts ∙ sym (append_assoc front two.taken rest);
+    again = λ m other same fits. ap (λ x. scan_rounds m (λ t z. scan (f t) z) s (spot p x)) (append_assoc front two.taken other) ∙ by_fuel m other same (subst (λ x. length x ≤ m) (append_assoc front two.taken other) fits);
   }
     where
-      by_fuel : (m : ℕ) (other : List Kind) → Like sight rest other → length (one.taken ++ (two.taken ++ other)) ≤ m → scan_rounds m (λ t z. scan (f t) z) s (spot p (one.taken ++ (two.taken ++ other))) ≡ ended e other
+      by_fuel : (m : ℕ) (other : List Kind) → Like sight rest other → length (front ++ (two.taken ++ other)) ≤ m → scan_rounds m (λ t z. scan (f t) z) s (spot p (front ++ (two.taken ++ other))) ≡ ended e other
       by_fuel zero other same fits =
-          let size : length (one.taken ++ (two.taken ++ other)) ≡ length one.taken + length (two.taken ++ other) = length-append one.taken (two.taken ++ other) in
+          let size : length (front ++ (two.taken ++ other)) ≡ length front + length (two.taken ++ other) = length-append front (two.taken ++ other) in
           let inner : length (two.taken ++ other) ≡ length two.taken + length other = length-append two.taken other in
           let some : 0 < length other = first_size rest other same in
           absurd (omega arith)
       by_fuel (suc m) other same fits =
-          let size : length (one.taken ++ (two.taken ++ other)) ≡ length one.taken + length (two.taken ++ other) = length-append one.taken (two.taken ++ other) in
-          let before : length ts ≡ length one.taken + length mid = ap length one.parts ∙ length-append one.taken mid in
+          let size : length (front ++ (two.taken ++ other)) ≡ length front + length (two.taken ++ other) = length-append front (two.taken ++ other) in
+          let before : length ts ≡ length front + length mid = ap length parts ∙ length-append front mid in
           let fits_less : length (two.taken ++ other) ≤ m = omega arith in
-          ap (λ x. and_then x (stepping (scan_rounds m (λ t z. scan (f t) z)))) (one.again (two.taken ++ other) (same_first two.taken rest other mid two.parts same))
+          ap (λ x. and_then x (stepping (scan_rounds m (λ t z. scan (f t) z)))) (again other same)
           ∙ two.again m other same fits_less
 
-  done_alike : {S A : Type 0} (f : S → Grammar (Step S A)) → ((s : S) → IsAlike (f s)) → (s : S) (p : ℕ) (ts : List Kind) (a : Step S A) (z : Spot) (v : A) (e : End A) (rest : List Kind)
+  one_more : {S A : Type 0} (f : S → Grammar (Step S A)) (s t : S) (p : ℕ) (ts : List Kind) (q : ℕ) (mid : List Kind) (e : End A) (rest : List Kind) → Alike sight (f s) p ts (says (onward t) q) mid
+      → length mid < length ts → RoundsAlike sight f t q mid e rest → RoundsAlike sight f s p ts e rest
+  one_more f s t p ts q mid e rest one less two =
+      more_alike f s t p ts q mid e rest one.taken one.parts less two (λ other same. one.again (two.taken ++ other) (same_first two.taken rest other mid two.parts same))
+
+  pub done_alike : {S A : Type 0} (f : S → Grammar (Step S A)) → ((s : S) → IsAlike (f s)) → (s : S) (p : ℕ) (ts : List Kind) (a : Step S A) (z : Spot) (v : A) (e : End A) (rest : List Kind)
       → scan (f s) (spot p ts) ≡ said a z → a ≡ done v → (e ≡ says v z.0) × (z.1 ≡ rest) → RoundsAlike sight f s p ts e rest
   done_alike f h s p ts a z v e rest one is (end, there) =
       last_alike f s p ts (says (done v) z.0) e rest (h s p ts (says (done v) z.0) rest (one ∙ ap (λ x. said x z) is ∙ ap (λ x. said (done v) (spot z.0 x)) there)) (λ go other. ap (λ x. ended x other) (sym end))
 
-  onward_shorter : {S A : Type 0} (f : S → Grammar (Step S A)) → ((s : S) → ClearBy (IsSeen sight) (f s)) → ((t u : S) → (ts : List Kind) → ¬ (MayEmpty (f t) (onward u) ts)) → (s t : S) (p : ℕ) (ts : List Kind) (a : Step S A) (z : Spot)
+  pub onward_shorter : (T : (List Kind → Bool) → Type 0) {S A : Type 0} (f : S → Grammar (Step S A)) → ((s : S) → ClearBy T (f s)) → ((t u : S) → (ts : List Kind) → ¬ (MayEmpty (f t) (onward u) ts)) → (s t : S) (p : ℕ) (ts : List Kind) (a : Step S A) (z : Spot)
       → scan (f s) (spot p ts) ≡ said a z → a ≡ onward t → length z.1 < length ts
-  onward_shorter f clear never s t p ts a z one is =
-      fewer (IsSeen sight) (f s) (clear s) (onward t) (spot p ts) z (said_fine (f s) (spot p ts) (onward t) z (one ∙ ap (λ x. said x z) is)) (never s t)
+  onward_shorter T f clear never s t p ts a z one is =
+      fewer T (f s) (clear s) (onward t) (spot p ts) z (said_fine (f s) (spot p ts) (onward t) z (one ∙ ap (λ x. said x z) is)) (never s t)
 
-  rounds_alike : {S A : Type 0} (f : S → Grammar (Step S A)) → ((s : S) → ClearBy (IsSeen sight) (f s)) → ((t u : S) → (ts : List Kind) → ¬ (MayEmpty (f t) (onward u) ts)) → ((s : S) → IsAlike (f s))
+  pub rounds_alike : (T : (List Kind → Bool) → Type 0) {S A : Type 0} (f : S → Grammar (Step S A)) → ((s : S) → ClearBy T (f s)) → ((t u : S) → (ts : List Kind) → ¬ (MayEmpty (f t) (onward u) ts)) → ((s : S) → IsAlike (f s))
       → (n : ℕ) (s : S) (p : ℕ) (ts : List Kind) (e : End A) (rest : List Kind) → length ts ≤ n → scan_rounds n (λ t z. scan (f t) z) s (spot p ts) ≡ ended e rest → RoundsAlike sight f s p ts e rest
-  rounds_alike {S} {A} f clear never h zero s p ts e rest fits at = by_step (then_ended (scan (f s) (spot p ts)) _ e rest at)
+  rounds_alike T {S} {A} f clear never h zero s p ts e rest fits at = by_step (then_ended (scan (f s) (spot p ts)) _ e rest at)
     where
       by_end : (a : Step S A) (z : Spot) → scan (f s) (spot p ts) ≡ said a z → ((v : A) × (a ≡ done v) × (said v z ≡ ended e rest)) ⊎ ((t : S) × (a ≡ onward t) × (stopped Unexpected z.1 ≡ ended e rest)) → RoundsAlike sight f s p ts e rest
       by_end a z one (inl (v, is, same)) = done_alike f h s p ts a z v e rest one is (said_is v z e rest same)
       by_end a z one (inr (t, is, same)) =
-          let less : length z.1 < length ts = onward_shorter f clear never s t p ts a z one is in
+          let less : length z.1 < length ts = onward_shorter T f clear never s t p ts a z one is in
           absurd (omega arith)
 
       by_step : ((a : Step S A) × (z : Spot) × (scan (f s) (spot p ts) ≡ said a z) × (stepping (λ t y. stopped Unexpected y.1) a z ≡ ended e rest)) ⊎ ((c : Cause) × (scan (f s) (spot p ts) ≡ stopped c rest) × (e ≡ stops c)) → RoundsAlike sight f s p ts e rest
       by_step (inl (a, z, one, two)) = by_end a z one (stepping_ended _ a z e rest two)
       by_step (inr (c, one, is)) = last_alike f s p ts (stops c) e rest (h s p ts (stops c) rest one) (λ go other. ap (λ x. ended x other) (sym is))
-  rounds_alike {S} {A} f clear never h (suc n) s p ts e rest fits at = by_step (then_ended (scan (f s) (spot p ts)) _ e rest at) (rounds_alike f clear never h n)
+  rounds_alike T {S} {A} f clear never h (suc n) s p ts e rest fits at = by_step (then_ended (scan (f s) (spot p ts)) _ e rest at) (rounds_alike T f clear never h n)
     where
       by_end : (a : Step S A) (z : Spot) → scan (f s) (spot p ts) ≡ said a z → ((v : A) × (a ≡ done v) × (said v z ≡ ended e rest)) ⊎ ((t : S) × (a ≡ onward t) × (scan_rounds n (λ t z. scan (f t) z) t z ≡ ended e rest))
           → ((s : S) (p : ℕ) (ts : List Kind) (e : End A) (rest : List Kind) → length ts ≤ n → scan_rounds n (λ t z. scan (f t) z) s (spot p ts) ≡ ended e rest → RoundsAlike sight f s p ts e rest) → RoundsAlike sight f s p ts e rest
       by_end a z one (inl (v, is, same)) later = done_alike f h s p ts a z v e rest one is (said_is v z e rest same)
       by_end a z one (inr (t, is, same)) later =
-          let less : length z.1 < length ts = onward_shorter f clear never s t p ts a z one is in
+          let less : length z.1 < length ts = onward_shorter T f clear never s t p ts a z one is in
           let fits_less : length z.1 ≤ n = omega arith in
-          more_alike f s t p ts z.0 z.1 e rest (h s p ts (says (onward t) z.0) z.1 (one ∙ ap (λ x. said x z) is)) less (later t z.0 z.1 e rest fits_less same)
+          one_more f s t p ts z.0 z.1 e rest (h s p ts (says (onward t) z.0) z.1 (one ∙ ap (λ x. said x z) is)) less (later t z.0 z.1 e rest fits_less same)
 
       by_step : ((a : Step S A) × (z : Spot) × (scan (f s) (spot p ts) ≡ said a z) × (stepping (scan_rounds n (λ t z. scan (f t) z)) a z ≡ ended e rest)) ⊎ ((c : Cause) × (scan (f s) (spot p ts) ≡ stopped c rest) × (e ≡ stops c))
           → ((s : S) (p : ℕ) (ts : List Kind) (e : End A) (rest : List Kind) → length ts ≤ n → scan_rounds n (λ t z. scan (f t) z) s (spot p ts) ≡ ended e rest → RoundsAlike sight f s p ts e rest) → RoundsAlike sight f s p ts e rest
       by_step (inl (a, z, one, two)) later = by_end a z one (stepping_ended _ a z e rest two) later
       by_step (inr (c, one, is)) later = last_alike f s p ts (stops c) e rest (h s p ts (stops c) rest one) (λ go other. ap (λ x. ended x other) (sym is))
 
-  rounds_one : {S A : Type 0} (f : S → Grammar (Step S A)) (s : S) (p : ℕ) (ts : List Kind) (e : End A) (rest : List Kind) → RoundsAlike sight f s p ts e rest → Alike sight (rounds f s) p ts e rest
+  pub rounds_one : {S A : Type 0} (f : S → Grammar (Step S A)) (s : S) (p : ℕ) (ts : List Kind) (e : End A) (rest : List Kind) → RoundsAlike sight f s p ts e rest → Alike sight (rounds f s) p ts e rest
   rounds_one f s p ts e rest m = record { taken = m.taken; parts = m.parts; again = λ other same. m.again (length (m.taken ++ other)) other same (omega arith) }
 
   stop_again : {A : Type 0} (c : Kind → Option A) (p : ℕ) (k : Kind) (ts : List Kind) (e : End A) → c k ≡ None → e ≡ stops Unexpected → (other : List Kind) → Like sight (k ∷ ts) other → scan (takes c) (spot p other) ≡ ended e other
@@ -274,14 +290,14 @@ module _ (sight : Sight) where
   never_ended (stops c) rest h = cc
   never_ended (says v q) rest h = cc
 
-  checks_alike : {A : Type 0} (f : Grammar A) (o : Option (Cause × ℕ)) → IsAlike f → IsAlike (checks o f)
+  pub checks_alike : {A : Type 0} (f : Grammar A) (o : Option (Cause × ℕ)) → IsAlike f → IsAlike (checks o f)
   checks_alike f None h p ts e rest at = by_same (h p ts e rest at)
     where
       by_same : Alike sight f p ts e rest → Alike sight (checks None f) p ts e rest
       by_same m = record { taken = m.taken; parts = m.parts; again = m.again }
   checks_alike f (Some fault) h p ts e rest at = absurd (never_ended e rest at)
 
-  here_alike : {A : Type 0} (f : ℕ → Grammar A) (p : ℕ) (ts : List Kind) (e : End A) (rest : List Kind) → Alike sight (f p) p ts e rest → Alike sight (here f) p ts e rest
+  pub here_alike : {A : Type 0} (f : ℕ → Grammar A) (p : ℕ) (ts : List Kind) (e : End A) (rest : List Kind) → Alike sight (f p) p ts e rest → Alike sight (here f) p ts e rest
   here_alike f p ts e rest m = record { taken = m.taken; parts = m.parts; again = m.again }
 
   pub alike : {A : Type 0} (f : Grammar A) → ClearBy (IsSeen sight) f → IsAlike f
@@ -289,8 +305,8 @@ module _ (sight : Sight) where
   alike (takes c) clear p [] e rest at = no_tokens (takes c) p e rest at
   alike (takes c) clear p (k ∷ ts) e rest at = takes_ended c (c k) p k ts e rest refl at
   alike (sequence f g) clear p ts e rest at = sequence_alike f g (alike f clear.0) (λ b. alike (g b) (clear.1 b)) p ts e rest at
-  alike (choice f g) clear p ts e rest at = choice_alike f g clear.1 (alike f clear.1) (alike g clear.2) p ts e rest at
-  alike (rounds f s) clear p ts e rest at = rounds_one f s p ts e rest (rounds_alike f clear.0 clear.1 (λ t. alike (f t) (clear.0 t)) (length ts) s p ts e rest (omega arith) at)
+  alike (choice f g) clear p ts e rest at = choice_alike f g (begins_alike f clear.1) (alike f clear.1) (alike g clear.2) p ts e rest at
+  alike (rounds f s) clear p ts e rest at = rounds_one f s p ts e rest (rounds_alike (IsSeen sight) f clear.0 clear.1 (λ t. alike (f t) (clear.0 t)) (length ts) s p ts e rest (omega arith) at)
   alike (checks o f) clear p ts e rest at = checks_alike f o (alike f clear) p ts e rest at
   alike (bars t c f) clear p ts e rest at = test_alike f (bars t c f) t c clear.0 (alike f clear.1) (λ x. refl) p ts e rest at
   alike (unless t f) clear p ts e rest at = test_alike f (unless t f) t Unexpected clear.0 (alike f clear.1) (λ x. refl) p ts e rest at
@@ -306,9 +322,10 @@ pub not_both : {A : Type 0} (s : Scan A) (c : Cause) (r : List Kind) (v : A) (y 
 not_both s c r v y e (inl h) = cc
 not_both s c r v y e (inr h) = cc
 
-pub no_more_text : (sight : Sight) {A : Type 0} (f : Grammar A) → ClearBy (IsSeen sight) f → (p : ℕ) (ts : List Kind) (c : Cause) (token : Kind) (rest : List Kind) → scan f (spot p ts) ≡ stopped c (token ∷ rest)
-    → NoMore sight f p ts token rest
-no_more_text sight {A} f clear p ts c token rest at = by_alike (alike sight f clear p ts (stops c) (token ∷ rest) at)
+-- where a reading depends on what is alike, whatever tests are asked
+pub no_more_by : {T : (List Kind → Bool) → Type 0} (fails : (t : List Kind → Bool) → T t → t [] ≡ false) (sight : Sight) {A : Type 0} (f : Grammar A) → ClearBy T f → IsAlike sight f
+    → (p : ℕ) (ts : List Kind) (c : Cause) (token : Kind) (rest : List Kind) → scan f (spot p ts) ≡ stopped c (token ∷ rest) → NoMore sight f p ts token rest
+no_more_by {T} fails sight {A} f clear again p ts c token rest at = by_alike (again p ts (stops c) (token ∷ rest) at)
   where
     by_alike : Alike sight f p ts (stops c) (token ∷ rest) → NoMore sight f p ts token rest
     by_alike m = record {
@@ -316,5 +333,9 @@ no_more_text sight {A} f clear p ts c token rest at = by_alike (alike sight f cl
       parts = m.parts;
       no_more = λ more next v q fine.
           not_both (scan f (spot p (m.taken ++ token ∷ more))) c (token ∷ more) v (spot q []) (m.again (token ∷ more) (like_of sight token rest more next))
-          (reads_fine (IsSeen sight) f clear v (spot p (m.taken ++ token ∷ more)) (spot q []) fine (goes_no_end_by (λ t seen. seen.0) f clear v));
+          (reads_fine T f clear v (spot p (m.taken ++ token ∷ more)) (spot q []) fine (goes_no_end_by fails f clear v));
     }
+
+pub no_more_text : (sight : Sight) {A : Type 0} (f : Grammar A) → ClearBy (IsSeen sight) f → (p : ℕ) (ts : List Kind) (c : Cause) (token : Kind) (rest : List Kind) → scan f (spot p ts) ≡ stopped c (token ∷ rest)
+    → NoMore sight f p ts token rest
+no_more_text sight f clear p ts c token rest at = no_more_by (λ t seen. seen.0) sight f clear (alike sight f clear) p ts c token rest at

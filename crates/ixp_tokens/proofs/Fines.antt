@@ -1,11 +1,9 @@
 -- Fine texts: with what they begin, and that they are so whatever is behind them, if a test at their end doesn't refuse it.
-use Rattle.std.proofs.Common.{◌≡◌, ℕ, zero, suc, pred, ◌⊎◌, inl, inr, Bool, true, false, List, [], ◌∷◌, ◌++◌, Option, Some, None, refl, sym, ap, ◌∙◌, subst, append_assoc}
+use Rattle.std.proofs.Common.{◌≡◌, ℕ, zero, suc, pred, ◌+◌, ◌⊎◌, inl, inr, Bool, true, false, List, [], ◌∷◌, ◌++◌, length, take, length-append, arith, Option, Some, refl, sym, ap, ◌∙◌, subst, append_assoc}
 use Rattle.std.specs.Option.{is_some}
 use Rattle.ixp_tokens.specs.declared.token.Kind.{Kind}
-use Rattle.ixp_tokens.specs.declared.fault.Cause.{Cause}
 use Rattle.ixp_tokens.specs.Grammars.{Step, onward, done, Grammar, gives, takes, sequence, choice, rounds, checks, bars, unless, here}
 use Rattle.ixp_tokens.specs.Syntax.{Spot, spot, FineRounds, Fine}
-use Rattle.ixp_tokens.proofs.Parted.{Leads}
 use Rattle.ixp_tokens.proofs.Clear.{MayEmpty, MayBegin, MayOpen, GoesOn, Spoils, IsOfFirst, ClearBy, Clear}
 
 -- one token is first in both
@@ -265,3 +263,16 @@ moves (bars t c f) (first, cf) v p ts y (free, fine) =
 moves (unless t f) (first, cf) v p ts y (free, fine) =
     test_moves f (unless t f) t v p ts y.0 y.1 first (λ other x e. (x, e)) (λ other x. inl x) (λ other x. inr x) (λ xs z e x. (e, x)) free (moves f cf v p ts y fine)
 moves (here f) clear v p ts y fine = moves_map (f p) (here f) v v p ts y.0 y.1 (λ other e. (p, e)) (λ other x. (p, x)) (λ xs z x. x) (moves (f p) (clear p) v p ts y fine)
+
+take_front : (xs ys : List Kind) → take (length xs) (xs ++ ys) ≡ xs
+take_front [] ys = refl
+take_front (x ∷ xs) ys = ap (λ r. x ∷ r) (take_front xs ys)
+
+-- what is before the same tokens is the same
+pub one_front : (xs ys rest : List Kind) → xs ++ rest ≡ ys ++ rest → xs ≡ ys
+one_front xs ys rest e =
+    let one : length (xs ++ rest) ≡ length xs + length rest = length-append xs rest in
+    let two : length (ys ++ rest) ≡ length ys + length rest = length-append ys rest in
+    let both : length (xs ++ rest) ≡ length (ys ++ rest) = ap length e in
+    let same : length xs ≡ length ys = omega arith in
+    sym (take_front xs rest) ∙ ap (λ n. take n (xs ++ rest)) same ∙ ap (take (length ys)) e ∙ take_front ys rest

@@ -1,6 +1,7 @@
 pub mod Alike
 pub mod Clear
 pub mod ClearLooks
+pub mod Exchanges
 pub mod Fines
 pub mod Fronts
 pub mod Known
@@ -13,7 +14,9 @@ pub mod AddressLaws
 pub mod MarkLaws
 pub mod CutLaws
 pub mod TokenLaws
+pub mod TokenFacts
 pub mod PlainLaws
+pub mod Quiet
 pub mod Standing
 pub mod AddressTexts
 pub mod Scans

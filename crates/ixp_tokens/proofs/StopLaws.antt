@@ -1,39 +1,26 @@
 -- Where syntax stops a reading, no fine text goes on; and up to there one does.
-use Rattle.std.proofs.Common.{◌≡◌, ℕ, suc, true, ◌+◌, ◌⊎◌, inl, inr, List, [], ◌∷◌, ◌++◌, length, take, Result, Ok, Err, refl, sym, ap, ◌∙◌, arith, subst, length-append}
+use Rattle.std.proofs.Common.{◌≡◌, ℕ, true, ◌⊎◌, inl, inr, Bool, false, List, [], ◌∷◌, ◌++◌, length, Err, refl, sym, ap, ◌∙◌, subst}
 use Rattle.ixp_tokens.specs.declared.token.Kind.{Kind}
 use Rattle.ixp_tokens.specs.declared.fault.Cause.{Cause}
 use Rattle.ixp_tokens.specs.declared.fault.Cause.TheVariants.{Deep}
 use Rattle.ixp_tokens.specs.Grammars.{Grammar}
 use Rattle.ixp_tokens.specs.Reading.{read}
-use Rattle.ixp_tokens.specs.Syntax.{Spot, spot, Fine, Scan, said, stopped, refused, scan, IsFineText, StopsAt}
-use Rattle.ixp_tokens.proofs.Clear.{Sight, IsSeen, ClearBy, Clear}
+use Rattle.ixp_tokens.specs.Syntax.{spot, Fine, Scan, stopped, refused, scan, IsFineText, StopsAt}
+use Rattle.ixp_tokens.proofs.Clear.{Sight, ClearBy, Clear}
 use Rattle.ixp_tokens.proofs.Seen.{first_alone, clear_first}
-use Rattle.ixp_tokens.proofs.Fines.{goes_no_end_by}
+use Rattle.ixp_tokens.proofs.Fines.{one_front, goes_no_end_by}
 use Rattle.ixp_tokens.proofs.Stops.{reads_fine}
-use Rattle.ixp_tokens.proofs.Alike.{NoMore, no_more_text, not_both}
+use Rattle.ixp_tokens.proofs.Alike.{IsAlike, alike, NoMore, no_more_by, not_both}
 use Rattle.ixp_tokens.proofs.Scans.{Agrees, agrees}
 use Rattle.ixp_tokens.proofs.Viable.{HasText, Supplied, Goes, goes, Viable, viable}
 
-take_front : (xs ys : List Kind) → take (length xs) (xs ++ ys) ≡ xs
-take_front [] ys = refl
-take_front (x ∷ xs) ys = ap (λ r. x ∷ r) (take_front xs ys)
-
--- what is before the same tokens is the same
-one_front : (xs ys rest : List Kind) → xs ++ rest ≡ ys ++ rest → xs ≡ ys
-one_front xs ys rest e =
-    let one : length (xs ++ rest) ≡ length xs + length rest = length-append xs rest in
-    let two : length (ys ++ rest) ≡ length ys + length rest = length-append ys rest in
-    let both : length (xs ++ rest) ≡ length (ys ++ rest) = ap length e in
-    let same : length xs ≡ length ys = omega arith in
-    sym (take_front xs rest) ∙ ap (λ n. take n (xs ++ rest)) same ∙ ap (take (length ys)) e ∙ take_front ys rest
-
 -- a text that is stopped is no fine text
-pub not_text : (sight : Sight) {A : Type 0} (f : Grammar A) → ClearBy (IsSeen sight) f → (p : ℕ) (ts : List Kind) (c : Cause) (rest : List Kind) → scan f (spot p ts) ≡ stopped c rest → ¬ (IsFineText f p ts)
-not_text sight f clear p ts c rest e (v, q, fine) = not_both (scan f (spot p ts)) c rest v (spot q []) e (reads_fine (IsSeen sight) f clear v (spot p ts) (spot q []) fine (goes_no_end_by (λ t seen. seen.0) f clear v))
+pub not_text : {T : (List Kind → Bool) → Type 0} (fails : (t : List Kind → Bool) → T t → t [] ≡ false) {A : Type 0} (f : Grammar A) → ClearBy T f → (p : ℕ) (ts : List Kind) (c : Cause) (rest : List Kind) → scan f (spot p ts) ≡ stopped c rest → ¬ (IsFineText f p ts)
+not_text {T} fails f clear p ts c rest e (v, q, fine) = not_both (scan f (spot p ts)) c rest v (spot q []) e (reads_fine T f clear v (spot p ts) (spot q []) fine (goes_no_end_by fails f clear v))
 
-pub no_more_behind : (sight : Sight) {A : Type 0} (f : Grammar A) → ClearBy (IsSeen sight) f → (p : ℕ) (ts : List Kind) (c : Cause) (rest front : List Kind) → scan f (spot p ts) ≡ stopped c rest → ts ≡ front ++ rest
+pub no_more_behind : {T : (List Kind → Bool) → Type 0} (fails : (t : List Kind → Bool) → T t → t [] ≡ false) (sight : Sight) {A : Type 0} (f : Grammar A) → ClearBy T f → IsAlike sight f → (p : ℕ) (ts : List Kind) (c : Cause) (rest front : List Kind) → scan f (spot p ts) ≡ stopped c rest → ts ≡ front ++ rest
     → (token : Kind) (others more : List Kind) → rest ≡ token ∷ others → (sight.fork token ≡ true → sight.turn others ≡ sight.turn more) → ¬ (IsFineText f p (front ++ token ∷ more))
-no_more_behind sight {A} f clear p ts c rest front e parts token others more there next = by_more (no_more_text sight f clear p ts c token others (e ∙ ap (stopped c) there))
+no_more_behind fails sight {A} f clear again p ts c rest front e parts token others more there next = by_more (no_more_by fails sight f clear again p ts c token others (e ∙ ap (stopped c) there))
   where
     by_more : NoMore sight f p ts token others → ¬ (IsFineText f p (front ++ token ∷ more))
     by_more m (v, q, fine) =
@@ -47,14 +34,14 @@ stop_of f h clear p ts c rest e m = record {
   parts = m.parts;
   left_is = refl;
   begins = (m.more, (m.value, m.last, m.fine));
-  no_more = λ token others more there. no_more_behind first_alone f (clear_first f clear) p ts c rest m.taken e m.parts token others more there (λ e. absurd cc);
-  not_in = not_text first_alone f (clear_first f clear) p ts c rest e;
+  no_more = λ token others more there. no_more_behind (λ t first. first.0) first_alone f clear (alike first_alone f (clear_first f clear)) p ts c rest m.taken e m.parts token others more there (λ e. absurd cc);
+  not_in = not_text (λ t first. first.0) f clear p ts c rest e;
 }
 
 -- Syntax stops a reading at the first place with which no fine text goes on; up to there one does, with more levels perhaps.
 pub stops : {A : Type 0} {f h : Grammar A} → Supplied A f h → Clear f → Clear h → HasText h → (p : ℕ) (ts : List Kind) (c : Cause) (rest : List Kind) → scan f (spot p ts) ≡ stopped c rest
     → StopsAt (IsFineText h p) (IsFineText f p) ts (length rest)
-stops {A} {f} {h} supplied cf ch text p ts c rest e = stop_of f h cf p ts c rest e (viable supplied ch text p ts c rest e)
+stops {A} {f} {h} supplied cf ch text p ts c rest e = stop_of f h cf p ts c rest e (viable supplied text p ts c rest e)
 
 other_stop : {A : Type 0} (s t : Scan A) (c : Cause) (rest : List Kind) → Goes s t → s ≡ stopped c rest → (c ≡ Deep) ⊎ (t ≡ stopped c rest)
 other_stop s t c rest (inl same) e = inr (sym same ∙ e)
@@ -68,7 +55,7 @@ stops_for_all {A} {f} {h} supplied ch text p ts c rest e levels = by_other (othe
   where
     by_other : (c ≡ Deep) ⊎ (scan h (spot p ts) ≡ stopped c rest) → StopsAt (IsFineText h p) (IsFineText h p) ts (length rest)
     by_other (inl deep) = absurd (levels deep)
-    by_other (inr other) = stop_of h h ch p ts c rest other (viable supplied ch text p ts c rest e)
+    by_other (inr other) = stop_of h h ch p ts c rest other (viable supplied text p ts c rest e)
 
 -- Of a reading: a check refused it, or it stops so.
 pub read_stops : {A : Type 0} {f h : Grammar A} → Supplied A f h → Clear f → Clear h → HasText h → (ts : List Kind) (c : Cause) (left : ℕ) → read f ts ≡ Err (c, left)

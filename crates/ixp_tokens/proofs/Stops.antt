@@ -1,6 +1,6 @@
 -- Where syntax stops a reading, no fine text goes on: what is fine is read or refused, and a reading depends on the tokens up
 -- to its place alone.
-use Rattle.std.proofs.Common.{◌≡◌, ℕ, zero, suc, pred, ◌+◌, ◌<◌, ◌≤◌, ◌⊎◌, inl, inr, Bool, true, false, not, ◌&&◌, ◌||◌, List, [], ◌∷◌, ◌++◌, length, Option, Some, None, refl, sym, ap, ◌∙◌, arith, subst, append_assoc, length-append, if◌then◌else◌}
+use Rattle.std.proofs.Common.{◌≡◌, ℕ, zero, suc, pred, ◌<◌, ◌≤◌, ◌⊎◌, inl, inr, Bool, true, false, not, ◌&&◌, ◌||◌, List, [], ◌∷◌, length, Option, Some, None, refl, ap, ◌∙◌, arith, subst, if◌then◌else◌}
 use Rattle.std.specs.Option.{is_some}
 use Rattle.ixp_tokens.specs.declared.token.Kind.{Kind}
 use Rattle.ixp_tokens.specs.declared.fault.Cause.{Cause}
@@ -9,7 +9,7 @@ use Rattle.ixp_tokens.specs.Grammars.{Step, onward, done, Grammar, gives, takes,
 use Rattle.ixp_tokens.specs.Syntax.{Spot, spot, FineRounds, Fine, Scan, said, stopped, refused, and_then, begins_at, scanned, stepping, scan_rounds, unless_refused, scan}
 use Rattle.ixp_tokens.proofs.Parted.{Leads}
 use Rattle.ixp_tokens.proofs.Fronts.{or_left, or_right, or_elim}
-use Rattle.ixp_tokens.proofs.Clear.{MayEmpty, MayBegin, MayOpen, GoesOn, ClearBy}
+use Rattle.ixp_tokens.proofs.Clear.{MayEmpty, MayOpen, GoesOn, ClearBy}
 use Rattle.ixp_tokens.proofs.Fines.{Front, front}
 use Rattle.ixp_tokens.proofs.Sizes.{fewer}
 
@@ -120,7 +120,7 @@ not_and : (a b : Bool) → (not a && b) ≡ true → (a ≡ false) × (b ≡ tru
 not_and false b e = (refl, e)
 not_and true b e = absurd cc
 
-opens : {A : Type 0} (f : Grammar A) (x : Spot) → begins_at f x ≡ true → MayOpen f x.1
+pub opens : {A : Type 0} (f : Grammar A) (x : Spot) → begins_at f x ≡ true → MayOpen f x.1
 opens (gives w) x e = absurd cc
 opens (takes c) (p, []) e = absurd cc
 opens (takes c) (p, k ∷ ts) e = e
@@ -132,15 +132,15 @@ opens (bars t c f) x e = or_elim (t x.1) (begins_at f x) e (λ h. inl h) (λ h. 
 opens (unless t f) x e = let both = not_and (t x.1) (begins_at f x) e in (both.0, opens f x both.1)
 opens (here f) x e = (x.0, opens (f x.0) x e)
 
-if_true : {A : Type 0} (b : Bool) (s t : A) → b ≡ true → (if b then s else t) ≡ s
+pub if_true : {A : Type 0} (b : Bool) (s t : A) → b ≡ true → (if b then s else t) ≡ s
 if_true true s t e = refl
 if_true false s t e = absurd cc
 
-if_false : {A : Type 0} (b : Bool) (s t : A) → b ≡ false → (if b then s else t) ≡ t
+pub if_false : {A : Type 0} (b : Bool) (s t : A) → b ≡ false → (if b then s else t) ≡ t
 if_false false s t e = refl
 if_false true s t e = absurd cc
 
-not_true : (b : Bool) → ¬ (b ≡ true) → b ≡ false
+pub not_true : (b : Bool) → ¬ (b ≡ true) → b ≡ false
 not_true true h = absurd (h refl)
 not_true false h = refl
 
@@ -206,3 +206,52 @@ reads_fine T (checks o f) clear v x y fine ends = checks_reads f o v x y (reads_
 reads_fine T (bars t c f) (first, cf) v x y (free, fine) ends = is_read _ (scan f x) v y (if_false (t x.1) (stopped c x.1) (scan f x) free) (reads_fine T f cf v x y fine ends)
 reads_fine T (unless t f) (first, cf) v x y (free, fine) ends = is_read _ (scan f x) v y (if_false (t x.1) (stopped Unexpected x.1) (scan f x) free) (reads_fine T f cf v x y fine ends)
 reads_fine T (here f) clear v x y fine ends = reads_fine T (f x.0) (clear x.0) v x y fine (λ p. ends (x.0, p))
+
+-- Where none of its tokens is next, nothing is taken.
+
+-- nothing is checked before the first token
+abbrev pub Leading : {A : Type 0} → Grammar A → Type 0
+Leading (gives w) = ⊥
+Leading (takes c) = Unit {0}
+Leading (sequence f g) = Leading f
+Leading (choice f g) = Leading f × Leading g
+Leading (rounds f s) = Leading (f s)
+Leading (checks o f) = ⊥
+Leading (bars t c f) = Leading f
+Leading (unless t f) = Leading f
+Leading (here f) = (n : ℕ) → Leading (f n)
+
+neither : (a b : Bool) → (a || b) ≡ false → (a ≡ false) × (b ≡ false)
+neither false b e = (refl, e)
+neither true b e = absurd cc
+
+first_stops : {A B : Type 0} (s : Scan B) (g : B → Spot → Scan A) (rest : List Kind) → s ≡ stopped Unexpected rest → and_then s g ≡ stopped Unexpected rest
+first_stops s g rest e = ap (λ x. and_then x g) e
+
+round_stops : {S A : Type 0} (n : ℕ) (round : S → Spot → Scan (Step S A)) (s : S) (x : Spot) → round s x ≡ stopped Unexpected x.1 → scan_rounds n round s x ≡ stopped Unexpected x.1
+round_stops zero round s x e = first_stops (round s x) _ x.1 e
+round_stops (suc n) round s x e = first_stops (round s x) _ x.1 e
+
+if_out : {A : Type 0} (b : Bool) (s : Scan A) (rest : List Kind) → (b ≡ false → s ≡ stopped Unexpected rest) → (if b then stopped Unexpected rest else s) ≡ stopped Unexpected rest
+if_out true s rest h = refl
+if_out false s rest h = h refl
+
+only_if : (a b : Bool) → (not a && b) ≡ false → a ≡ false → b ≡ false
+only_if false b e h = e
+only_if true b e h = absurd cc
+
+pub not_begun : {A : Type 0} (f : Grammar A) → Leading f → (x : Spot) → begins_at f x ≡ false → scan f x ≡ stopped Unexpected x.1
+not_begun (gives w) leading x e = absurd leading
+not_begun (takes c) leading (p, []) e = refl
+not_begun (takes c) leading (p, k ∷ ts) e = by_token c (c k) p k ts e
+  where
+    by_token : {A : Type 0} (c : Kind → Option A) (o : Option A) (p : ℕ) (k : Kind) (ts : List Kind) → is_some o ≡ false → scanned o p k ts ≡ stopped Unexpected (k ∷ ts)
+    by_token c (Some v) p k ts e = absurd cc
+    by_token c None p k ts e = refl
+not_begun (sequence f g) leading x e = first_stops (scan f x) _ x.1 (not_begun f leading x e)
+not_begun (choice f g) (lf, lg) x e = let both = neither (begins_at f x) (begins_at g x) e in if_false (begins_at f x) (scan f x) (scan g x) both.0 ∙ not_begun g lg x both.1
+not_begun (rounds f s) leading x e = round_stops (length x.1) _ s x (not_begun (f s) leading x e)
+not_begun (checks o f) leading x e = absurd leading
+not_begun (bars t c f) leading x e = let both = neither (t x.1) (begins_at f x) e in if_false (t x.1) (stopped c x.1) (scan f x) both.0 ∙ not_begun f leading x both.1
+not_begun (unless t f) leading x e = if_out (t x.1) (scan f x) x.1 (λ free. not_begun f leading x (only_if (t x.1) (begins_at f x) e free))
+not_begun (here f) leading x e = not_begun (f x.0) (leading x.0) x e

@@ -1,16 +1,41 @@
 -- Grammars and what they are with more levels, part by part: each is supplied by the other, of which enough is known, and which has
 -- a text.
-use Rattle.std.proofs.Common.{◌≡◌, ℕ, pred, inl, inr, true, List, [], ◌∷◌, ◌++◌, Option, Some, refl, subst}
+use Rattle.std.proofs.Common.{◌≡◌, ℕ, pred, inl, inr, Bool, true, List, [], ◌∷◌, ◌++◌, Option, Some, arith, refl, sym, ◌∙◌, subst}
 use Rattle.ixp_tokens.specs.declared.fault.Cause.{Cause}
 use Rattle.ixp_tokens.specs.declared.token.Kind.{Kind}
 use Rattle.ixp_tokens.specs.Grammars.{Grammar, gives, takes, sequence, choice, checks, here}
 use Rattle.ixp_tokens.specs.Syntax.{Spot, spot, Fine}
 use Rattle.ixp_tokens.proofs.Fronts.{Front, are_apart, are_among, starts_apart, starts_never}
 use Rattle.ixp_tokens.proofs.Clear.{Spoils, Clear, IsOfFirst}
-use Rattle.ixp_tokens.proofs.Fines.{Front as Fronted, front, Moves, moves, spoils_no_end}
+use Rattle.ixp_tokens.proofs.Fines.{Front as Fronted, front, first_of, MayFollow, Moves, moves, one_front, spoils_no_end}
 use Rattle.ixp_tokens.proofs.Looks.{Look, or_behind, nothing_look, full_look, token_look, sequence_look, choice_look, is_wider}
 use Rattle.ixp_tokens.proofs.ClearLooks.{Clearly, clear_gives, clear_sequence, clear_then, clear_choice, clear_checks, clear_here, clear_wider}
-use Rattle.ixp_tokens.proofs.Viable.{HasText, TextBehind, Supplied, supplied_gives, supplied_takes, supplied_sequence, supplied_choice, supplied_checks, supplied_here}
+use Rattle.ixp_tokens.proofs.Viable.{HasText, CanEnd, CanFollow, PassesOn, goes_where_follows, Supplied, supplied_gives, supplied_takes, supplied_sequence, supplied_choice, supplied_checks, supplied_here}
+
+-- a text of g may stand behind a text of f that says b
+abbrev pub TextBehind : {A B : Type 0} → Grammar B → B → Grammar A → Type 0
+TextBehind {A} f b g = (p : ℕ) → (v : A) × (ts : List Kind) × (q : ℕ) × Fine g v (spot p ts) (spot q []) × (¬ (Spoils f b ts))
+
+-- Where tests ask the first token alone, what is behind a text may be exchanged for what begins with the same token.
+module _ {A B : Type 0} (f : Grammar B) (g : Grammar A) (clear : Clear f) (b : B) where
+  pub again_before : (p : ℕ) (front rest other : List Kind) (m : ℕ) → MayFollow f b rest other → (moved : Moves f b p (front ++ rest) m rest) → Fine f b (spot p (front ++ other)) (spot m other)
+  again_before p front rest other m may moved = subst (λ x. Fine f b (spot p (x ++ other)) (spot m other)) (one_front moved.taken front rest (sym moved.parts)) (moved.again other may)
+
+  pub can_end : TextBehind f b g → CanEnd f b g
+  can_end text p front rest m fine = by_text (text m)
+    where
+      by_text : (v : A) × (ts : List Kind) × (q : ℕ) × Fine g v (spot m ts) (spot q []) × (¬ (Spoils f b ts)) → (v : A) × (more : List Kind) × (q : ℕ) × Fine g v (spot m more) (spot q []) × Fine f b (spot p (front ++ more)) (spot m more)
+      by_text (v, ts, q, last, free) = (v, ts, q, last, again_before p front rest ts m (inr free) (moves f clear b p (front ++ rest) (spot m rest) fine))
+
+  pub can_follow : CanFollow f b g
+  can_follow p front [] rest more m v q some fine last = absurd (omega arith)
+  can_follow p front (k ∷ ks) rest more m v q some fine last =
+      again_before p front (k ∷ (ks ++ rest)) (k ∷ (ks ++ more)) m (inl (inr (first_of k (ks ++ rest) (ks ++ more)))) (moves f clear b p (front ++ (k ∷ (ks ++ rest))) (spot m (k ∷ (ks ++ rest))) fine)
+
+-- a test of the first token is passed again
+pub passes_on : {A : Type 0} (t : List Kind → Bool) (f h : Grammar A) → IsOfFirst t → PassesOn t f h
+passes_on t f h first p [] rest more c v q some free at fine = absurd (omega arith)
+passes_on t f h first p (k ∷ ks) rest more c v q some free at fine = first.1 k (ks ++ more) (ks ++ rest) ∙ free
 
 pub record Part {A : Type 0} (f h : Grammar A) (look : Look) (barred : List Front) : Type 1 where
   pub supplied : Supplied A f h
@@ -62,13 +87,14 @@ text_sequence {A} {B} f g clear text behind p = by_text (text p)
     by_text : (b : B) × (ts : List Kind) × (m : ℕ) × Fine f b (spot p ts) (spot m []) → (v : A) × (ts : List Kind) × (q : ℕ) × Fine (sequence f g) v (spot p ts) (spot q [])
     by_text (b, ts, m, fine) = by_behind b ts m (moves f clear b p ts (spot m []) fine) (behind b m)
 
-supply_sequence : {A B : Type 0} (f h : Grammar B) (g i : B → Grammar A) → Supplied B f h → ((b : B) → Supplied A (g b) (i b)) → ((b : B) → TextBehind h b (i b)) → Supplied A (sequence f g) (sequence h i)
-supply_sequence f h g i sf sg texts = supplied_sequence f h g i (λ b. Unit {0}) sf (λ b x y p. tt) (λ b j. sg b) (λ b j. texts b)
+pub supply_sequence : {A B : Type 0} (f h : Grammar B) (g i : B → Grammar A) → Clear h → Supplied B f h → ((b : B) → Supplied A (g b) (i b)) → ((b : B) → TextBehind h b (i b)) → Supplied A (sequence f g) (sequence h i)
+supply_sequence f h g i clear sf sg texts =
+    supplied_sequence f h g i (λ b. Unit {0}) sf (λ b x y p. tt) (λ b j. sg b) (λ b j. can_end h (i b) clear b (texts b)) (λ b j. goes_where_follows h b (g b) (i b) (can_follow h (i b) clear b))
 
 module _ {A B : Type 0} {f h : Grammar B} {g i : B → Grammar A} {fs us : List Front} {m : Look} where
   pub part_then : Part f h (token_look fs) [] → ((b : B) → Whole (g b) (i b) m us) → Part (sequence f g) (sequence h i) (full_look fs m.ends) us
   part_then wf wg = record {
-    supplied = supply_sequence f h g i wf.supplied (λ b. (wg b).supplied) (λ b. text_free h (i b) (token_look fs) wf.clearly (wg b).text b);
+    supplied = supply_sequence f h g i wf.clearly.clear wf.supplied (λ b. (wg b).supplied) (λ b. text_free h (i b) (token_look fs) wf.clearly (wg b).text b);
     clearly = clear_then wf.clearly (λ b. (wg b).clearly);
   }
 
@@ -78,12 +104,12 @@ module _ {A B : Type 0} {f h : Grammar B} {g i : B → Grammar A} {fs us : List 
 module _ {A B : Type 0} {f h : Grammar B} {g i : B → Grammar A} {l m : Look} {ss us : List Front} where
   pub whole_sequence : Whole f h l ss → ((b : B) → Whole (g b) (i b) m us) → are_apart m.starts l.ends ≡ true → are_apart m.starts ss ≡ true → Whole (sequence f g) (sequence h i) (sequence_look l m) (or_behind m.full us ss)
   whole_sequence wf wg apart free = record {
-    supplied = supply_sequence f h g i wf.supplied (λ b. (wg b).supplied) (λ b. text_behind h (i b) l m ss us wf.clearly (wg b).clearly free (wg b).text b);
+    supplied = supply_sequence f h g i wf.clearly.clear wf.supplied (λ b. (wg b).supplied) (λ b. text_behind h (i b) l m ss us wf.clearly (wg b).clearly free (wg b).text b);
     clearly = clear_sequence wf.clearly (λ b. (wg b).clearly) apart;
     text = text_sequence h i wf.clearly.clear wf.text (λ b. text_behind h (i b) l m ss us wf.clearly (wg b).clearly free (wg b).text b);
   }
 
-left_text : {A : Type 0} (h i : Grammar A) → HasText h → HasText (choice h i)
+pub left_text : {A : Type 0} (h i : Grammar A) → HasText h → HasText (choice h i)
 left_text {A} h i text p = by_text (text p)
   where
     by_text : (v : A) × (ts : List Kind) × (q : ℕ) × Fine h v (spot p ts) (spot q []) → (v : A) × (ts : List Kind) × (q : ℕ) × Fine (choice h i) v (spot p ts) (spot q [])

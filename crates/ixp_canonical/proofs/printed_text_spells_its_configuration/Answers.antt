@@ -1,4 +1,4 @@
-use Rattle.ixp_canonical.proofs.PrintedItems.{spells_law, alone_law}
+use Rattle.ixp_canonical.proofs.WrittenTokens.{spells_law, alone_law}
 use Rattle.ixp_canonical.proofs.printed_text_spells_its_configuration.Goals as goal
 
 pub returns-clause-spelt : goal.returns-clause-spelt

@@ -1,0 +1,3 @@
+pub mod SureProtocols
+pub mod Words
+pub mod WholeProtocols

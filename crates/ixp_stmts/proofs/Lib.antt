@@ -1,0 +1,11 @@
+pub mod Begins
+pub mod Changes
+pub mod Choices
+pub mod ExchangeStatements
+pub mod Pieces
+pub mod QuietStatements
+pub mod Several
+pub mod Steps
+pub mod SuppliedStatements
+pub mod SureStatements
+pub mod WholeParts
