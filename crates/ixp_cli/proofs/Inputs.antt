@@ -4,7 +4,7 @@ use Rattle.std.proofs.Math.Seq.{take-add}
 use Rattle.ixp_registry.specs.Places.{same}
 use Rattle.ixp_valid.proofs.Lists.{take_next}
 use Rattle.ixp_cli.specs.declared.end.End.{End}
-use Rattle.ixp_cli.specs.declared.end.End.TheVariants.{Done, Usage, BadLine, BadDump, TooLong, ReadFault, WriteFault, NoMemory}
+use Rattle.ixp_cli.specs.declared.end.End.TheVariants.{Done, Usage, BadLine, BadDump, BadText, BadTrial, TooLong, ReadFault, WriteFault, NoMemory}
 use Rattle.ixp_cli.specs.Runs.{first_line, dump_from, dump_part, Streams, ReadsAll, EndsOutside, IsCheckEnd, IsCompileEnd, CheckEnds, FateEnds}
 
 abbrev ends_here : Bool → List ℕ → Bool
@@ -32,6 +32,8 @@ outside_check before after Done e = absurd e
 outside_check before after Usage e = absurd e
 outside_check before after (BadLine line) e = absurd e
 outside_check before after (BadDump fault) e = absurd e
+outside_check before after (BadText fault) e = absurd e
+outside_check before after (BadTrial fault) e = absurd e
 outside_check before after TooLong e = e
 outside_check before after ReadFault e = e
 outside_check before after WriteFault e = e
@@ -42,6 +44,8 @@ tested_check before after t Done reads e = absurd e
 tested_check before after t Usage reads e = absurd e
 tested_check before after t (BadLine line) reads e = absurd e
 tested_check before after t (BadDump fault) reads e = (t, reads, e)
+tested_check before after t (BadText fault) reads e = absurd e
+tested_check before after t (BadTrial fault) reads e = absurd e
 tested_check before after t TooLong reads e = absurd e
 tested_check before after t ReadFault reads e = absurd e
 tested_check before after t WriteFault reads e = absurd e
@@ -52,6 +56,8 @@ outside_fate before after Done e = absurd e
 outside_fate before after Usage e = absurd e
 outside_fate before after (BadLine line) e = tt
 outside_fate before after (BadDump fault) e = absurd e
+outside_fate before after (BadText fault) e = absurd e
+outside_fate before after (BadTrial fault) e = absurd e
 outside_fate before after TooLong e = e
 outside_fate before after ReadFault e = e
 outside_fate before after WriteFault e = e
@@ -62,6 +68,8 @@ compiled_fate before after t Done reads e = absurd e
 compiled_fate before after t Usage reads e = absurd e
 compiled_fate before after t (BadLine line) reads e = tt
 compiled_fate before after t (BadDump fault) reads e = (t, reads, e)
+compiled_fate before after t (BadText fault) reads e = absurd e
+compiled_fate before after t (BadTrial fault) reads e = absurd e
 compiled_fate before after t TooLong reads e = absurd e
 compiled_fate before after t ReadFault reads e = absurd e
 compiled_fate before after t WriteFault reads e = absurd e
@@ -72,6 +80,8 @@ dump_tested t Done e = absurd e
 dump_tested t Usage e = absurd e
 dump_tested t (BadLine line) e = absurd e
 dump_tested t (BadDump fault) e = e
+dump_tested t (BadText fault) e = absurd e
+dump_tested t (BadTrial fault) e = absurd e
 dump_tested t TooLong e = absurd e
 dump_tested t ReadFault e = absurd e
 dump_tested t WriteFault e = absurd e

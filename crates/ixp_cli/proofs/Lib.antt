@@ -1,3 +1,4 @@
+pub mod Evaluating
 pub mod Members
 pub mod Numbering
 pub mod Words

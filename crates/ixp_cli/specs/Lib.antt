@@ -1,3 +1,4 @@
+pub mod Evals
 pub mod Runs
 pub mod SmallGeneration
 pub mod SmallTexts

@@ -10,6 +10,8 @@ use Rattle.ixp_lang.specs.Walks.{walk}
 use Rattle.ixp_io.specs.Faults.{Rose}
 use Rattle.ixp_io.specs.Told.{Told, Moves, IsDone, Takes}
 use Rattle.ixp_print.specs.Texts.{config_text}
+use Rattle.ixp_read.specs.declared.fault.ReadFault.{ReadFault as TextFault}
+use Rattle.ixp_read.specs.declared.fault.ReadFault.TheVariants as text
 use Rattle.ixp_registry.specs.declared.registry.Registry.{Registry}
 use Rattle.ixp_registry.specs.Places.{same}
 use Rattle.ixp_registry.specs.Registries.{rows_of}
@@ -17,18 +19,23 @@ use Rattle.ixp_rows.specs.declared.fault.DumpFault.{DumpFault}
 use Rattle.ixp_rows.specs.declared.fault.DumpFault.TheVariants.{BadLine as FaultyLine, Order, Twice, Invalid, NoMemory as OutOfMemory}
 use Rattle.ixp_rows.specs.Dumps.{RegistryAnswer, version_in}
 use Rattle.ixp_rows.specs.Texts.{rows_count}
+use Rattle.ixp_trial.specs.declared.fault.RouteCode.TheVariants as code
+use Rattle.ixp_trial.specs.declared.fault.TrialFault.{TrialFault}
+use Rattle.ixp_trial.specs.declared.fault.TrialFault.TheVariants as trial
 use Rattle.ixp_cli.specs.declared.command.Command.{Command}
-use Rattle.ixp_cli.specs.declared.command.Command.TheVariants.{Check, Fate as OfFate}
+use Rattle.ixp_cli.specs.declared.command.Command.TheVariants.{Check, Eval, Fate as OfFate}
 use Rattle.ixp_cli.specs.declared.end.End.{End}
-use Rattle.ixp_cli.specs.declared.end.End.TheVariants.{Done, Usage, BadLine, BadDump, TooLong, ReadFault, WriteFault, NoMemory}
+use Rattle.ixp_cli.specs.declared.end.End.TheVariants.{Done, Usage, BadLine, BadDump, BadText, BadTrial, TooLong, ReadFault, WriteFault, NoMemory}
 use Rattle.ixp_cli.specs.declared.small.RouteLine.{RouteLine}
 use Rattle.ixp_cli.specs.declared.small.Small.{Small}
+use Rattle.ixp_cli.specs.Evals.{Evaluates, IsEvalEnd}
 use Rattle.ixp_cli.specs.SmallGeneration.{named, small_config}
 use Rattle.ixp_cli.specs.SmallTexts.{small_text, route_line}
 
 -- the command that a word is
 abbrev pub command_by : List ℕ → Option Command
-command_by word = if same word (codes "check") then Some Check else if same word (codes "fate") then Some OfFate else None
+command_by word =
+    if same word (codes "check") then Some Check else if same word (codes "eval") then Some Eval else if same word (codes "fate") then Some OfFate else None
 
 -- the command that words are
 abbrev pub command_in : List (List ℕ) → Option Command
@@ -42,6 +49,8 @@ status_of Done = 0
 status_of Usage = 1
 status_of (BadLine line) = 2
 status_of (BadDump fault) = 2
+status_of (BadText fault) = 2
+status_of (BadTrial fault) = 2
 status_of TooLong = 2
 status_of ReadFault = 3
 status_of WriteFault = 4
@@ -55,6 +64,28 @@ fault_text (Twice line) = codes "U3 " ++ decimal line
 fault_text (Invalid rule line) = codes "U4 Q" ++ (decimal rule ++ 32 ∷ decimal line)
 fault_text OutOfMemory = []
 
+-- the code of a filter text's fault and its place
+abbrev pub text_fault : TextFault → List ℕ
+text_fault (text.Byte at) = codes "L1 " ++ decimal at
+text_fault (text.Number at) = codes "L2 " ++ decimal at
+text_fault (text.Unexpected at) = codes "L3 " ++ decimal at
+text_fault (text.UnknownName at) = codes "L4 " ++ decimal at
+text_fault (text.NameTwice at) = codes "L5 " ++ decimal at
+text_fault (text.MixedLogic at) = codes "L6 " ++ decimal at
+text_fault (text.WrongType at) = codes "L7 " ++ decimal at
+text_fault (text.TooDeep at) = codes "L8 " ++ decimal at
+text_fault (text.OutOfProfile at) = codes "L9 " ++ decimal at
+text_fault text.NoMemory = []
+
+-- the code of a fault behind the filter text and its line
+abbrev pub trial_fault : TrialFault → List ℕ
+trial_fault (trial.BadLine line) = codes "U1 " ++ decimal line
+trial_fault (trial.BadRoute line code.Text) = codes "E1 " ++ decimal line
+trial_fault (trial.BadRoute line code.Family) = codes "E2 " ++ decimal line
+trial_fault (trial.BadRoute line code.Set) = codes "E3 " ++ decimal line
+trial_fault (trial.BadRoute line code.TooLong) = codes "E4 " ++ decimal line
+trial_fault trial.NoMemory = []
+
 abbrev pub bad_input : List ℕ → List ℕ
 bad_input place = codes "ixpm: bad input " ++ (place ++ 10 ∷ [])
 
@@ -64,6 +95,8 @@ error_text Done = []
 error_text Usage = codes "ixpm: usage\n"
 error_text (BadLine line) = bad_input (codes "U0 " ++ decimal line)
 error_text (BadDump fault) = bad_input (fault_text fault)
+error_text (BadText fault) = bad_input (text_fault fault)
+error_text (BadTrial fault) = bad_input (trial_fault fault)
 error_text TooLong = bad_input (codes "U5 268435456")
 error_text ReadFault = codes "ixpm: read fault\n"
 error_text WriteFault = codes "ixpm: write fault\n"
@@ -115,6 +148,8 @@ IsCompileEnd t (BadDump fault) = RegistryAnswer (version_in (dump_part t)) (dump
 IsCompileEnd t NoMemory = Unit {0}
 IsCompileEnd t Done = ⊥
 IsCompileEnd t Usage = ⊥
+IsCompileEnd t (BadText fault) = ⊥
+IsCompileEnd t (BadTrial fault) = ⊥
 IsCompileEnd t TooLong = ⊥
 IsCompileEnd t ReadFault = ⊥
 IsCompileEnd t WriteFault = ⊥
@@ -169,6 +204,8 @@ IsCheckEnd t NoMemory = Unit {0}
 IsCheckEnd t Done = ⊥
 IsCheckEnd t Usage = ⊥
 IsCheckEnd t (BadLine line) = ⊥
+IsCheckEnd t (BadText fault) = ⊥
+IsCheckEnd t (BadTrial fault) = ⊥
 IsCheckEnd t TooLong = ⊥
 IsCheckEnd t ReadFault = ⊥
 IsCheckEnd t WriteFault = ⊥
@@ -178,6 +215,21 @@ abbrev pub CheckEnds : Streams → Streams → End → Type 0
 CheckEnds before after Done = Checked before after
 CheckEnds before after (BadDump fault) = OfInput before after (λ t. RegistryAnswer (version_in t) t (Err fault))
 CheckEnds before after end = EndsOutside before after end
+
+-- All of the input was read, and the output took what becomes of its route by its filter text.
+pub record Evaluated (before after : Streams) : Type 0 where
+  pub input : List ℕ
+  pub output : List ℕ
+  pub evaluates : Evaluates input output
+  pub read : ReadsAll before after input
+  pub took : Takes before.output after.output output
+
+-- how `eval` ends
+abbrev pub EvalEnds : Streams → Streams → End → Type 0
+EvalEnds before after Done = Evaluated before after
+EvalEnds before after (BadText fault) = OfInput before after (λ t. IsEvalEnd t (BadText fault))
+EvalEnds before after (BadTrial fault) = OfInput before after (λ t. IsEvalEnd t (BadTrial fault))
+EvalEnds before after end = EndsOutside before after end
 
 -- how `fate` ends
 abbrev pub FateEnds : Streams → Streams → End → Type 0
@@ -190,6 +242,7 @@ FateEnds before after end = EndsOutside before after end
 abbrev pub Ends : Option Command → Streams → Streams → End → Type 0
 Ends None before after end = end ≡ Usage
 Ends (Some Check) before after end = CheckEnds before after end
+Ends (Some Eval) before after end = EvalEnds before after end
 Ends (Some OfFate) before after end = FateEnds before after end
 
 -- A run of a command: it ends in one way, which its status says, and the errors took the line that tells of it, or a write of that

@@ -4,6 +4,7 @@ ghost use Rattle.ixp_cli.specs.Runs.{command_by, command_in, Runs, Streams, IsSt
 
 use crate::check::check;
 use crate::end::{End, report};
+use crate::eval::eval;
 use crate::fate::fate;
 use ixp_io::{Clock, Door, Gate, Keeper, Sink, Source};
 use std::alloc::Global;
@@ -12,6 +13,7 @@ use std::alloc::Global;
 #[derive(Clone, Copy, Debug, PartialEq, Eq)]
 pub enum Command {
     Check,
+    Eval,
     Fate,
 }
 
@@ -21,6 +23,8 @@ fn command_by(word: &[u8]) -> Option<Command>
 {
     if word == b"check".as_slice() {
         Some(Command::Check)
+    } else if word == b"eval".as_slice() {
+        Some(Command::Eval)
     } else if word == b"fate".as_slice() {
         Some(Command::Fate)
     } else {
@@ -63,6 +67,7 @@ pub fn run_plain<S: Source, K: Sink, E: Sink, P: Keeper, C: Clock>(
 {
     let end = match command_in(words) {
         Some(Command::Check) => check(alloc, input, output),
+        Some(Command::Eval) => eval(alloc, input, output),
         Some(Command::Fate) => fate(alloc, input, output),
         None => End::Usage,
     };

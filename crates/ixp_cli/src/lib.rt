@@ -4,6 +4,7 @@
 mod check;
 mod command;
 mod end;
+mod eval;
 mod fate;
 mod generate;
 mod input;

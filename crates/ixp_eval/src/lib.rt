@@ -26,7 +26,7 @@ pub use env::Env;
 pub use fault::EvalFault;
 pub use ixp_lang::Verdict;
 pub use run::{call_function, run_filter};
-pub use walks::walk;
+pub use walks::{session_named, walk};
 
 #[cfg(test)]
 mod tests;

@@ -17,7 +17,7 @@ use ixp_roa::RoaTable;
 use std::alloc::Global;
 
 /// The session of the name.
-fn session_named<'a>(items: &'a [Item], name: &Name) -> Option<&'a Bgp>
+pub fn session_named<'a>(items: &'a [Item], name: &Name) -> Option<&'a Bgp>
     ensures { option_copied result ≡ session_named (sessions_of (map item_view items.now)) name.now }
 {
     'items: for item in items {

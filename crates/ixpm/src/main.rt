@@ -2,6 +2,8 @@
 #![tactic(auto)]
 
 #[cfg(test)]
+mod eval_tests;
+#[cfg(test)]
 mod filter_tests;
 #[cfg(test)]
 mod tests;
@@ -15,6 +17,8 @@ use std::{env, io};
 const HELP: &str = "ixpm: the registry of an internet exchange, and its route servers' configuration
 
   ixpm check       reads the dump of a registry on standard input, and writes ok and how many rows it has
+  ixpm eval        reads a filter text, a line %%, ROAs and a route on standard input, and writes what becomes of the
+                   route by that text
   ixpm fate        reads a small registry's dump and a route on standard input, and writes the configuration
                    of its route server and the route's fate
   ixpm --help      writes this

@@ -45,13 +45,13 @@ fn example(alloc: Global, lines: usize, at: usize, with: &str) -> Result<Items<u
 
 /// What a run answers and writes.
 #[derive(Drop)]
-struct Ran {
-    status: u8,
-    output: MemSink,
-    errors: MemSink,
+pub struct Ran {
+    pub status: u8,
+    pub output: MemSink,
+    pub errors: MemSink,
 }
 
-fn run_over(alloc: Global, words: &[&str], input: Items<u8>, reads: Plan, writes: Plan) -> Ran {
+pub fn run_over(alloc: Global, words: &[&str], input: Items<u8>, reads: Plan, writes: Plan) -> Ran {
     let mut input = MemSource::new(input, reads);
     let mut output = MemSink::new(alloc, writes);
     let mut errors = MemSink::new(alloc, Plan::smooth(alloc));

@@ -1,0 +1,8 @@
+use Rattle.ixp_trial.proofs.OneTrial.{one_text, one_trial}
+use Rattle.ixp_trial.proofs.laws.one_answer.Goals as goal
+
+pub returns-clause-text : goal.returns-clause-text
+returns-clause-text c = one_text
+
+pub returns-clause-trial : goal.returns-clause-trial
+returns-clause-trial c = one_trial

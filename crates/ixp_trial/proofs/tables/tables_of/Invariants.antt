@@ -1,0 +1,9 @@
+use Rattle.std.proofs.Common.{length}
+use Rattle.ixp_trial.proofs.Tabling.{AreSoFar}
+use Rattle.ixp_trial.proofs.tables.tables_of.Given as goal
+
+abbrev pub invariant-each : goal.invariant-each
+invariant-each l = AreSoFar l.fn.roas l.left l.tables
+
+abbrev pub decreases-each : goal.decreases-each
+decreases-each l = length l.left

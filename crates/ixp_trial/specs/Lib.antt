@@ -1,0 +1,5 @@
+pub mod Cutting
+pub mod Lines
+pub mod Readings
+pub mod Tables
+pub mod Trials
