@@ -85,21 +85,3 @@ impl<T: Copy> Items<T> {
         Items::from_slice(alloc, self.as_slice())
     }
 }
-
-#[cfg(test)]
-mod tests {
-    use super::*;
-    use std::test::Fail;
-
-    #[test]
-    fn items_stay_in_order(rt: HostRuntime) -> Result<(), Fail> {
-        let mut items = Items::new(rt.alloc());
-        assert!(rt; items.is_empty());
-        items.push(3u32)?;
-        items.push(1)?;
-        assert_eq!(rt; items.len(), 2);
-        let same = items.copied(rt.alloc())?;
-        assert_eq!(rt; same.as_slice(), [3, 1].as_slice());
-        Ok(())
-    }
-}

@@ -47,20 +47,3 @@ impl<T: Drop> Stack<T> {
         Ok(())
     }
 }
-
-#[cfg(test)]
-mod tests {
-    use super::*;
-    use std::test::Fail;
-
-    #[test]
-    fn last_in_first_out(rt: HostRuntime) -> Result<(), Fail> {
-        let mut stack = Stack::new(rt.alloc());
-        stack.push(3u32)?;
-        stack.push(1)?;
-        assert_eq!(rt; stack.pop(), Some(1));
-        assert_eq!(rt; stack.pop(), Some(3));
-        assert_eq!(rt; stack.pop(), None);
-        Ok(())
-    }
-}

@@ -10,4 +10,5 @@ pub mod PartedTexts
 pub mod Places
 pub mod PrintedAddresses
 pub mod PrintedTexts
+pub mod SameParts
 pub mod Stops

@@ -22,8 +22,6 @@ mod print;
 mod read;
 mod reading;
 mod roa;
-#[cfg(test)]
-mod tests;
 mod texts;
 mod texts6;
 

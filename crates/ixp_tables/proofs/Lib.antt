@@ -2,3 +2,10 @@ pub mod Orders
 pub mod Places
 pub mod TableLaws
 pub mod Views
+pub mod AllItems
+pub mod SumLaws
+pub mod Counts
+pub mod PairLaws
+pub mod Looking
+pub mod Alike
+pub mod FirstNumbers

@@ -1,14 +1,23 @@
 -- Rows in the order of their keys. A key is a list of numbers, and a table has each key once.
-use Rattle.std.specs.Prelude.{◌≡◌, ℕ, suc, ⊤, List, [], ◌∷◌, Option, Some, None, Result, Ok, Err}
+use Rattle.std.specs.Prelude.{◌≡◌, ◌==◌, ℕ, suc, ⊤, Bool, List, [], ◌∷◌, Option, Some, None, Result, Ok, Err}
 use Rattle.std.specs.declared.cmp.Ordering.{Ordering}
 use Rattle.std.specs.declared.cmp.Ordering.TheVariants.{Less}
 use Rattle.std.specs.Ordering.{nat_cmp, match_ordering}
-use Rattle.std.specs.Cmp.Lexicographic.{slice_cmp}
+use Rattle.std.specs.Cmp.Lexicographic.{slice_cmp, pointwise}
 use Rattle.std.specs.List.{AllByRecursion}
+use Rattle.std.specs.Option.{option_map_or}
 
 -- how two keys compare: as words of a dictionary, number by number
 abbrev pub order : List ℕ → List ℕ → Ordering
 order = slice_cmp nat_cmp
+
+-- whether two keys are the same
+abbrev pub same : List ℕ → List ℕ → Bool
+same = pointwise (λ a b. a == b)
+
+-- what `f` says of what is there, else `d`
+abbrev pub if_there : {T U : Type 0} → Option T → U → (T → U) → U
+if_there x d f = option_map_or f x d
 
 -- the same place, one row further on
 abbrev pub further : Result ℕ ℕ → Result ℕ ℕ

@@ -9,8 +9,5 @@ mod row;
 mod search;
 mod table;
 
-pub use row::Row;
+pub use row::{Copied, Row};
 pub use table::Table;
-
-#[cfg(test)]
-mod tests;

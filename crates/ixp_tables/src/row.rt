@@ -1,7 +1,8 @@
 //! What has a key.
-ghost use Rattle.std.specs.Prelude.{◌≡◌, ℕ, List};
+ghost use Rattle.std.specs.Prelude.{◌≡◌, ℕ, List, IfOk};
 ghost use Rattle.ixp_tables.specs.Tables.{order};
 
+use std::alloc::{AllocError, Global};
 use std::cmp::Ordering;
 
 /// A row of a table. Its key names it: `key_of` is the key of a row, and `named` what a value of `Key` names.
@@ -20,4 +21,11 @@ pub trait Row {
     /// How this row's key compares with another row's.
     fn order(&self, other: &Self) -> Ordering
         ensures { result ≡ order (Self.key_of self.now) (Self.key_of other.now) };
+}
+
+/// A row that can be copied.
+pub trait Copied: Drop {
+    /// An equal row.
+    fn copied(&self, alloc: Global) -> Result<Self, AllocError>
+        ensures { IfOk result (λ row. row ≡ self.now) };
 }

@@ -1,8 +1,8 @@
 //! Rows in the order of their keys, each key once.
-ghost use Rattle.std.specs.Prelude.{◌≡◌, ◌↔◌, List, [], length, OnOk, OnErr, IsSome, IsTrue, option_map};
+ghost use Rattle.std.specs.Prelude.{◌≡◌, ◌↔◌, List, [], length, IfOk, OnOk, OnErr, IsSome, IsTrue, option_map};
 ghost use Rattle.ixp_tables.specs.Tables.{Ascends, find, put, without};
 
-use crate::row::Row;
+use crate::row::{Copied, Row};
 use crate::search::{ByKey, ByRow, place_of};
 use std::alloc::{AllocError, Global};
 use std::marker::Model;
@@ -110,6 +110,17 @@ impl<R: Row + Drop> Table<R> {
         }
     }
 
+    /// Takes the row that has the key out and gives it, if there is one.
+    pub fn take(&mut self, key: &R::Key) -> Option<R>
+        ensures row { result ≡ find R.key_of (R.named key.now) self.old }
+        ensures rest { self.new ≡ without R.key_of (R.named key.now) self.old }
+    {
+        match place_of(self.rows.as_slice(), &ByKey { key }) {
+            Ok(at) => Some(self.rows.remove(at)),
+            Err(_) => None,
+        }
+    }
+
     /// Puts a row in the place of the one that has its key. It takes no memory.
     pub fn replace(&mut self, row: R)
         requires { IsSome (find R.key_of (R.key_of row) self.old) }
@@ -118,5 +129,27 @@ impl<R: Row + Drop> Table<R> {
         if let Ok(at) = place_of(self.rows.as_slice(), &ByRow { row: &row }) {
             self.rows[at] = row;
         }
+    }
+}
+
+fn copies<R: Copied>(alloc: Global, rows: &[R]) -> Result<Vec<R>, AllocError>
+    ensures { IfOk result (λ copies. copies.items ≡ rows.now) }
+{
+    let mut copies = Vec::new(alloc);
+    let mut left = rows;
+    'each: while let Some((row, others)) = left.split_first() {
+        copies.push(row.copied(alloc)?)?;
+        left = others;
+    }
+    Ok(copies)
+}
+
+impl<R: Row + Copied> Table<R> {
+    /// An equal table.
+    pub fn copied(&self, alloc: Global) -> Result<Table<R>, AllocError>
+        ensures { IfOk result (λ table. table ≡ self.now) }
+    {
+        let rows = copies(alloc, self.as_slice())?;
+        Ok(Table::from_ascending(rows))
     }
 }

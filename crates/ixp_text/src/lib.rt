@@ -53,36 +53,3 @@ pub fn put_joined<W: Writes>(
     }
     Ok(())
 }
-
-#[cfg(test)]
-mod tests {
-    use super::*;
-    use std::test::Fail;
-
-    struct Decimal;
-
-    impl Writes for Decimal {
-        type Item = u32;
-
-        ghost text_of = { λ n. decimal n };
-
-        fn write(item: &u32, out: &mut Vec<u8>) -> Result<(), AllocError> {
-            put_number(out, u64::from(*item))
-        }
-    }
-
-    #[test]
-    fn numbers_are_joined(rt: HostRuntime) -> Result<(), Fail> {
-        let cases: [(&[u32], &[u8]); 3] = [
-            (&[], b""),
-            (&[7], b"7"),
-            (&[1, 20, 4294967295], b"1, 20, 4294967295"),
-        ];
-        for (numbers, want) in cases {
-            let mut out = Vec::new(rt.alloc());
-            put_joined::<Decimal>(&mut out, b", ", numbers)?;
-            assert_eq!(rt; out.as_slice(), want);
-        }
-        Ok(())
-    }
-}
