@@ -13,13 +13,14 @@ use Rattle.ixp_num.specs.Families.{bits_of, IsPrefix}
 use Rattle.ixp_num.proofs.PrintedAddresses.{addr_printed, prefix_printed, bounds_printed, asn_printed}
 use Rattle.percent_encoding.specs.Percent.{percent_encode, percent_decode}
 use Rattle.percent_encoding.proofs.PercentLemmas.{round_trip, percent_decode-nil, percent_encode_nonempty}
-use Rattle.ixp_registry.specs.Places.{same}
+use Rattle.ixp_tables.specs.Tables.{same}
 use Rattle.ixp_lines.specs.declared.free.TheConstants.{ESCAPED}
 use Rattle.ixp_registry.specs.declared.kind.Kind.{Kind}
 use Rattle.ixp_registry.specs.declared.kind.Kind.TheVariants.{Sites, Members, Contacts, Keys, Switches, Ports, Vlans, Interfaces, Addresses, Routers, Prefixes, Origins, Rules, Bogons, BogonAs, Transit, Roas}
 use Rattle.ixp_lines.specs.declared.version.Version.{Version}
 use Rattle.ixp_lines.specs.declared.version.Version.TheVariants.{One, Two}
-use Rattle.ixp_lines.specs.Fields.{Field, Number, Octet, Word, Free, Secret, Handle, Address, Net, Bounds, field_text, free_text, or_dash, is_break, IsByte, Piece, ANumber, AnOctet, OneOf, AFree, ASecret, AHandle, AnAddress, AnIdentifier, ANet, ABounds, Or, Fits, AllFit}
+use Rattle.ixp_lines.specs.Fields.{Field, Number, Octet, Word, Free, Secret, Handle, Address, Net, Bounds, field_text, free_text, or_dash, is_break, Piece, ANumber, AnOctet, OneOf, AFree, ASecret, AHandle, AnAddress, AnIdentifier, ANet, ABounds, Or, Fits, AllFit}
+use Rattle.ixp_registry.specs.Widths.{IsByte}
 use Rattle.ixp_lines.specs.Lines.{spelled, form_of, router_form}
 use Rattle.ixp_lines.specs.Reading.{◌>>=◌, kept, octet_with, without_dash, secret_in, identifier_with, value_of, parted_at, field_at, end_at, piece_at, fields_at}
 use Rattle.ixp_lines.proofs.Spelling.{same_is, joined}

@@ -1,5 +1,5 @@
 -- Words that are digits.
-use Rattle.std.proofs.Common.{◌≡◌, ◌∷◌, [], ◌<◌, decimal, arith}
+use Rattle.std.proofs.Common.{◌≡◌, ◌∷◌, [], decimal, arith}
 use Rattle.std.proofs.lemmas.Fmt.{decimal_digit}
 
 pub digit_1 : decimal 1 ≡ 49 ∷ []

@@ -16,9 +16,10 @@ use Rattle.percent_encoding.specs.Percent.{percent_encode, percent_decode}
 use Rattle.percent_encoding.specs.AsciiSet.{should_percent_encode}
 use Rattle.percent_encoding.proofs.AsciiSetLemmas.{ascii_from_kept}
 use Rattle.percent_encoding.proofs.PercentLemmas.{IsEscapeByte, All-percent_encode, All-percent_decode}
-use Rattle.ixp_registry.specs.Places.{same}
+use Rattle.ixp_tables.specs.Tables.{same}
 use Rattle.ixp_lines.specs.declared.free.TheConstants.{ESCAPED}
-use Rattle.ixp_lines.specs.Fields.{Field, Number, Octet, Word, Free, Secret, Handle, Address, Net, Bounds, field_text, free_text, or_dash, is_break, IsByte, Piece, ANumber, AnOctet, OneOf, AFree, ASecret, AHandle, AnAddress, AnIdentifier, ANet, ABounds, Or, Fits, AllFit}
+use Rattle.ixp_lines.specs.Fields.{Field, Number, Octet, Word, Free, Secret, Handle, Address, Net, Bounds, field_text, free_text, or_dash, is_break, Piece, ANumber, AnOctet, OneOf, AFree, ASecret, AHandle, AnAddress, AnIdentifier, ANet, ABounds, Or, Fits, AllFit}
+use Rattle.ixp_registry.specs.Widths.{IsByte}
 use Rattle.ixp_lines.specs.Reading.{◌>>=◌, numbers_with, numbers_in, kept, number_with, octet_with, family_of, is_prefix, address_with, net_with, bounds_with, without_dash, secret_in, identifier_with, value_of, parted_at, field_at, end_at, piece_at, fields_at}
 use Rattle.ixp_lines.proofs.Spelling.{some_is, none_some, same_is}
 use Rattle.ixp_lines.proofs.Unbroken.{Unbroken}

@@ -1,11 +1,11 @@
 -- Free texts.
-use Rattle.std.proofs.Common.{◌≡◌, ℕ, ◌<◌, Bool, true, false, List, [], ◌∷◌, ◌++◌, length, flat_map, codes, refl, sym, ap, ◌∙◌, arith, if◌then◌else◌, Option, Some, None}
+use Rattle.std.proofs.Common.{◌≡◌, ℕ, ◌<◌, Bool, true, false, List, [], ◌∷◌, ◌++◌, length, flat_map, codes, refl, arith, if◌then◌else◌}
 use Rattle.percent_encoding.specs.AsciiSet.{should_percent_encode}
 use Rattle.percent_encoding.specs.Percent.{percent_encode, percent_encode_byte, encode_byte, percent_decode}
-use Rattle.ixp_registry.specs.Places.{same}
+use Rattle.ixp_tables.specs.Tables.{same}
 use Rattle.ixp_lines.specs.declared.free.TheConstants.{ESCAPED}
-use Rattle.ixp_lines.specs.Fields.{or_dash, free_text, field_text, Field, Free, AFree}
-use Rattle.ixp_lines.specs.Reading.{kept, without_dash, value_of}
+use Rattle.ixp_lines.specs.Fields.{or_dash, free_text}
+use Rattle.ixp_lines.specs.Reading.{without_dash}
 
 some_byte : (c : ℕ) (more : List ℕ) (b : Bool) → or_dash ((if b then percent_encode_byte c else c ∷ []) ++ more) ≡ (if b then percent_encode_byte c else c ∷ []) ++ more
 unfolding percent_encode_byte

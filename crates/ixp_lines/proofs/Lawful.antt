@@ -1,5 +1,5 @@
 -- Rows whose numbers and bytes are in their types' ranges have lines of the format.
-use Rattle.std.proofs.Common.{◌≡◌, ℕ, ◌<◌, ◌^◌, ◌⊎◌, Bool, true, false, List, [], ◌∷◌, ◌++◌, codes, decimal, Option, Some, None, IfSome, inl, inr, refl, sym, ap, ◌∙◌, subst}
+use Rattle.std.proofs.Common.{◌≡◌, ℕ, ◌<◌, ◌^◌, Bool, true, false, List, [], ◌∷◌, ◌++◌, codes, decimal, Option, Some, None, IfSome, inl, inr, refl, sym, ap, ◌∙◌, subst}
 use Rattle.std.specs.List.{AllByRecursion, list_any}
 use Rattle.ixp_num.specs.Names.{is_name}
 use Rattle.ixp_num.specs.declared.family.Family.{Family}
@@ -9,7 +9,7 @@ use Rattle.ixp_num.specs.declared.prefix.Prefix.{Prefix}
 use Rattle.ixp_num.specs.declared.pattern.Pattern.{Pattern}
 use Rattle.ixp_num.specs.declared.asn.Asn.{Asn}
 use Rattle.ixp_num.specs.declared.roa.Roa.{Roa}
-use Rattle.ixp_registry.specs.Places.{same}
+use Rattle.ixp_tables.specs.Tables.{same}
 use Rattle.ixp_registry.specs.declared.site.Site.{Site}
 use Rattle.ixp_registry.specs.declared.members.Member.{Member}
 use Rattle.ixp_registry.specs.declared.members.Status.{Status}
@@ -33,8 +33,9 @@ use Rattle.ixp_registry.specs.declared.rules.Action.{Action}
 use Rattle.ixp_registry.specs.declared.rules.Action.TheVariants.{AsIs, Prepend, Stop}
 use Rattle.ixp_lines.specs.declared.version.Version.{Version}
 use Rattle.ixp_lines.specs.declared.version.Version.TheVariants.{One, Two}
-use Rattle.ixp_lines.specs.Fields.{Word, Secret, IsByte, ANumber, ASecret, ANet, AnAddress, Or, Fits}
-use Rattle.ixp_lines.specs.Lines.{status_word, flag_word, family_word, way_word, action_word, owner_word, owner_number, IsAction, flags, families, statuses, owner_kinds, ways, actions, address_field, net_field, asn_field, field_or, IsLine, site_line, member_line, contact_line, key_line, switch_line, port_line, vlan_line, interface_line, address_line, router_line, prefix_line, origin_line, rule_line, bogon_line, bogon_as_line, transit_line, roa_line}
+use Rattle.ixp_lines.specs.Fields.{Word, Secret, ANumber, ASecret, ANet, AnAddress, Or, Fits}
+use Rattle.ixp_registry.specs.Widths.{IsByte, owner_number}
+use Rattle.ixp_lines.specs.Lines.{status_word, flag_word, family_word, way_word, action_word, owner_word, IsAction, flags, families, statuses, owner_kinds, ways, actions, address_field, net_field, asn_field, field_or, IsLine, site_line, member_line, contact_line, key_line, switch_line, port_line, vlan_line, interface_line, address_line, router_line, prefix_line, origin_line, rule_line, bogon_line, bogon_as_line, transit_line, roa_line}
 use Rattle.ixp_lines.proofs.DigitWords.{digit_1, digit_2, digit_3}
 
 abbrev pub AreBytes : List ℕ → Type 0

@@ -1,5 +1,5 @@
 -- What is behind a line is shorter than the text.
-use Rattle.std.proofs.Common.{◌≡◌, ℕ, suc, ◌-◌, ◌<◌, ◌≤◌, Bool, true, false, ◌==◌, List, [], ◌∷◌, length, drop, length-drop, Option, Some, None, refl, subst, arith, if◌then◌else◌}
+use Rattle.std.proofs.Common.{◌≡◌, ℕ, suc, ◌<◌, ◌≤◌, Bool, true, false, ◌==◌, List, [], ◌∷◌, length, length-drop, Option, Some, None, subst, arith, if◌then◌else◌}
 use Rattle.std.specs.List.{position}
 use Rattle.ixp_lines.specs.Fields.{Field, Piece, is_break}
 use Rattle.ixp_lines.specs.Reading.{◌>>=◌, parted_at, field_at, end_at, value_of, piece_at, fields_at}

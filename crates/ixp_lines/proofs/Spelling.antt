@@ -1,5 +1,5 @@
 -- What is read is spelt so.
-use Rattle.std.proofs.Common.{◌≡◌, ◌≢◌, ℕ, suc, ◌+◌, ◌-◌, ◌*◌, ◌<◌, ◌≤◌, ◌^◌, Bool, true, false, ◌&&◌, ◌==◌, nat_lt, nat_le, List, [], ◌∷◌, ◌++◌, length, take, drop, take-append-drop, append_assoc, append-nil, flat_map, decimal, codes, Option, Some, None, Result, Ok, Err, refl, sym, ap, ◌∙◌, subst, arith, rules, if◌then◌else◌, min}
+use Rattle.std.proofs.Common.{◌≡◌, ℕ, suc, ◌<◌, ◌^◌, Bool, true, false, ◌&&◌, ◌==◌, nat_lt, nat_le, List, [], ◌∷◌, ◌++◌, length, take-append-drop, append_assoc, append-nil, flat_map, decimal, codes, Option, Some, None, Result, Ok, Err, refl, sym, ap, ◌∙◌, subst, arith, rules, if◌then◌else◌, min}
 use Rattle.std.specs.List.{AllByRecursion, position, list_any}
 use Rattle.std.specs.Cmp.Lexicographic.{told_text}
 use Rattle.std.proofs.lemmas.Fmt.{decimal-digits_value}
@@ -9,13 +9,13 @@ use Rattle.ixp_num.specs.declared.family.Family.TheVariants.{V4, V6}
 use Rattle.percent_encoding.specs.Percent.{percent_decode}
 use Rattle.ixp_num.specs.Families.{bits_of}
 use Rattle.ixp_num.specs.Names.{is_name}
-use Rattle.ixp_num.specs.Forms.{Form, Said, Spelt, IsDigit, IsDecimal, value_after, bounded}
+use Rattle.ixp_num.specs.Forms.{Said, Spelt, IsDigit, IsDecimal, value_after}
 use Rattle.ixp_num.specs.AddressForms.{asn_form}
 use Rattle.ixp_num.specs.TextForms.{addr_form, net_form, pattern_form}
 use Rattle.ixp_num.specs.Reading.{read}
 use Rattle.ixp_num.proofs.FormLaws.{read_sound}
 use Rattle.ixp_num.proofs.PartedForms.{asn_parted}
-use Rattle.ixp_registry.specs.Places.{same}
+use Rattle.ixp_tables.specs.Tables.{same}
 use Rattle.ixp_lines.specs.Fields.{Field, Number, Octet, Word, Free, Secret, Handle, Address, Net, Bounds, field_text, or_dash, is_break, Piece, ANumber, AnOctet, OneOf, AFree, ASecret, AHandle, AnAddress, AnIdentifier, ANet, ABounds, Or}
 use Rattle.ixp_lines.specs.Lines.{spelled}
 use Rattle.ixp_lines.specs.Reading.{◌>>=◌, numbers_with, numbers_in, kept, number_with, octet_with, family_of, is_prefix, address_with, net_with, bounds_with, without_dash, secret_in, identifier_with, value_of, parted_at, field_at, end_at, piece_at, fields_at}

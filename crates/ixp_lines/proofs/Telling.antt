@@ -14,7 +14,7 @@ use Rattle.ixp_num.specs.Answers.{AddrAnswer, PrefixAnswer}
 use Rattle.ixp_num.specs.Printing.{addr_text, prefix_text}
 use Rattle.ixp_num.proofs.OneAnswer.{one_addr, one_prefix}
 use Rattle.ixp_num.proofs.PrintedAddresses.{addr_printed, prefix_printed}
-use Rattle.ixp_registry.specs.Places.{same}
+use Rattle.ixp_tables.specs.Tables.{same}
 use Rattle.ixp_registry.specs.declared.site.Site.{Site}
 use Rattle.ixp_registry.specs.declared.members.Member.{Member}
 use Rattle.ixp_registry.specs.declared.members.Status.{Status}
@@ -39,7 +39,8 @@ use Rattle.ixp_registry.specs.declared.rules.Action.TheVariants.{AsIs, Prepend, 
 use Rattle.ixp_lines.specs.declared.version.Version.{Version}
 use Rattle.ixp_lines.specs.declared.version.Version.TheVariants.{One, Two}
 use Rattle.ixp_lines.specs.Fields.{Word, field_text, Fits}
-use Rattle.ixp_lines.specs.Lines.{status_word, flag_word, family_word, way_word, action_word, owner_word, owner_number, actions, address_field, net_field, bounds_field, asn_field, field_or, IsOfVersion, site_line, member_line, contact_line, key_line, switch_line, port_line, vlan_line, interface_line, address_line, router_line, prefix_line, origin_line, rule_line, bogon_line, bogon_as_line, transit_line, roa_line}
+use Rattle.ixp_lines.specs.Lines.{status_word, flag_word, family_word, way_word, action_word, owner_word, actions, address_field, net_field, bounds_field, asn_field, field_or, IsOfVersion, site_line, member_line, contact_line, key_line, switch_line, port_line, vlan_line, interface_line, address_line, router_line, prefix_line, origin_line, rule_line, bogon_line, bogon_as_line, transit_line, roa_line}
+use Rattle.ixp_registry.specs.Widths.{owner_number}
 use Rattle.ixp_lines.proofs.Spelling.{same_is}
 
 ok_is : {A : Type 0} (a b : A) → ◌≡◌ {A = Result A NumFault} (Ok a) (Ok b) → a ≡ b

@@ -22,7 +22,7 @@ use Rattle.ixp_num.proofs.PrintedAddresses.{addr_printed, prefix_printed, bounds
 use Rattle.percent_encoding.specs.AsciiSet.{should_percent_encode}
 use Rattle.percent_encoding.specs.Percent.{percent_encode}
 use Rattle.percent_encoding.proofs.PercentLemmas.{IsEscapeByte, All-percent_encode}
-use Rattle.ixp_registry.specs.Places.{same}
+use Rattle.ixp_tables.specs.Tables.{same}
 use Rattle.ixp_lines.specs.declared.free.TheConstants.{ESCAPED}
 use Rattle.ixp_lines.specs.Fields.{Field, Number, Octet, Word, Free, Secret, Handle, Address, Net, Bounds, field_text, or_dash, is_break, Piece, ANumber, AnOctet, OneOf, AFree, ASecret, AHandle, AnAddress, AnIdentifier, ANet, ABounds, Or, Fits}
 use Rattle.ixp_lines.proofs.Spelling.{same_is}

@@ -1,5 +1,5 @@
 -- What the answers of the readers of numbers say of fields.
-use Rattle.std.proofs.Common.{◌≡◌, ◌≢◌, ℕ, ◌-◌, ◌<◌, ◌≤◌, ◌%◌, ◌^◌, Bool, true, false, ◌&&◌, ◌==◌, nat_lt, nat_le, List, [], ◌∷◌, length, Option, Some, None, Result, Ok, Err, refl, sym, ap, ◌∙◌, subst, arith, if◌then◌else◌}
+use Rattle.std.proofs.Common.{◌≡◌, ◌≢◌, ℕ, ◌-◌, ◌<◌, ◌≤◌, ◌%◌, ◌^◌, Bool, true, false, ◌&&◌, nat_lt, nat_le, List, [], ◌∷◌, Some, None, Result, Ok, Err, refl, ap, ◌∙◌, if◌then◌else◌}
 use Rattle.std.proofs.lemmas.Bool.{lt-ltb, le-leb, ne_eqb}
 use Rattle.ixp_num.specs.declared.family.Family.{Family}
 use Rattle.ixp_num.specs.declared.family.Family.TheVariants.{V4, V6}
@@ -13,14 +13,14 @@ use Rattle.ixp_num.specs.Families.{bits_of}
 use Rattle.ixp_num.specs.Forms.{Form, Said, Spelt}
 use Rattle.ixp_num.specs.AddressForms.{version_of, numbers, asn_form}
 use Rattle.ixp_num.specs.TextForms.{addr_form, net_form, pattern_form}
-use Rattle.ixp_num.specs.Answers.{FaultAnswer, HasHostBits, AddrAnswer, PrefixAnswer, PatternAnswer, AsnAnswer}
+use Rattle.ixp_num.specs.Answers.{FaultAnswer, AddrAnswer, PrefixAnswer, PatternAnswer, AsnAnswer}
 use Rattle.ixp_num.specs.Printing.{value_text, addr_text, prefix_text, bounds_text}
 use Rattle.ixp_num.specs.Reading.{read}
 use Rattle.ixp_num.proofs.FormLaws.{Parted, read_sound, read_again}
 use Rattle.ixp_num.proofs.PartedForms.{asn_parted}
 use Rattle.ixp_num.proofs.PartedTexts.{addr_parted, net_parted, pattern_parted}
-use Rattle.ixp_registry.specs.Places.{same}
-use Rattle.ixp_lines.specs.Fields.{Field, Number, Octet, Address, Net, Bounds, field_text, ANumber, AnOctet, AnAddress, ANet, ABounds, Or, Piece, Word}
+use Rattle.ixp_tables.specs.Tables.{same}
+use Rattle.ixp_lines.specs.Fields.{Number, Address, Net, Bounds, ANumber, AnOctet, AnAddress, ANet, ABounds, Or, Piece, Word}
 use Rattle.ixp_lines.specs.Lines.{address_field, net_field, bounds_field}
 use Rattle.ixp_lines.specs.Reading.{◌>>=◌, numbers_with, numbers_in, kept, family_of, number_with, octet_with, address_with, is_prefix, net_with, bounds_with, value_of}
 

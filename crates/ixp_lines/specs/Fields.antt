@@ -1,13 +1,14 @@
 -- The fields of a line, and the one text of each.
-use Rattle.std.specs.Prelude.{◌≡◌, ◌≢◌, ℕ, ◌<◌, ◌≤◌, ◌/◌, ◌%◌, ◌+◌, ◌^◌, ◌⊎◌, Bool, ◌||◌, ◌==◌, true, List, [], ◌∷◌, ◌++◌, flat_map, decimal, codes, if◌then◌else◌, nat_lt}
+use Rattle.std.specs.Prelude.{◌≡◌, ◌≢◌, ℕ, ◌<◌, ◌^◌, ◌⊎◌, Bool, ◌||◌, ◌==◌, true, List, [], ◌∷◌, ◌++◌, decimal, codes}
 use Rattle.std.specs.List.{AllByRecursion, list_any}
 use Rattle.ixp_num.specs.declared.family.Family.{Family}
-use Rattle.ixp_num.specs.declared.family.Family.TheVariants.{V4, V6}
+use Rattle.ixp_num.specs.declared.family.Family.TheVariants.{V4}
 use Rattle.ixp_num.specs.Families.{bits_of, IsPrefix}
 use Rattle.ixp_num.specs.Names.{is_name}
 use Rattle.ixp_num.specs.Printing.{value_text}
 use Rattle.percent_encoding.specs.Percent.{percent_encode}
-use Rattle.ixp_registry.specs.Places.{same}
+use Rattle.ixp_tables.specs.Tables.{same}
+use Rattle.ixp_registry.specs.Widths.{IsByte}
 use Rattle.ixp_lines.specs.declared.free.TheConstants.{ESCAPED}
 
 pub data Field : Type 0 where
@@ -71,9 +72,6 @@ pub data Piece : Type 0 where
 -- a byte that parts fields or lines
 abbrev pub is_break : ℕ → Bool
 is_break c = c == 32 || c == 10
-
-abbrev pub IsByte : ℕ → Type 0
-IsByte c = c < 256
 
 -- the field is of the kind
 abbrev pub Fits : Piece → Field → Type 0

@@ -1,5 +1,5 @@
 -- The lines of a dump: for each kind of row its word, its fields, and how many of them are its key.
-use Rattle.std.specs.Prelude.{◌≡◌, ℕ, ◌<◌, ◌≤◌, ◌⊎◌, List, [], ◌∷◌, ◌++◌, flat_map, map, take, codes, decimal, Bool, true, false, Option, Some, None, if◌then◌else◌, refl}
+use Rattle.std.specs.Prelude.{◌≡◌, ℕ, ◌⊎◌, List, [], ◌∷◌, ◌++◌, flat_map, take, codes, decimal, Bool, true, false, Option, Some, None, if◌then◌else◌, refl}
 use Rattle.ixp_num.specs.declared.family.Family.{Family}
 use Rattle.ixp_num.specs.declared.family.Family.TheVariants.{V4, V6}
 use Rattle.ixp_num.specs.declared.addr.Addr.{Addr}
@@ -29,8 +29,9 @@ use Rattle.ixp_registry.specs.declared.rules.Way.TheVariants.{Advertise, Receive
 use Rattle.ixp_registry.specs.declared.rules.Action.{Action}
 use Rattle.ixp_registry.specs.declared.rules.Action.TheVariants.{AsIs, Prepend, Stop}
 use Rattle.ixp_num.specs.AddressForms.{version_of}
-use Rattle.ixp_registry.specs.Places.{same}
+use Rattle.ixp_tables.specs.Tables.{same}
 use Rattle.ixp_registry.specs.Kinds.{word_of}
+use Rattle.ixp_registry.specs.Widths.{owner_number}
 use Rattle.ixp_registry.specs.declared.kind.Kind.{Kind}
 use Rattle.ixp_registry.specs.declared.kind.Kind.TheVariants.{Sites, Members, Contacts, Keys, Switches, Ports, Vlans, Interfaces, Addresses, Routers, Prefixes, Origins, Rules, Bogons, BogonAs, Transit, Roas}
 use Rattle.ixp_lines.specs.declared.version.Version.{Version}
@@ -100,10 +101,6 @@ asn_field a = Number a.0
 abbrev pub owner_word : Owner → List ℕ
 owner_word (Staff n) = codes "staff"
 owner_word (Of n) = codes "member"
-
-abbrev pub owner_number : Owner → ℕ
-owner_number (Staff n) = n
-owner_number (Of n) = n
 
 -- A line: which kind of row it is of, and its fields.
 pub record Line : Type 0 where

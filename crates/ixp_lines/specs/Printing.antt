@@ -1,9 +1,8 @@
 -- The fields that are printed.
-use Rattle.std.specs.Prelude.{ℕ}
 use Rattle.ixp_lines.specs.declared.printing.Shown.{Shown}
 use Rattle.ixp_lines.specs.declared.printing.Shown.TheVariants as shows
 use Rattle.ixp_num.specs.declared.family.Family.TheVariants.{V4}
-use Rattle.ixp_lines.specs.Fields.{Field, Number, Octet, Word, Free, Secret, Handle, Address, Net, Bounds}
+use Rattle.ixp_lines.specs.Fields.{Field, Number, Octet, Word, Free, Secret, Handle, Address}
 use Rattle.ixp_lines.specs.Lines.{address_field, net_field, bounds_field, action_word}
 
 abbrev pub shown : Shown → Field

@@ -1,6 +1,6 @@
 -- What the readers of lines compute, on lists.
-use Rattle.std.specs.Prelude.{◌≡◌, ℕ, ◌<◌, ◌^◌, ◌-◌, ◌*◌, ◌+◌, ◌%◌, Bool, ◌&&◌, ◌||◌, ◌==◌, not, true, false, nat_lt, nat_le, List, [], ◌∷◌, ◌++◌, length, take, drop, Option, Some, None, Result, Ok, Err, if◌then◌else◌, codes}
-use Rattle.std.specs.List.{list_any, list_all, position}
+use Rattle.std.specs.Prelude.{◌≡◌, ℕ, ◌^◌, ◌-◌, ◌%◌, Bool, ◌&&◌, ◌==◌, true, nat_lt, nat_le, List, [], ◌∷◌, take, drop, Option, Some, None, Result, Ok, Err, if◌then◌else◌, codes}
+use Rattle.std.specs.List.{list_any, position}
 use Rattle.ixp_num.specs.declared.family.Family.{Family}
 use Rattle.ixp_num.specs.declared.family.Family.TheVariants.{V4, V6}
 use Rattle.ixp_num.specs.Families.{bits_of}
@@ -10,7 +10,7 @@ use Rattle.ixp_num.specs.AddressForms.{asn_form}
 use Rattle.ixp_num.specs.TextForms.{addr_form, net_form, pattern_form}
 use Rattle.ixp_num.specs.Reading.{read}
 use Rattle.percent_encoding.specs.Percent.{percent_decode}
-use Rattle.ixp_registry.specs.Places.{same}
+use Rattle.ixp_tables.specs.Tables.{same}
 use Rattle.ixp_lines.specs.declared.fault.Unread.{Unread}
 use Rattle.ixp_lines.specs.declared.fault.Unread.TheVariants.{Bad, NoMemory}
 use Rattle.ixp_lines.specs.declared.words.OwnerKind.{OwnerKind}

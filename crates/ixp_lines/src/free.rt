@@ -1,7 +1,7 @@
 //! Free texts and secrets.
 ghost use Rattle.std.specs.Prelude.{◌≡◌, ◌++◌, OnOk, IfOk, flat_map};
 ghost use Rattle.percent_encoding.specs.Percent.{encode_byte, percent_decode};
-ghost use Rattle.ixp_registry.specs.Places.{same};
+ghost use Rattle.ixp_tables.specs.Tables.{same};
 ghost use Rattle.ixp_lines.specs.Fields.{Free, Secret, AFree, ASecret, free_text, or_dash};
 ghost use Rattle.ixp_lines.specs.Reading.{Gives, without_dash, value_of, piece_at};
 

@@ -8,7 +8,6 @@
 
 mod fault;
 mod fields;
-mod form;
 mod free;
 mod lined;
 mod lists;
@@ -17,8 +16,6 @@ mod numbers;
 mod owners;
 mod printing;
 mod routers;
-#[cfg(test)]
-mod tests;
 mod version;
 mod words;
 
@@ -26,6 +23,6 @@ pub use fault::Unread;
 pub use free::ESCAPED;
 pub use ixp_registry::Kind;
 pub use lined::Lined;
-pub use network::{address_has_form, print_address};
+pub use network::print_address;
 pub use printing::word_of;
 pub use version::Version;

@@ -3,7 +3,7 @@ ghost use Rattle.std.specs.Prelude.{◌≡◌, ◌++◌, List, ℕ, OnOk, IfOk, 
 ghost use Rattle.ixp_tables.specs.Tables.{order};
 ghost use Rattle.ixp_registry.specs.declared.kind.Kind.{Kind as RowKind};
 ghost use Rattle.ixp_lines.specs.declared.version.Version.{Version as Format};
-ghost use Rattle.ixp_lines.specs.Fields.{Field, AllFit};
+ghost use Rattle.ixp_lines.specs.Fields.{Field};
 ghost use Rattle.ixp_lines.specs.Lines.{form_of, text_of, key_length, field_key};
 ghost use Rattle.ixp_lines.specs.Reading.{Gives, fields_at};
 
@@ -24,9 +24,6 @@ pub trait Lined: Sized {
     /// What a row of the version is, beside its fields.
     ghost of_version: { Format → Self → Type 0 } = { λ version row. Unit {0} };
 
-    /// What a row keeps whose line is of the format, beside what its type keeps.
-    ghost spellable: { Self → Type 0 } = { λ row. Unit {0} };
-
     /// The kind of the lines.
     fn kind() -> Kind
         ensures { result ≡ row_kind };
@@ -43,10 +40,6 @@ pub trait Lined: Sized {
     /// How the row's line stands to another of the kind.
     fn order_lines(&self, other: &Self) -> Ordering
         ensures { result ≡ order (key self.now) (key other.now) };
-
-    /// Does nothing. It is called for what it ensures: the row's line is of the format.
-    fn has_form(&self, version: Version)
-        ensures { spellable self.now → AllFit (form_of version row_kind) (fields version self.now) };
 
     /// The key is what the first fields say.
     ghost keyed: { (version : Format) (row : Self) → flat_map field_key (take (key_length row_kind) (fields version row)) ≡ key row };

@@ -1,12 +1,12 @@
 //! Lines of the members' lists and rules, and of the public lists.
 ghost use Rattle.std.specs.Prelude.{◌∷◌, [], ℕ, refl};
 ghost use Rattle.std.proofs.Common.{ap};
-ghost use Rattle.ixp_registry.specs.Keys.{member_prefix_key, member_origin_key, rule_key, bogon_key, bogon_as_key, transit_key, roa_key};
+ghost use Rattle.ixp_registry.specs.Keys.{member_prefix_key, member_origin_key, rule_key};
+ghost use Rattle.ixp_sorted.specs.Keys.{pattern_key, asn_key, range_key, roa_key};
 ghost use Rattle.ixp_registry.specs.declared.kind.Kind.TheVariants as of;
 ghost use Rattle.ixp_lines.specs.Lines.{IsAction, prefix_line, origin_line, rule_line, bogon_line, bogon_as_line, transit_line, roa_line, version_again};
 
 use crate::fields::end_of;
-use crate::form::fits_if_some;
 use crate::numbers::{asn_of, asn_or_star, bounds_of, net_of, net_or_star, number_of, octet_of};
 use crate::printing::{Shown, asn_shown, net_shown, put_line};
 use crate::words::{action_of, family_of, family_word, way_of, way_word};
@@ -47,11 +47,6 @@ impl Lined for MemberPrefix {
 
     fn order_lines(&self, other: &MemberPrefix) -> Ordering {
         self.order(other)
-    }
-
-    #[tactic(auto, using(crate::proofs::Lawful::prefix_lawful))]
-    fn has_form(&self, _version: Version) {
-        let _member = self.member;
     }
 
     ghost keyed = { λ version row. refl };
@@ -98,12 +93,6 @@ impl Lined for MemberOrigin {
         self.order(other)
     }
 
-    #[tactic(auto, using(crate::proofs::Lawful::origin_lawful))]
-    fn has_form(&self, _version: Version) {
-        let _member = self.member;
-        let _asn_0 = self.asn.0;
-    }
-
     ghost keyed = { λ version o. ap (λ n. o.member ∷ n ∷ o.asn.0 ∷ []) (version_again o.family) };
 }
 
@@ -113,8 +102,6 @@ impl Lined for MemberRule {
     ghost fields = { λ version row. (rule_line row).fields };
 
     ghost key = { rule_key };
-
-    ghost spellable = { λ row. IsAction row.action };
 
     fn kind() -> Kind {
         Kind::Rules
@@ -155,12 +142,6 @@ impl Lined for MemberRule {
         self.order(other)
     }
 
-    fn has_form(&self, _version: Version) {
-        let _member = self.member;
-        let _place = self.place;
-        fits_if_some(self.peer);
-    }
-
     ghost keyed = { λ version row. refl };
 }
 
@@ -169,7 +150,7 @@ impl Lined for Pattern {
 
     ghost fields = { λ version row. (bogon_line row).fields };
 
-    ghost key = { bogon_key };
+    ghost key = { pattern_key };
 
     fn kind() -> Kind {
         Kind::Bogons
@@ -190,12 +171,6 @@ impl Lined for Pattern {
         self.cmp(other)
     }
 
-    #[tactic(auto, using(crate::proofs::Lawful::bogon_lawful))]
-    fn has_form(&self, _version: Version) {
-        let _low = self.low;
-        let _high = self.high;
-    }
-
     ghost keyed = { λ version row. refl };
 }
 
@@ -204,7 +179,7 @@ impl Lined for (Asn, Asn) {
 
     ghost fields = { λ version row. (bogon_as_line row).fields };
 
-    ghost key = { bogon_as_key };
+    ghost key = { range_key };
 
     fn kind() -> Kind {
         Kind::BogonAs
@@ -226,12 +201,6 @@ impl Lined for (Asn, Asn) {
         self.0.cmp(&other.0).then(self.1.cmp(&other.1))
     }
 
-    #[tactic(auto, using(crate::proofs::Lawful::bogon_as_lawful))]
-    fn has_form(&self, _version: Version) {
-        let _number_0 = self.0.0;
-        let _number_1 = self.1.0;
-    }
-
     ghost keyed = { λ version row. refl };
 }
 
@@ -240,7 +209,7 @@ impl Lined for Asn {
 
     ghost fields = { λ version row. (transit_line row).fields };
 
-    ghost key = { transit_key };
+    ghost key = { asn_key };
 
     fn kind() -> Kind {
         Kind::Transit
@@ -259,11 +228,6 @@ impl Lined for Asn {
 
     fn order_lines(&self, other: &Asn) -> Ordering {
         self.cmp(other)
-    }
-
-    #[tactic(auto, using(crate::proofs::Lawful::transit_lawful))]
-    fn has_form(&self, _version: Version) {
-        let _number_0 = self.0;
     }
 
     ghost keyed = { λ version row. refl };
@@ -300,12 +264,6 @@ impl Lined for Roa {
 
     fn order_lines(&self, other: &Roa) -> Ordering {
         self.cmp(other)
-    }
-
-    #[tactic(auto, using(crate::proofs::Lawful::roa_lawful))]
-    fn has_form(&self, _version: Version) {
-        let _max = self.max;
-        let _asn_0 = self.asn.0;
     }
 
     ghost keyed = { λ version row. refl };

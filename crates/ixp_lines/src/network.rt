@@ -6,7 +6,6 @@ ghost use Rattle.ixp_lines.specs.declared.version.Version.{Version as Format};
 ghost use Rattle.ixp_lines.specs.Lines.{IsLine, IsSecret, line_text, switch_line, port_line, vlan_line, interface_line, address_line};
 
 use crate::fields::end_of;
-use crate::form::are_bytes;
 use crate::free::{free_of, secret_of};
 use crate::numbers::{address_of, net_or_dash, number_of};
 use crate::printing::{Shown, net_shown, put_line};
@@ -46,12 +45,6 @@ impl Lined for Switch {
 
     fn order_lines(&self, other: &Switch) -> Ordering {
         self.order(other)
-    }
-
-    #[tactic(auto, using(crate::proofs::Lawful::switch_lawful))]
-    fn has_form(&self, _version: Version) {
-        let _number = self.number;
-        are_bytes(self.name.as_slice());
     }
 
     ghost keyed = { λ version row. refl };
@@ -100,15 +93,6 @@ impl Lined for Port {
         self.order(other)
     }
 
-    #[tactic(auto, using(crate::proofs::Lawful::port_lawful))]
-    fn has_form(&self, _version: Version) {
-        let _number = self.number;
-        let _switch = self.switch;
-        let _speed = self.speed;
-        let _member = self.member;
-        are_bytes(self.name.as_slice());
-    }
-
     ghost keyed = { λ version row. refl };
 }
 
@@ -153,13 +137,6 @@ impl Lined for Vlan {
 
     fn order_lines(&self, other: &Vlan) -> Ordering {
         self.order(other)
-    }
-
-    #[tactic(auto, using(crate::proofs::Lawful::vlan_lawful))]
-    fn has_form(&self, _version: Version) {
-        let _number = self.number;
-        let _tag = self.tag;
-        are_bytes(self.name.as_slice());
     }
 
     ghost keyed = { λ version row. refl };
@@ -209,14 +186,6 @@ impl Lined for InterfaceRow {
         self.order(other)
     }
 
-    #[tactic(auto, using(crate::proofs::Lawful::interface_lawful))]
-    fn has_form(&self, _version: Version) {
-        let _number = self.number;
-        let _member = self.member;
-        let _port = self.port;
-        let _vlan = self.vlan;
-    }
-
     ghost keyed = { λ version row. refl };
 }
 
@@ -236,22 +205,12 @@ pub fn print_address(interface: u32, address: &IfAddr, out: &mut Vec<u8>) -> Res
     put_line(Kind::Addresses, &fields, out)
 }
 
-/// Does nothing. It is called for what it ensures: the line of an interface's address is of the format.
-#[tactic(auto, using(crate::proofs::Lawful::address_lawful))]
-pub fn address_has_form(interface: u32, address: &IfAddr)
-    ensures { (version : Format) → IsSecret address.now.secret → IsLine version (address_line (record { interface = interface; address = address.now })) }
-{
-    let _max_prefix = address.max_prefix;
-}
-
 impl Lined for AddressRow {
     ghost row_kind = { of.Addresses };
 
     ghost fields = { λ version row. (address_line row).fields };
 
     ghost key = { address_key };
-
-    ghost spellable = { λ row. IsSecret row.address.secret };
 
     fn kind() -> Kind {
         Kind::Addresses
@@ -283,10 +242,6 @@ impl Lined for AddressRow {
 
     fn order_lines(&self, other: &AddressRow) -> Ordering {
         self.order(other)
-    }
-
-    fn has_form(&self, _version: Version) {
-        address_has_form(self.interface, &self.address);
     }
 
     ghost keyed = { λ version row. refl };

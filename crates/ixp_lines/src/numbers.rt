@@ -1,7 +1,7 @@
 //! Fields of numbers, addresses and prefixes.
 ghost use Rattle.std.specs.Prelude.{◌≡◌, codes, IfOk};
 ghost use Rattle.ixp_num.specs.Printing.{addr_text, prefix_text, bounds_text};
-ghost use Rattle.ixp_registry.specs.Places.{same};
+ghost use Rattle.ixp_tables.specs.Tables.{same};
 ghost use Rattle.ixp_num.specs.declared.family.Family.TheVariants.{V4};
 ghost use Rattle.ixp_lines.specs.Fields.{Number, Octet, Address, ANumber, AnOctet, AnAddress, AnIdentifier, ANet, ABounds, Or};
 ghost use Rattle.ixp_lines.specs.Lines.{address_field, net_field, bounds_field, asn_field, field_or};

@@ -5,7 +5,6 @@ ghost use Rattle.ixp_registry.specs.declared.kind.Kind.TheVariants as of;
 ghost use Rattle.ixp_lines.specs.Lines.{IsSecret, site_line, member_line, contact_line, key_line};
 
 use crate::fields::end_of;
-use crate::form::are_bytes;
 use crate::free::{free_of, secret_of};
 use crate::numbers::{asn_of, number_of};
 use crate::printing::{Shown, put_line};
@@ -51,13 +50,6 @@ impl Lined for Site {
 
     fn order_lines(&self, _other: &Site) -> Ordering {
         Ordering::Equal
-    }
-
-    #[tactic(auto, using(crate::proofs::Lawful::site_lawful))]
-    fn has_form(&self, _version: Version) {
-        let _ixp_id = self.ixp_id;
-        let _ixf_id = self.ixf_id;
-        are_bytes(self.shortname.as_slice());
     }
 
     ghost keyed = { λ version s. refl };
@@ -106,14 +98,6 @@ impl Lined for Member {
         self.order(other)
     }
 
-    #[tactic(auto, using(crate::proofs::Lawful::member_lawful))]
-    fn has_form(&self, _version: Version) {
-        let _number = self.number;
-        let _asn_0 = self.asn.0;
-        are_bytes(self.as_macro.as_slice());
-        are_bytes(self.name.as_slice());
-    }
-
     ghost keyed = { λ version row. refl };
 }
 
@@ -160,15 +144,6 @@ impl Lined for Contact {
         self.order(other)
     }
 
-    #[tactic(auto, using(crate::proofs::Lawful::contact_lawful))]
-    fn has_form(&self, _version: Version) {
-        let _member = self.member;
-        let _place = self.place;
-        are_bytes(self.role.as_slice());
-        are_bytes(self.mail.as_slice());
-        are_bytes(self.name.as_slice());
-    }
-
     ghost keyed = { λ version row. refl };
 }
 
@@ -178,8 +153,6 @@ impl Lined for ApiKey {
     ghost fields = { λ version row. (key_line row).fields };
 
     ghost key = { api_key_key };
-
-    ghost spellable = { λ row. IsSecret row.secret };
 
     fn kind() -> Kind {
         Kind::Keys
@@ -210,12 +183,6 @@ impl Lined for ApiKey {
 
     fn order_lines(&self, other: &ApiKey) -> Ordering {
         self.order(other)
-    }
-
-    #[tactic(auto, using(crate::proofs::Lawful::key_lawful))]
-    fn has_form(&self, _version: Version) {
-        let _number = self.number;
-        let _owner = owner_number(self.owner);
     }
 
     ghost keyed = { λ version row. refl };

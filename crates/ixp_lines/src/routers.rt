@@ -122,16 +122,5 @@ impl Lined for Router {
         self.order(other)
     }
 
-    #[tactic(auto, using(crate::proofs::Lawful::router_lawful))]
-    fn has_form(&self, _version: Version) {
-        let _vlan = self.vlan;
-        let _asn_0 = self.asn.0;
-        let _id = self.id;
-        let _low = self.low;
-        let _high = self.high;
-        let _max_comms = self.max_comms;
-        let _handle = self.handle.as_bytes();
-    }
-
     ghost keyed = { elim [ One ↦ (λ r. Prim.search rules) | Two ↦ (λ r. Prim.search rules) ] };
 }

@@ -1,7 +1,8 @@
 //! Fields that are one of a few words.
 ghost use Rattle.std.specs.Prelude.{◌≡◌, [], ◌∷◌, codes};
 ghost use Rattle.ixp_lines.specs.Fields.{Word, Number};
-ghost use Rattle.ixp_lines.specs.Lines.{status_word, flag_word, family_word, way_word, action_word, owner_word, owner_number, flags, families, statuses, ways, actions, owner_kinds};
+ghost use Rattle.ixp_lines.specs.Lines.{status_word, flag_word, family_word, way_word, action_word, owner_word, flags, families, statuses, ways, actions, owner_kinds};
+ghost use Rattle.ixp_registry.specs.Widths.{owner_number};
 ghost use Rattle.ixp_lines.specs.Reading.{Gives, value_of, piece_at, owner_kind_word, owner_at};
 
 use crate::fault::Unread;

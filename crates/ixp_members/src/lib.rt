@@ -6,6 +6,3 @@ mod statuses;
 
 pub use owners::rights;
 pub use statuses::may_move;
-
-#[cfg(test)]
-mod tests;

@@ -1,5 +1,5 @@
 -- How many rows there may be.
-use Rattle.std.specs.Prelude.{ℕ, length, ◌+◌, ◌<◌, ◌^◌}
+use Rattle.std.specs.Prelude.{length, ◌+◌, ◌<◌, ◌^◌}
 use Rattle.ixp_registry.specs.declared.rows.Rows.{Rows}
 use Rattle.ixp_registry.specs.Lines.{roas_at}
 

@@ -1,5 +1,5 @@
 -- Keys are equal where they have the same numbers: laws of the kinds of keys, and no part of any contract.
-use Rattle.std.proofs.Common.{◌≡◌, ℕ, List, [], ◌∷◌, Bool, refl, ap, sym, ◌∙◌}
+use Rattle.std.proofs.Common.{◌≡◌, ℕ, List, [], ◌∷◌, refl, ap, ◌∙◌}
 use Rattle.std.specs.declared.cmp.Ordering.{Ordering}
 use Rattle.std.specs.declared.cmp.Ordering.TheVariants.{Less, Equal, Greater}
 use Rattle.std.specs.Ordering.{is_eq, nat_cmp, ordering_then}
@@ -14,8 +14,8 @@ use Rattle.ixp_registry.specs.declared.members.Owner.{Owner}
 use Rattle.ixp_registry.specs.declared.members.Owner.TheVariants.{Staff, Member as Of}
 use Rattle.ixp_registry.specs.contracts.members.OwnerOrd.TheImpl as owner_ord
 use Rattle.ixp_num.specs.AddressForms.{version_of}
-use Rattle.ixp_registry.specs.Places.{same}
-use Rattle.ixp_registry.specs.Rules.{owner_numbers, addr_numbers}
+use Rattle.ixp_tables.specs.Tables.{same}
+use Rattle.ixp_registry.specs.Words.{addr_numbers, owner_numbers}
 
 then_equal : (o : Ordering) → o ≡ ordering_then o Equal
 then_equal Less = refl

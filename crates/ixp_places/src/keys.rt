@@ -2,8 +2,8 @@
 ghost use Rattle.std.specs.Prelude.{◌≡◌, ℕ, [], ◌∷◌, List};
 ghost use Rattle.std.specs.Ordering.{is_eq};
 ghost use Rattle.ixp_num.specs.AddressForms.{version_of};
-ghost use Rattle.ixp_registry.specs.Places.{same};
-ghost use Rattle.ixp_registry.specs.Rules.{owner_numbers, addr_numbers};
+ghost use Rattle.ixp_tables.specs.Tables.{same};
+ghost use Rattle.ixp_registry.specs.Words.{addr_numbers, owner_numbers};
 ghost use Rattle.ixp_places.specs.Told.{number_told, pair_told, owner_told, addr_told, text_told};
 
 use ixp_num::{Addr, Family};

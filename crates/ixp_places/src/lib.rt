@@ -21,7 +21,8 @@ pub use lines::{
     switches_at, transit_at, vlans_at,
 };
 pub use lookups::{
-    column, has_interface, has_left, has_member, has_owner, has_port, has_switch, has_vlan,
-    is_connected, is_host, is_host_at, is_host_in, is_host_of, is_port_of, same_addr,
+    column, has_addr, has_blackhole, has_interface, has_left, has_member, has_owner, has_port,
+    has_switch, has_vlan, is_connected, is_host, is_host_at, is_host_in, is_host_of,
+    is_member_connected, is_port_of, prefix_in, same_addr,
 };
 pub use places::{earliest, first};

@@ -2,61 +2,65 @@
 ghost use Rattle.std.specs.Prelude.{◌≡◌, ◌+◌, ◌-◌, ◌^◌, ◌&&◌, ◌==◌, false};
 ghost use Rattle.ixp_num.specs.declared.family.Family.TheVariants.{V4};
 ghost use Rattle.ixp_num.specs.Families.{bits_of, same_family};
-ghost use Rattle.ixp_registry.specs.Lookups.{if_there, has_member, has_switch, has_port, has_vlan, has_interface, has_owner, is_port_of, is_left, is_connected, has_left, column, is_edge, is_host, is_host_in, is_host_at, same_addr};
+ghost use Rattle.ixp_registry.specs.Lookups.{has_member, has_switch, has_port, has_vlan, has_interface, has_owner, is_port_of, is_left, is_connected, has_left, is_member_connected, column, prefix_in, is_edge, is_host, is_host_in, is_host_at, same_addr, is_at, has_addr, has_blackhole};
+ghost use Rattle.ixp_tables.specs.Tables.{if_there};
 
 use ixp_num::{Addr, Family, Prefix};
-use ixp_registry::{Owner, Rows, Status, Vlan};
+use ixp_registry::{
+    IfAddr, Interface, InterfaceRow, Member, Owner, Port, Router, Status, Switch, Vlan,
+};
+use ixp_tables::Table;
 
 /// Whether there is a member with the number.
-pub fn has_member(rows: &Rows, number: u32) -> bool
-    ensures { result ≡ has_member rows.now number }
+pub fn has_member(members: &Table<Member>, number: u32) -> bool
+    ensures { result ≡ has_member members.now number }
 {
-    rows.members.find(&number).is_some()
+    members.find(&number).is_some()
 }
 
 /// Whether there is a switch with the number.
-pub fn has_switch(rows: &Rows, number: u32) -> bool
-    ensures { result ≡ has_switch rows.now number }
+pub fn has_switch(switches: &Table<Switch>, number: u32) -> bool
+    ensures { result ≡ has_switch switches.now number }
 {
-    rows.switches.find(&number).is_some()
+    switches.find(&number).is_some()
 }
 
 /// Whether there is a port with the number.
-pub fn has_port(rows: &Rows, number: u32) -> bool
-    ensures { result ≡ has_port rows.now number }
+pub fn has_port(ports: &Table<Port>, number: u32) -> bool
+    ensures { result ≡ has_port ports.now number }
 {
-    rows.ports.find(&number).is_some()
+    ports.find(&number).is_some()
 }
 
 /// Whether there is a VLAN with the number.
-pub fn has_vlan(rows: &Rows, number: u32) -> bool
-    ensures { result ≡ has_vlan rows.now number }
+pub fn has_vlan(vlans: &Table<Vlan>, number: u32) -> bool
+    ensures { result ≡ has_vlan vlans.now number }
 {
-    rows.vlans.find(&number).is_some()
+    vlans.find(&number).is_some()
 }
 
 /// Whether there is an interface with the number.
-pub fn has_interface(rows: &Rows, number: u32) -> bool
-    ensures { result ≡ has_interface rows.now number }
+pub fn has_interface(interfaces: &Table<InterfaceRow>, number: u32) -> bool
+    ensures { result ≡ has_interface interfaces.now number }
 {
-    rows.interfaces.find(&number).is_some()
+    interfaces.find(&number).is_some()
 }
 
 /// Whether the key's owner is there. Staff have no rows.
-pub fn has_owner(rows: &Rows, owner: Owner) -> bool
-    ensures { result ≡ has_owner rows.now owner }
+pub fn has_owner(members: &Table<Member>, owner: Owner) -> bool
+    ensures { result ≡ has_owner members.now owner }
 {
     match owner {
         Owner::Staff(_) => true,
-        Owner::Member(number) => has_member(rows, number),
+        Owner::Member(number) => has_member(members, number),
     }
 }
 
 /// Whether the port is there and belongs to the member.
-pub fn is_port_of(rows: &Rows, port: u32, member: u32) -> bool
-    ensures { result ≡ is_port_of rows.now port member }
+pub fn is_port_of(ports: &Table<Port>, port: u32, member: u32) -> bool
+    ensures { result ≡ is_port_of ports.now port member }
 {
-    match rows.ports.find(&port) {
+    match ports.find(&port) {
         Some(port) => port.member == member,
         None => false,
     }
@@ -82,11 +86,21 @@ pub fn is_connected(status: Status) -> bool
 }
 
 /// Whether the member is there and has left.
-pub fn has_left(rows: &Rows, number: u32) -> bool
-    ensures { result ≡ has_left rows.now number }
+pub fn has_left(members: &Table<Member>, number: u32) -> bool
+    ensures { result ≡ has_left members.now number }
 {
-    match rows.members.find(&number) {
+    match members.find(&number) {
         Some(member) => is_left(member.status),
+        None => false,
+    }
+}
+
+/// Whether the member is there and connected.
+pub fn is_member_connected(members: &Table<Member>, number: u32) -> bool
+    ensures { result ≡ is_member_connected members.now number }
+{
+    match members.find(&number) {
+        Some(member) => is_connected(member.status),
         None => false,
     }
 }
@@ -134,22 +148,37 @@ pub fn is_host_of(vlan: &Vlan, family: Family, addr: &Addr) -> bool
     }
 }
 
-/// Whether an interface or a router in the VLAN may have the address.
-pub fn is_host_in(rows: &Rows, vlan: u32, family: Family, addr: &Addr) -> bool
-    ensures { result ≡ is_host_in rows.now vlan family addr.now }
+/// The prefix that the VLAN has for a family, where both are there.
+pub fn prefix_in(vlans: &Table<Vlan>, vlan: u32, family: Family) -> Option<Prefix>
+    ensures { result ≡ prefix_in vlans.now vlan family }
 {
-    match rows.vlans.find(&vlan) {
+    match vlans.find(&vlan) {
+        Some(vlan) => column(family, vlan),
+        None => None,
+    }
+}
+
+/// Whether an interface or a router in the VLAN may have the address.
+pub fn is_host_in(vlans: &Table<Vlan>, vlan: u32, family: Family, addr: &Addr) -> bool
+    ensures { result ≡ is_host_in vlans.now vlan family addr.now }
+{
+    match vlans.find(&vlan) {
         Some(vlan) => is_host_of(vlan, family, addr),
         None => false,
     }
 }
 
 /// Whether the interface is there and may have the address.
-pub fn is_host_at(rows: &Rows, interface: u32, addr: &Addr) -> bool
-    ensures { result ≡ is_host_at rows.now interface addr.now }
+pub fn is_host_at(
+    vlans: &Table<Vlan>,
+    interfaces: &Table<InterfaceRow>,
+    interface: u32,
+    addr: &Addr,
+) -> bool
+    ensures { result ≡ is_host_at vlans.now interfaces.now interface addr.now }
 {
-    match rows.interfaces.find(&interface) {
-        Some(interface) => is_host_in(rows, interface.vlan, addr.family, addr),
+    match interfaces.find(&interface) {
+        Some(interface) => is_host_in(vlans, interface.vlan, addr.family, addr),
         None => false,
     }
 }
@@ -159,4 +188,30 @@ pub fn same_addr(one: &Addr, other: &Addr) -> bool
     ensures { result ≡ same_addr one.now other.now }
 {
     one.family == other.family && one.value == other.value
+}
+
+fn is_at(address: &Option<IfAddr>, addr: &Addr) -> bool
+    ensures { result ≡ is_at addr.now address.now }
+{
+    match address {
+        Some(address) => same_addr(&address.addr, addr),
+        None => false,
+    }
+}
+
+/// Whether the address is one of the interface's.
+pub fn has_addr(interface: &Interface, addr: &Addr) -> bool
+    ensures { result ≡ has_addr addr.now interface.now }
+{
+    is_at(&interface.v4, addr) || is_at(&interface.v6, addr)
+}
+
+/// Whether the address is the router's for its blackhole.
+pub fn has_blackhole(router: &Router, addr: &Addr) -> bool
+    ensures { result ≡ has_blackhole router.now addr.now }
+{
+    match &router.blackhole {
+        Some(blackhole) => same_addr(blackhole, addr),
+        None => false,
+    }
 }

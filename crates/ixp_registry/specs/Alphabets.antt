@@ -1,5 +1,5 @@
 -- The alphabets and lengths of texts.
-use Rattle.std.specs.Prelude.{ℕ, Bool, List, [], ◌∷◌, length, ◌&&◌, ◌||◌, ◌==◌, not, true, false, nat_le}
+use Rattle.std.specs.Prelude.{ℕ, Bool, List, [], ◌∷◌, length, ◌&&◌, ◌||◌, ◌==◌, false, nat_le}
 use Rattle.std.specs.List.{list_all}
 use Rattle.std.specs.Str.{is_utf8}
 use Rattle.ixp_num.specs.Names.{is_within}

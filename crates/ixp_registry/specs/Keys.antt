@@ -1,11 +1,8 @@
 -- The keys of the rows, in the order of a dump's lines: numbers by value, texts by bytes, addresses and prefixes with
--- IPv4 first.
+-- IPv4 first. Those of the items of public lists stand in ixp_sorted.
 use Rattle.std.specs.Prelude.{ℕ, List, [], ◌∷◌}
 use Rattle.ixp_num.specs.AddressForms.{version_of}
-use Rattle.ixp_num.specs.declared.prefix.Prefix.{Prefix}
-use Rattle.ixp_num.specs.declared.pattern.Pattern.{Pattern}
-use Rattle.ixp_num.specs.declared.roa.Roa.{Roa}
-use Rattle.ixp_num.specs.declared.asn.Asn.{Asn}
+use Rattle.ixp_sorted.specs.Keys.{prefix_key}
 use Rattle.ixp_registry.specs.declared.members.Member.{Member}
 use Rattle.ixp_registry.specs.declared.members.Contact.{Contact}
 use Rattle.ixp_registry.specs.declared.members.ApiKey.{ApiKey}
@@ -21,9 +18,7 @@ use Rattle.ixp_registry.specs.declared.lists.OriginList.{OriginList}
 use Rattle.ixp_registry.specs.declared.lists.MemberPrefix.{MemberPrefix}
 use Rattle.ixp_registry.specs.declared.lists.MemberOrigin.{MemberOrigin}
 use Rattle.ixp_registry.specs.declared.rules.MemberRule.{MemberRule}
-
-abbrev pub prefix_numbers : Prefix → List ℕ
-prefix_numbers p = version_of p.family ∷ p.value ∷ p.len ∷ []
+use Rattle.ixp_registry.specs.declared.rules.RuleList.{RuleList}
 
 abbrev pub member_key : Member → List ℕ
 member_key m = m.number ∷ []
@@ -62,22 +57,13 @@ abbrev pub origins_key : OriginList → List ℕ
 origins_key l = l.member ∷ version_of l.family ∷ []
 
 abbrev pub member_prefix_key : MemberPrefix → List ℕ
-member_prefix_key p = p.member ∷ prefix_numbers p.prefix
+member_prefix_key p = p.member ∷ prefix_key p.prefix
 
 abbrev pub member_origin_key : MemberOrigin → List ℕ
 member_origin_key o = o.member ∷ version_of o.family ∷ o.asn.0 ∷ []
 
+abbrev pub rules_key : RuleList → List ℕ
+rules_key l = l.member ∷ []
+
 abbrev pub rule_key : MemberRule → List ℕ
 rule_key r = r.member ∷ r.place ∷ []
-
-abbrev pub bogon_key : Pattern → List ℕ
-bogon_key p = version_of p.prefix.family ∷ p.prefix.value ∷ p.prefix.len ∷ p.low ∷ p.high ∷ []
-
-abbrev pub bogon_as_key : Asn × Asn → List ℕ
-bogon_as_key r = r.0.0 ∷ r.1.0 ∷ []
-
-abbrev pub transit_key : Asn → List ℕ
-transit_key a = a.0 ∷ []
-
-abbrev pub roa_key : Roa → List ℕ
-roa_key r = version_of r.prefix.family ∷ r.prefix.value ∷ r.prefix.len ∷ r.max ∷ r.asn.0 ∷ []

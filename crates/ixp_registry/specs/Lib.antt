@@ -1,9 +1,14 @@
 pub mod Alphabets
+pub mod Codes
 pub mod Keys
+pub mod Kinds
 pub mod Lines
 pub mod Lookups
 pub mod Places
 pub mod Registries
 pub mod Rules
 pub mod Sessions
-pub mod Kinds
+pub mod Valid
+pub mod Weight
+pub mod Widths
+pub mod Words

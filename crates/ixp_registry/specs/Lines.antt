@@ -1,5 +1,5 @@
 -- On which line of a dump the first row of each kind stands. Line 1 is the dump's head, line 2 the site's.
-use Rattle.std.specs.Prelude.{ℕ, List, length, ◌+◌}
+use Rattle.std.specs.Prelude.{ℕ, length, ◌+◌}
 use Rattle.ixp_registry.specs.declared.rows.Rows.{Rows}
 
 abbrev pub site_at : ℕ

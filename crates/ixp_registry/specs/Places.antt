@@ -1,7 +1,7 @@
 -- Where the first row stands that breaks a sentence. Places are the numbers of lines in a dump, the first line being 1.
-use Rattle.std.specs.Prelude.{ℕ, suc, Bool, List, [], ◌∷◌, ◌++◌, length, ◌+◌, Option, Some, None, nat_le, min, ◌==◌, if◌then◌else◌, option_map}
+use Rattle.std.specs.Prelude.{ℕ, suc, Bool, List, [], ◌∷◌, ◌++◌, length, ◌+◌, Option, Some, None, nat_le, min, if◌then◌else◌, option_map}
 use Rattle.std.specs.List.{position}
-use Rattle.std.specs.Cmp.Lexicographic.{pointwise}
+use Rattle.ixp_tables.specs.Tables.{same}
 
 -- the first row that breaks it, where the first row of the list stands at `start`
 abbrev pub first : {R : Type 0} → ℕ → (R → Bool) → List R → Option ℕ
@@ -23,9 +23,6 @@ first_beside_from last start breaks (r ∷ rs) = if breaks last r then Some star
 
 abbrev pub first_beside : {R : Type 0} → ℕ → (Option R → R → Bool) → List R → Option ℕ
 first_beside = first_beside_from None
-
-abbrev pub same : List ℕ → List ℕ → Bool
-same = pointwise (λ a b. a == b)
 
 -- how often a key stands in a list
 abbrev pub times : List ℕ → List (List ℕ) → ℕ

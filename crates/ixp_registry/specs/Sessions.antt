@@ -1,6 +1,6 @@
 -- The sessions of a route server, and what members' rules say.
-use Rattle.std.specs.Prelude.{ℕ, Bool, List, [], ◌∷◌, ◌&&◌, ◌||◌, ◌==◌, not, true, false, Option, Some, None, if◌then◌else◌, filter}
-use Rattle.ixp_tables.specs.Tables.{find}
+use Rattle.std.specs.Prelude.{ℕ, Bool, List, [], ◌∷◌, ◌&&◌, ◌==◌, not, true, false, Option, Some, None, if◌then◌else◌, filter}
+use Rattle.ixp_tables.specs.Tables.{find, if_there}
 use Rattle.ixp_num.specs.AddressForms.{version_of}
 use Rattle.ixp_num.specs.declared.family.Family.{Family}
 use Rattle.ixp_num.specs.declared.family.Family.TheVariants.{V4, V6}
@@ -17,21 +17,18 @@ use Rattle.ixp_registry.specs.declared.rules.Way.TheVariants.{Advertise, Receive
 use Rattle.ixp_registry.specs.declared.rules.Action.{Action}
 use Rattle.ixp_registry.specs.declared.rules.Action.TheVariants.{AsIs, Prepend, Stop}
 use Rattle.ixp_registry.specs.declared.registry.Registry.{Registry}
-use Rattle.ixp_registry.specs.Keys.{member_key, interface_key, irr_key, origins_key}
-use Rattle.ixp_registry.specs.Lookups.{if_there, is_connected}
+use Rattle.ixp_registry.specs.Keys.{member_key, interface_key, irr_key, origins_key, rules_key}
+use Rattle.ixp_registry.specs.Lookups.{is_member_connected}
 
 -- the interface's address of a family
 abbrev pub address_of : Family → Interface → Option IfAddr
 address_of V4 i = i.v4
 address_of V6 i = i.v6
 
-abbrev pub is_member_connected : Registry → ℕ → Bool
-is_member_connected r n = if_there (find member_key (n ∷ []) r.members) false (λ m. is_connected m.status)
-
 -- an interface in the router's VLAN that has an address of its family for the route servers, of a connected member
 abbrev pub is_session : Registry → Router → Interface → Bool
 is_session r router i =
-    i.vlan == router.vlan && if_there (address_of router.family i) false (λ a. a.rs) && is_member_connected r i.member
+    i.vlan == router.vlan && if_there (address_of router.family i) false (λ a. a.rs) && is_member_connected r.members i.member
 
 -- the sessions of a router, by number of interface
 abbrev pub sessions_of : Registry → Router → List Interface
@@ -46,10 +43,10 @@ pub record Session : Type 0 where
   pub origins : List Asn
   pub rules : List MemberRule
 
-abbrev pub rules_of : Registry → ℕ → List MemberRule
-rules_of r member = filter (λ x. x.member == member) r.rules
-
 -- a member without a list counts as one whose list is empty
+abbrev pub rules_of : Registry → ℕ → List MemberRule
+rules_of r member = if_there (find rules_key (member ∷ []) r.rules) [] (λ l. l.rules)
+
 abbrev pub prefixes_in : Registry → ℕ → Family → List Prefix
 prefixes_in r member family = if_there (find irr_key (member ∷ version_of family ∷ []) r.irr) [] (λ l. l.prefixes)
 

@@ -1,4 +1,6 @@
 //! The kinds of edits.
+ghost use Rattle.std.specs.Prelude.{◌≡◌};
+ghost use Rattle.ixp_registry.specs.Codes.{edit_word};
 
 /// A kind of edits.
 #[derive(Clone, Copy, Debug, PartialEq, Eq)]
@@ -33,7 +35,9 @@ pub enum EditKind {
 
 impl EditKind {
     /// The word that is printed and stored.
-    pub fn word(self) -> &'static str {
+    pub fn word(self) -> &'static str
+        ensures { result.now ≡ edit_word self }
+    {
         match self {
             EditKind::AddMember => "AddMember",
             EditKind::RenameMember => "RenameMember",

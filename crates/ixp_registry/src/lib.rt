@@ -3,11 +3,12 @@
 //! [`Registry`] is what the program keeps: the site, its members with their contacts, API keys, ports and
 //! interfaces, the VLANs, the route servers, the lists that filters are made of, and the public lists.
 //! [`Rows`] are the same rows as they stand in a dump or a store, one kind of row after the other, each with
-//! its key. `specs/Rules.antt` says which rows are valid, a sentence for each rule, and where the first row
-//! stands that breaks it; `specs/Registries.antt` what a registry's rows are.
+//! its key. `specs/Valid.antt` says which registries are valid, table by table; `specs/Rules.antt` the same as rules
+//! over rows, with the line of the first row that breaks one; `specs/Registries.antt` what a registry's rows are.
 #![tactic(auto)]
 
 mod breach;
+mod copies;
 mod edit_kind;
 mod handle;
 mod kind;
@@ -32,5 +33,5 @@ pub use refusal::{Limited, Refusal, Right, RowKey, TextField};
 pub use registry::Registry;
 pub use router::Router;
 pub use rows::Rows;
-pub use rules::{Action, MemberRule, Way};
+pub use rules::{Action, MemberRule, RuleList, Way};
 pub use site::Site;

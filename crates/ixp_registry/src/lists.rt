@@ -1,9 +1,11 @@
 //! The lists that filters are made of.
 ghost use Rattle.std.specs.Prelude.{[], ◌∷◌};
-ghost use Rattle.ixp_registry.specs.Keys.{irr_key, origins_key, member_prefix_key, member_origin_key, prefix_numbers};
+ghost use Rattle.ixp_registry.specs.Keys.{irr_key, origins_key, member_prefix_key, member_origin_key};
+ghost use Rattle.ixp_sorted.specs.Keys.{prefix_key};
 ghost use Rattle.ixp_num.specs.AddressForms.{version_of};
 
 use ixp_num::{Asn, Family, Items, Pattern, Prefix, Roa};
+use ixp_sorted::Sorted;
 use ixp_tables::Row;
 use std::cmp::Ordering;
 
@@ -71,7 +73,7 @@ impl Row for MemberPrefix {
 
     ghost key_of = { member_prefix_key };
 
-    ghost named = { λ k. k.0 ∷ prefix_numbers k.1 };
+    ghost named = { λ k. k.0 ∷ prefix_key k.1 };
 
     fn compare(&self, key: &(u32, Prefix)) -> Ordering {
         self.member.cmp(&key.0).then(self.prefix.cmp(&key.1))
@@ -118,10 +120,10 @@ impl Row for MemberOrigin {
 #[derive(Debug, Drop)]
 pub struct PublicLists {
     /// Nets that nobody may announce.
-    pub bogons: Items<Pattern>,
+    pub bogons: Sorted<Pattern>,
     /// Ranges of AS numbers, first and last, that may stand in no path.
-    pub bogon_as: Items<(Asn, Asn)>,
+    pub bogon_as: Sorted<(Asn, Asn)>,
     /// AS numbers that buy no transit, and so stand in no other member's paths.
-    pub transit: Items<Asn>,
-    pub roas: Items<Roa>,
+    pub transit: Sorted<Asn>,
+    pub roas: Sorted<Roa>,
 }

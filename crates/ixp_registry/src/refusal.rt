@@ -1,4 +1,7 @@
 //! Why an edit is refused.
+ghost use Rattle.std.specs.Prelude.{◌≡◌};
+ghost use Rattle.ixp_registry.specs.Codes.{field_word, limited_word, refusal_code};
+
 use crate::{EditKind, Handle, Kind, Status};
 use ixp_num::{Asn, Family};
 
@@ -121,7 +124,9 @@ pub enum Refusal {
 
 impl TextField {
     /// The name of the field in an edit's body, which is printed.
-    pub fn word(self) -> &'static str {
+    pub fn word(self) -> &'static str
+        ensures { result.now ≡ field_word self }
+    {
         match self {
             TextField::Name => "name",
             TextField::Macro => "macro",
@@ -135,7 +140,9 @@ impl TextField {
 
 impl Limited {
     /// The word that is printed.
-    pub fn word(self) -> &'static str {
+    pub fn word(self) -> &'static str
+        ensures { result.now ≡ limited_word self }
+    {
         match self {
             Limited::Rows(kind) => kind.word(),
             Limited::Weight => "weight",
@@ -145,7 +152,9 @@ impl Limited {
 
 impl Refusal {
     /// The code that is printed.
-    pub fn code(&self) -> &'static str {
+    pub fn code(&self) -> &'static str
+        ensures { result.now ≡ refusal_code self.now }
+    {
         match self {
             Refusal::NoKey => "X0",
             Refusal::Denied { .. } => "X1",

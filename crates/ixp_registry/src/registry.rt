@@ -1,12 +1,11 @@
 //! The registry.
 use crate::{
-    ApiKey, Contact, Interface, IrrList, Member, MemberRule, OriginList, Port, PublicLists, Router,
+    ApiKey, Contact, Interface, IrrList, Member, OriginList, Port, PublicLists, Router, RuleList,
     Site, Switch, Vlan,
 };
 use ixp_tables::Table;
 
-/// All that the exchange has on record. A valid one is a registry whose rows break no rule
-/// (`specs/Registries.antt`).
+/// All that the exchange has on record. `specs/Valid.antt` says which registries are valid.
 #[derive(Drop)]
 pub struct Registry {
     pub site: Site,
@@ -20,6 +19,6 @@ pub struct Registry {
     pub routers: Table<Router>,
     pub irr: Table<IrrList>,
     pub origins: Table<OriginList>,
-    pub rules: Table<MemberRule>,
+    pub rules: Table<RuleList>,
     pub public: PublicLists,
 }

@@ -1,8 +1,8 @@
 //! The members' own rules.
 ghost use Rattle.std.specs.Prelude.{[], ◌∷◌};
-ghost use Rattle.ixp_registry.specs.Keys.{rule_key};
+ghost use Rattle.ixp_registry.specs.Keys.{rules_key, rule_key};
 
-use ixp_num::{Asn, Prefix};
+use ixp_num::{Asn, Items, Prefix};
 use ixp_tables::Row;
 use std::cmp::Ordering;
 
@@ -51,5 +51,28 @@ impl Row for MemberRule {
         self.member
             .cmp(&other.member)
             .then(self.place.cmp(&other.place))
+    }
+}
+
+/// The rules of a member, in their order: the places are 1, 2 and so on.
+#[derive(Debug, Drop)]
+pub struct RuleList {
+    pub member: u32,
+    pub rules: Items<MemberRule>,
+}
+
+impl Row for RuleList {
+    type Key = u32;
+
+    ghost key_of = { rules_key };
+
+    ghost named = { λ n. n ∷ [] };
+
+    fn compare(&self, key: &u32) -> Ordering {
+        self.member.cmp(key)
+    }
+
+    fn order(&self, other: &RuleList) -> Ordering {
+        self.member.cmp(&other.member)
     }
 }

@@ -1,5 +1,5 @@
 -- Rows of interfaces and of lists that ascend do so themselves.
-use Rattle.std.proofs.Common.{◌≡◌, ℕ, ◌<◌, ◌⊎◌, inl, inr, List, [], ◌∷◌, ◌++◌, map, flat_map, Option, Some, None, refl, sym, ◌∙◌, subst}
+use Rattle.std.proofs.Common.{◌≡◌, ℕ, suc, ◌<◌, ◌⊎◌, arith, inl, inr, List, [], ◌∷◌, ◌++◌, map, flat_map, Option, Some, None, refl, sym, ◌∙◌, subst}
 use Rattle.std.specs.List.{AllByRecursion}
 use Rattle.std.specs.declared.cmp.Ordering.{Ordering}
 use Rattle.std.specs.declared.cmp.Ordering.TheVariants.{Less, Equal}
@@ -16,9 +16,15 @@ use Rattle.ixp_registry.specs.declared.lists.IrrList.{IrrList}
 use Rattle.ixp_registry.specs.declared.lists.OriginList.{OriginList}
 use Rattle.ixp_registry.specs.declared.lists.MemberPrefix.{MemberPrefix}
 use Rattle.ixp_registry.specs.declared.lists.MemberOrigin.{MemberOrigin}
-use Rattle.ixp_registry.specs.Keys.{prefix_numbers, transit_key, address_key, interface_row_key, interface_key, irr_key, origins_key, member_prefix_key, member_origin_key}
-use Rattle.ixp_registry.specs.Registries.{bare, addresses_of, address_rows, IsIn, prefixes_of, origins_of, IsPrefixList, IsOriginList}
-use Rattle.ixp_rows.proofs.Gathered.{all_joined, key_up, same_first, less_first}
+use Rattle.ixp_registry.specs.Keys.{address_key, interface_row_key, interface_key, irr_key, origins_key, member_prefix_key, member_origin_key, rules_key, rule_key}
+use Rattle.ixp_sorted.specs.Keys.{prefix_key, asn_key}
+use Rattle.ixp_registry.specs.declared.rules.MemberRule.{MemberRule}
+use Rattle.ixp_registry.specs.declared.rules.RuleList.{RuleList}
+use Rattle.ixp_registry.specs.Registries.{bare, addresses_of, address_rows, prefixes_of, origins_of, rules_in}
+use Rattle.ixp_registry.specs.Valid.{IsIn, ArePlaced, ValidRuleList}
+use Rattle.ixp_validity.specs.WellFormed.{IsPrefixList, IsOriginList}
+use Rattle.ixp_tables.proofs.FirstNumbers.{key_up, same_first, less_first}
+use Rattle.ixp_rows.proofs.Gathered.{all_joined}
 
 never_less : {X : Type 0} → order [] [] ≡ Less → X
 never_less e = absurd (let h : ◌≡◌ {A = Ordering} Equal Less = e in cc)
@@ -124,14 +130,14 @@ prefixes_apart l m r s of_l of_m e =
     rw (of_l.0, of_l.1, of_m.0, of_m.1)
     (two_up l.member (version_of l.family) m.member (version_of m.family) (r.prefix.value ∷ r.prefix.len ∷ []) (s.prefix.value ∷ s.prefix.len ∷ []) e)
 
-prefix_rows_up : (n : ℕ) (ps : List Prefix) → Ascends prefix_numbers ps → Ascends member_prefix_key (map (λ p. record { member = n; prefix = p }) ps)
+prefix_rows_up : (n : ℕ) (ps : List Prefix) → Ascends prefix_key ps → Ascends member_prefix_key (map (λ p. record { member = n; prefix = p }) ps)
 prefix_rows_up n [] up = tt
 prefix_rows_up n (p ∷ ps) up = (each ps up.0, prefix_rows_up n ps up.1)
   where
-    each : (qs : List Prefix) → AllByRecursion (λ q. order (prefix_numbers p) (prefix_numbers q) ≡ Less) qs
-        → AllByRecursion (λ s. order (n ∷ prefix_numbers p) (member_prefix_key s) ≡ Less) (map (λ p. record { member = n; prefix = p }) qs)
+    each : (qs : List Prefix) → AllByRecursion (λ q. order (prefix_key p) (prefix_key q) ≡ Less) qs
+        → AllByRecursion (λ s. order (n ∷ prefix_key p) (member_prefix_key s) ≡ Less) (map (λ p. record { member = n; prefix = p }) qs)
     each [] all = tt
-    each (q ∷ qs) all = (same_first n (prefix_numbers p) (prefix_numbers q) ∙ all.0, each qs all.1)
+    each (q ∷ qs) all = (same_first n (prefix_key p) (prefix_key q) ∙ all.0, each qs all.1)
 
 its_prefixes : (l : IrrList) (ps : List Prefix) → AllByRecursion (λ p. p.family ≡ l.family) ps → AllByRecursion (PrefixOf l) (map (λ p. record { member = l.member; prefix = p }) ps)
 its_prefixes l [] all = tt
@@ -153,17 +159,17 @@ OriginOf l r = (r.member ≡ l.member) × (r.family ≡ l.family)
 
 origins_apart : (l m : OriginList) (r s : MemberOrigin) → OriginOf l r → OriginOf m s → order (origins_key l) (origins_key m) ≡ Less → order (member_origin_key r) (member_origin_key s) ≡ Less
 origins_apart l m r s of_l of_m e =
-    rw (of_l.0, of_l.1, of_m.0, of_m.1) (two_up l.member (version_of l.family) m.member (version_of m.family) (transit_key r.asn) (transit_key s.asn) e)
+    rw (of_l.0, of_l.1, of_m.0, of_m.1) (two_up l.member (version_of l.family) m.member (version_of m.family) (asn_key r.asn) (asn_key s.asn) e)
 
-origin_rows_up : (n : ℕ) (f : Family) (asns : List Asn) → Ascends transit_key asns → Ascends member_origin_key (map (λ a. record { member = n; family = f; asn = a }) asns)
+origin_rows_up : (n : ℕ) (f : Family) (asns : List Asn) → Ascends asn_key asns → Ascends member_origin_key (map (λ a. record { member = n; family = f; asn = a }) asns)
 origin_rows_up n f [] up = tt
 origin_rows_up n f (a ∷ asns) up = (each asns up.0, origin_rows_up n f asns up.1)
   where
-    each : (bs : List Asn) → AllByRecursion (λ b. order (transit_key a) (transit_key b) ≡ Less) bs
-        → AllByRecursion (λ s. order (n ∷ version_of f ∷ transit_key a) (member_origin_key s) ≡ Less) (map (λ a. record { member = n; family = f; asn = a }) bs)
+    each : (bs : List Asn) → AllByRecursion (λ b. order (asn_key a) (asn_key b) ≡ Less) bs
+        → AllByRecursion (λ s. order (n ∷ version_of f ∷ asn_key a) (member_origin_key s) ≡ Less) (map (λ a. record { member = n; family = f; asn = a }) bs)
     each [] all = tt
     each (b ∷ bs) all = (
-      same_first n (version_of f ∷ transit_key a) (version_of f ∷ transit_key b) ∙ (same_first (version_of f) (transit_key a) (transit_key b) ∙ all.0),
+      same_first n (version_of f ∷ asn_key a) (version_of f ∷ asn_key b) ∙ (same_first (version_of f) (asn_key a) (asn_key b) ∙ all.0),
       each bs all.1,
     )
 
@@ -180,3 +186,34 @@ origins_up ls up lists = flat_up origins_key member_origin_key origins_of Origin
     each : (ls : List OriginList) → AllByRecursion IsOriginList ls → AllByRecursion OriginsStand ls
     each [] all = tt
     each (l ∷ ls) all = ((origin_rows_up l.member l.family l.asns all.0.1, its_origins l l.asns), each ls all.1)
+
+-- Rules
+abbrev RuleOf : RuleList → MemberRule → Type 0
+RuleOf l x = x.member ≡ l.member
+
+rules_apart : (l m : RuleList) (x y : MemberRule) → RuleOf l x → RuleOf m y → order (rules_key l) (rules_key m) ≡ Less → order (rule_key x) (rule_key y) ≡ Less
+rules_apart l m x y of_l of_m e = rw (of_l, of_m) (one_up l.member m.member (x.place ∷ []) (y.place ∷ []) e)
+
+place_above : (m a b : ℕ) → a < b → order (m ∷ a ∷ []) (m ∷ b ∷ []) ≡ Less
+place_above m a b lt = same_first m (a ∷ []) (b ∷ []) ∙ less_first a b [] [] lt
+
+-- the rules behind one are above it
+placed_above : (m a n : ℕ) (xs : List MemberRule) → a < n → AllByRecursion (λ x. x.member ≡ m) xs → ArePlaced n xs → AllByRecursion (λ x. order (m ∷ a ∷ []) (rule_key x) ≡ Less) xs
+placed_above m a n [] lt own placed = tt
+placed_above m a n (x ∷ xs) lt own placed =
+    (rw (own.0, placed.0) (place_above m a n lt), placed_above m a (suc n) xs (omega (arith, lt)) own.1 placed.1)
+
+placed_up : (m n : ℕ) (xs : List MemberRule) → AllByRecursion (λ x. x.member ≡ m) xs → ArePlaced n xs → Ascends rule_key xs
+placed_up m n [] own placed = tt
+placed_up m n (x ∷ xs) own placed =
+    (rw (own.0, placed.0) (placed_above m n (suc n) xs (omega arith) own.1 placed.1), placed_up m (suc n) xs own.1 placed.1)
+
+abbrev RulesStand : RuleList → Type 0
+RulesStand = Stands rules_key rule_key rules_in RuleOf rules_apart
+
+pub rules_up : (ls : List RuleList) → Ascends rules_key ls → AllByRecursion ValidRuleList ls → Ascends rule_key (flat_map rules_in ls)
+rules_up ls up lists = flat_up rules_key rule_key rules_in RuleOf rules_apart ls up (each ls lists)
+  where
+    each : (ls : List RuleList) → AllByRecursion ValidRuleList ls → AllByRecursion RulesStand ls
+    each [] all = tt
+    each (l ∷ ls) all = ((placed_up l.member 1 l.rules all.0.member all.0.places, all.0.member), each ls all.1)

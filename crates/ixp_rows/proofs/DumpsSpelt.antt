@@ -1,8 +1,8 @@
 -- What is read of a dump is its text.
-use Rattle.std.proofs.Common.{◌≡◌, ℕ, suc, ◌+◌, Bool, true, false, List, [], ◌∷◌, ◌++◌, length, take, drop, append_assoc, append-nil, map, flat_map, Option, Some, None, Result, Ok, Err, refl, sym, ap, ◌∙◌, subst, arith, if◌then◌else◌}
+use Rattle.std.proofs.Common.{◌≡◌, ℕ, suc, Bool, true, false, List, [], ◌∷◌, ◌++◌, length, take, drop, append_assoc, append-nil, Option, Some, None, Result, Ok, Err, refl, sym, ap, ◌∙◌, if◌then◌else◌}
 use Rattle.ixp_registry.specs.declared.router.Router.{Router}
 use Rattle.ixp_registry.specs.declared.rows.Rows.{Rows}
-use Rattle.ixp_registry.specs.Places.{same}
+use Rattle.ixp_tables.specs.Tables.{same}
 use Rattle.ixp_registry.specs.declared.kind.Kind.{Kind}
 use Rattle.ixp_registry.specs.declared.kind.Kind.TheVariants.{Sites, Members, Contacts, Keys, Switches, Ports, Vlans, Interfaces, Addresses, Routers, Prefixes, Origins, Rules, Bogons, BogonAs, Transit, Roas}
 use Rattle.ixp_lines.specs.declared.version.Version.{Version}
@@ -13,7 +13,7 @@ use Rattle.ixp_rows.specs.declared.misread.Misread.{Misread}
 use Rattle.ixp_rows.specs.declared.misread.Misread.TheVariants.{Bad}
 use Rattle.ixp_rows.specs.Reading.{◌>>=◌, begun, needed, unless, line_at, section, sections_at, lists_at, rows_at, head_text, after_text, end_text, ended_with, ended, stray, total, dump_at, owner_kinds, network_kinds, steering_kinds, public_kinds}
 use Rattle.ixp_rows.specs.Groups.{fields_by, row_fields}
-use Rattle.ixp_rows.specs.Texts.{lines_by, lines_text, rows_count, dump_text}
+use Rattle.ixp_rows.specs.Texts.{lines_by, lines_text, dump_text}
 use Rattle.ixp_lines.proofs.Spelling.{some_is, none_some}
 use Rattle.ixp_rows.proofs.Counts.{total_rows}
 use Rattle.ixp_rows.proofs.Spelt.{ok_is, err_ok, front_found, line_found, texts, rows_found}

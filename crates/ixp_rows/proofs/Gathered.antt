@@ -1,17 +1,18 @@
 -- Addresses of interfaces, and rows of lists.
-use Rattle.std.proofs.Common.{◌≡◌, ◌≢◌, ℕ, ◌+◌, ◌≤◌, ◌<◌, ◌⊎◌, inl, inr, Bool, true, false, ◌==◌, nat_lt, not, List, [], ◌∷◌, ◌++◌, append_assoc, length, take, drop, map, flat_map, Option, Some, None, MatchOption, IsTrue, refl, sym, ap, ◌∙◌, subst, arith, add-one}
+use Rattle.std.proofs.Common.{◌≡◌, ◌≢◌, ℕ, ◌+◌, ◌≤◌, ◌<◌, ◌⊎◌, inl, inr, Bool, true, false, ◌==◌, not, List, [], ◌∷◌, ◌++◌, append_assoc, length, take, drop, map, flat_map, Option, Some, None, MatchOption, IsTrue, refl, sym, ap, ◌∙◌, subst, arith, add-one}
 use Rattle.std.proofs.lemmas.Grind.{flat_map-append}
 use Rattle.std.proofs.lemmas.List.{map-append, append-nil}
-use Rattle.std.proofs.lemmas.Bool.{lt-ltb, le-ltb, ltb-true, eqb-true, eq-eqb}
+use Rattle.std.proofs.lemmas.Bool.{eqb-true, eq-eqb}
 use Rattle.std.specs.List.{AllByRecursion}
 use Rattle.std.specs.Option.{is_some}
-use Rattle.std.specs.Ordering.{nat_cmp, ordering_then, match_ordering}
+use Rattle.std.specs.Ordering.{match_ordering}
 use Rattle.std.specs.declared.cmp.Ordering.{Ordering}
 use Rattle.std.specs.declared.cmp.Ordering.TheVariants.{Less, Equal, Greater}
 use Rattle.ixp_num.specs.AddressForms.{version_of}
 use Rattle.ixp_num.specs.declared.family.Family.{Family}
 use Rattle.ixp_num.specs.declared.family.Family.TheVariants.{V4, V6}
 use Rattle.ixp_tables.specs.Tables.{order, Ascends, find}
+use Rattle.ixp_tables.proofs.FirstNumbers.{key_up}
 use Rattle.ixp_tables.proofs.Orders.{order_same, order_equal, all_weaker}
 use Rattle.ixp_tables.proofs.Places.{Ascends_behind}
 use Rattle.ixp_tables.proofs.TableLaws.{find_past}
@@ -26,7 +27,7 @@ use Rattle.ixp_registry.specs.Places.{first}
 use Rattle.ixp_registry.specs.Lines.{addresses_at}
 use Rattle.ixp_registry.specs.Lookups.{has_interface}
 use Rattle.ixp_registry.specs.Rules.{addresses_have_interfaces}
-use Rattle.ixp_places.proofs.Placing.{first_here, first_on}
+use Rattle.ixp_registry.proofs.Placing.{first_here, first_on}
 use Rattle.ixp_lines.proofs.Spelling.{none_some}
 use Rattle.ixp_rows.specs.Gathering.{Misses}
 use Rattle.ixp_valid.proofs.Lists.{take_next}
@@ -52,20 +53,6 @@ pub run_step : {X : Type 0} (P : X → Type 0) (xs : List X) (i : ℕ) (x : X) (
 run_step P xs i x rest h all p = rw add-one (subst (AllByRecursion P) (sym (take_next xs i x rest h)) (all_more P (take i xs) x all p))
 
 -- Keys of two numbers and more
-less_by : (m n : ℕ) (o : Ordering) (b : Bool) → nat_lt m n ≡ b → (c : Bool) → (m == n) ≡ c → ordering_then (nat_cmp m n) o ≡ Less → (m < n) ⊎ ((m ≡ n) × (o ≡ Less))
-less_by m n o true lt c eq e = inl (ltb-true m n lt)
-less_by m n o false lt true eq e = inr (eqb-true m n eq, rw (lt, eq) at e)
-less_by m n o false lt false eq e = absurd (let h : ◌≡◌ {A = Ordering} Greater Less = rw (lt, eq) at e in cc)
-
-pub key_up : (m n : ℕ) (a b : List ℕ) → order (m ∷ a) (n ∷ b) ≡ Less → (m < n) ⊎ ((m ≡ n) × (order a b ≡ Less))
-key_up m n a b e = less_by m n (order a b) (nat_lt m n) refl (m == n) refl e
-
-pub less_first : (m n : ℕ) (a b : List ℕ) → m < n → order (m ∷ a) (n ∷ b) ≡ Less
-less_first m n a b lt = rw (lt-ltb m n lt) refl
-
-pub same_first : (m : ℕ) (a b : List ℕ) → order (m ∷ a) (m ∷ b) ≡ order a b
-same_first m a b = rw (le-ltb m m (omega arith), eq-eqb m m refl) refl
-
 first_up : (m n : ℕ) (a b : List ℕ) → order (m ∷ a) (n ∷ b) ≡ Less → m ≤ n
 first_up m n a b e = by_cases (key_up m n a b e)
   where
@@ -207,5 +194,5 @@ not_false false e = absurd cc
 
 pub all_there : (w : Rows) → addresses_have_interfaces w ≡ None → AreThere w.interfaces w.addresses
 all_there w none =
-    all_weaker (λ a. not (has_interface w a.interface) ≡ false) (λ a. IsTrue (has_interface w a.interface)) (λ a e. not_false (has_interface w a.interface) e) w.addresses
-    (all_kept (addresses_at w) (λ a. not (has_interface w a.interface)) w.addresses none)
+    all_weaker (λ a. not (has_interface w.interfaces a.interface) ≡ false) (λ a. IsTrue (has_interface w.interfaces a.interface)) (λ a e. not_false (has_interface w.interfaces a.interface) e) w.addresses
+    (all_kept (addresses_at w) (λ a. not (has_interface w.interfaces a.interface)) w.addresses none)

@@ -2,7 +2,7 @@ pub mod Answering
 pub mod Ascending
 pub mod Counts
 pub mod DumpsSpelt
-pub mod Formed
+pub mod FieldsRead
 pub mod Gathered
 pub mod KindsApart
 pub mod LinesAgain
@@ -18,4 +18,6 @@ pub mod Sections
 pub mod Spellable
 pub mod Spelt
 pub mod Standing
+pub mod SameRows
 pub mod Valid
+pub mod ValidLines

@@ -4,7 +4,7 @@ use Rattle.std.specs.Fmt.{digit_glyph, digits_onto, digits}
 use Rattle.std.specs.List.{AllByRecursion}
 use Rattle.std.proofs.Math.Seq.{take-append_seam, drop-append_seam}
 use Rattle.std.proofs.lemmas.Bool.{eq-eqb, eqb-true, or_parts}
-use Rattle.ixp_registry.specs.Places.{same}
+use Rattle.ixp_tables.specs.Tables.{same}
 use Rattle.ixp_registry.specs.declared.kind.Kind.{Kind}
 use Rattle.ixp_registry.specs.declared.kind.Kind.TheVariants.{Sites, Members, Contacts, Keys, Switches, Ports, Vlans, Interfaces, Addresses, Routers, Prefixes, Origins, Rules, Bogons, BogonAs, Transit, Roas}
 use Rattle.ixp_lines.specs.declared.version.Version.{Version}

@@ -1,11 +1,9 @@
 -- Rows that make lists.
 use Rattle.std.specs.Prelude.{⊤}
-use Rattle.std.proofs.Common.{◌≡◌, ◌≢◌, ℕ, suc, ◌+◌, ◌≤◌, ◌<◌, ◌⊎◌, inl, inr, Bool, true, false, List, [], ◌∷◌, ◌++◌, append_assoc, append-nil, length, take, drop, map, flat_map, refl, sym, ap, ◌∙◌, subst, arith}
+use Rattle.std.proofs.Common.{◌≡◌, ◌≢◌, ℕ, ◌<◌, ◌⊎◌, inl, inr, List, [], ◌∷◌, ◌++◌, append_assoc, append-nil, map, flat_map, refl, sym, ap, ◌∙◌, subst, arith}
 use Rattle.std.proofs.lemmas.Grind.{flat_map-append}
-use Rattle.std.proofs.lemmas.Bool.{lt-ltb, le-ltb, eq-eqb}
 use Rattle.std.specs.List.{AllByRecursion}
-use Rattle.std.specs.declared.cmp.Ordering.{Ordering}
-use Rattle.std.specs.declared.cmp.Ordering.TheVariants.{Less, Equal, Greater}
+use Rattle.std.specs.declared.cmp.Ordering.TheVariants.{Less}
 use Rattle.ixp_num.specs.AddressForms.{version_of}
 use Rattle.ixp_num.specs.declared.family.Family.{Family}
 use Rattle.ixp_num.specs.declared.family.Family.TheVariants.{V4, V6}
@@ -13,16 +11,21 @@ use Rattle.ixp_num.specs.declared.asn.Asn.{Asn}
 use Rattle.ixp_num.specs.declared.prefix.Prefix.{Prefix}
 use Rattle.ixp_tables.specs.Tables.{order, Ascends}
 use Rattle.ixp_tables.proofs.Orders.{chained}
-use Rattle.ixp_tables.proofs.Places.{Ascends_before, Ascends_behind}
+use Rattle.ixp_tables.proofs.Places.{Ascends_before}
 use Rattle.ixp_tables.proofs.Views.{ascends_all}
 use Rattle.ixp_registry.specs.declared.lists.IrrList.{IrrList}
 use Rattle.ixp_registry.specs.declared.lists.OriginList.{OriginList}
 use Rattle.ixp_registry.specs.declared.lists.MemberPrefix.{MemberPrefix}
 use Rattle.ixp_registry.specs.declared.lists.MemberOrigin.{MemberOrigin}
-use Rattle.ixp_registry.specs.Keys.{prefix_numbers, transit_key, member_prefix_key, member_origin_key, irr_key, origins_key}
-use Rattle.ixp_registry.specs.Registries.{prefixes_of, origins_of, IsPrefixList, IsOriginList}
+use Rattle.ixp_registry.specs.Keys.{member_prefix_key, member_origin_key, rule_key, irr_key, origins_key, rules_key}
+use Rattle.ixp_sorted.specs.Keys.{prefix_key, asn_key}
+use Rattle.ixp_registry.specs.declared.rules.MemberRule.{MemberRule}
+use Rattle.ixp_registry.specs.declared.rules.RuleList.{RuleList}
+use Rattle.ixp_registry.specs.Registries.{prefixes_of, origins_of, rules_in}
+use Rattle.ixp_validity.specs.WellFormed.{IsPrefixList, IsOriginList, IsRuleList}
+use Rattle.ixp_tables.proofs.FirstNumbers.{key_up, same_first, less_first}
 use Rattle.ixp_rows.specs.Gathering.{AreListed}
-use Rattle.ixp_rows.proofs.Gathered.{all_more, all_behind, key_up, same_first, less_first}
+use Rattle.ixp_rows.proofs.Gathered.{all_more, all_behind}
 
 module _ {R I L : Type 0} (key group : R → List ℕ) (item : R → I) (made : R → List I → L) (list_key : L → List ℕ) (rows_in : L → List R) (IsList : L → Type 0) where
   -- the lists are below the group of the first row, if there is one
@@ -103,11 +106,11 @@ prefixes_listed = record {
     again r (s ∷ rs) same = let m = (two_same s.member (version_of s.prefix.family) r.member (version_of r.prefix.family) same.0).0 in
         ap (λ n. record { member = n; prefix = s.prefix } ∷ map (λ p. record { member = r.member; prefix = p }) (map (λ s. s.prefix) rs)) (sym m) ∙ ap (λ t. s ∷ t) (again r rs same.1)
 
-    tail_up : (r s : MemberPrefix) → r.member ≡ s.member → order (member_prefix_key r) (member_prefix_key s) ≡ Less → order (prefix_numbers r.prefix) (prefix_numbers s.prefix) ≡ Less
-    tail_up r s m e = sym (same_first r.member (prefix_numbers r.prefix) (prefix_numbers s.prefix)) ∙ subst (λ n. order (member_prefix_key r) (n ∷ prefix_numbers s.prefix) ≡ Less) (sym m) e
+    tail_up : (r s : MemberPrefix) → r.member ≡ s.member → order (member_prefix_key r) (member_prefix_key s) ≡ Less → order (prefix_key r.prefix) (prefix_key s.prefix) ≡ Less
+    tail_up r s m e = sym (same_first r.member (prefix_key r.prefix) (prefix_key s.prefix)) ∙ subst (λ n. order (member_prefix_key r) (n ∷ prefix_key s.prefix) ≡ Less) (sym m) e
 
     first : (r : MemberPrefix) (rs : List MemberPrefix) → AllByRecursion (λ s. order (member_prefix_key r) (member_prefix_key s) ≡ Less) rs → AllByRecursion (λ s. prefix_group s ≡ prefix_group r) rs
-        → AllByRecursion (λ p. order (prefix_numbers r.prefix) (prefix_numbers p) ≡ Less) (map (λ s. s.prefix) rs)
+        → AllByRecursion (λ p. order (prefix_key r.prefix) (prefix_key p) ≡ Less) (map (λ s. s.prefix) rs)
     first r [] up same = tt
     first r (s ∷ rs) up same =
         (tail_up r s (sym (two_same s.member (version_of s.prefix.family) r.member (version_of r.prefix.family) same.0).0) up.0, first r rs up.1 same.1)
@@ -115,7 +118,7 @@ prefixes_listed = record {
     regroup : (r s : MemberPrefix) (rs : List MemberPrefix) → prefix_group s ≡ prefix_group r → AllByRecursion (λ x. prefix_group x ≡ prefix_group r) rs → AllByRecursion (λ x. prefix_group x ≡ prefix_group s) rs
     regroup r s rs e same = subst (λ g. AllByRecursion (λ x. prefix_group x ≡ g) rs) (sym e) same
 
-    up_list : (r : MemberPrefix) (rs : List MemberPrefix) → Ascends member_prefix_key rs → AllByRecursion (λ s. prefix_group s ≡ prefix_group r) rs → Ascends prefix_numbers (map (λ s. s.prefix) rs)
+    up_list : (r : MemberPrefix) (rs : List MemberPrefix) → Ascends member_prefix_key rs → AllByRecursion (λ s. prefix_group s ≡ prefix_group r) rs → Ascends prefix_key (map (λ s. s.prefix) rs)
     up_list r [] up same = tt
     up_list r (s ∷ rs) up same = (first s rs up.0 (regroup r s rs same.0 same.1), up_list r rs up.1 same.1)
 
@@ -135,7 +138,7 @@ pub origins_listed : AreListed member_origin_key origin_group (λ r. r.asn) orig
 origins_listed = record {
   again = λ r rs same. ap (λ t. r ∷ t) (again r rs same);
   keyed = λ r items. refl;
-  apart = λ r s up apart. groups_apart r.member (version_of r.family) s.member (version_of s.family) (transit_key r.asn) (transit_key s.asn) up apart;
+  apart = λ r s up apart. groups_apart r.member (version_of r.family) s.member (version_of s.family) (asn_key r.asn) (asn_key s.asn) up apart;
   stands = λ r rs up same. ((λ e. cc), (first r rs up.0 same, up_list r rs up.1 same));
 }
   where
@@ -149,14 +152,14 @@ origins_listed = record {
         ∙ (ap (λ g. record { member = s.member; family = g; asn = s.asn } ∷ map (λ a. record { member = r.member; family = r.family; asn = a }) (map (λ s. s.asn) rs)) (sym f)
         ∙ ap (λ t. s ∷ t) (again r rs same.1))
 
-    tail_up : (r s : MemberOrigin) → r.member ≡ s.member → version_of r.family ≡ version_of s.family → order (member_origin_key r) (member_origin_key s) ≡ Less → order (transit_key r.asn) (transit_key s.asn) ≡ Less
+    tail_up : (r s : MemberOrigin) → r.member ≡ s.member → version_of r.family ≡ version_of s.family → order (member_origin_key r) (member_origin_key s) ≡ Less → order (asn_key r.asn) (asn_key s.asn) ≡ Less
     tail_up r s m v e =
-        sym (same_first r.member (version_of r.family ∷ transit_key r.asn) (version_of r.family ∷ transit_key s.asn) ∙ same_first (version_of r.family) (transit_key r.asn) (transit_key s.asn))
-        ∙ subst (λ w. order (member_origin_key r) (r.member ∷ w ∷ transit_key s.asn) ≡ Less) (sym v)
-        (subst (λ n. order (member_origin_key r) (n ∷ version_of s.family ∷ transit_key s.asn) ≡ Less) (sym m) e)
+        sym (same_first r.member (version_of r.family ∷ asn_key r.asn) (version_of r.family ∷ asn_key s.asn) ∙ same_first (version_of r.family) (asn_key r.asn) (asn_key s.asn))
+        ∙ subst (λ w. order (member_origin_key r) (r.member ∷ w ∷ asn_key s.asn) ≡ Less) (sym v)
+        (subst (λ n. order (member_origin_key r) (n ∷ version_of s.family ∷ asn_key s.asn) ≡ Less) (sym m) e)
 
     first : (r : MemberOrigin) (rs : List MemberOrigin) → AllByRecursion (λ s. order (member_origin_key r) (member_origin_key s) ≡ Less) rs → AllByRecursion (λ s. origin_group s ≡ origin_group r) rs
-        → AllByRecursion (λ a. order (transit_key r.asn) (transit_key a) ≡ Less) (map (λ s. s.asn) rs)
+        → AllByRecursion (λ a. order (asn_key r.asn) (asn_key a) ≡ Less) (map (λ s. s.asn) rs)
     first r [] up same = tt
     first r (s ∷ rs) up same =
         let both = two_same s.member (version_of s.family) r.member (version_of r.family) same.0 in
@@ -165,6 +168,36 @@ origins_listed = record {
     regroup : (r s : MemberOrigin) (rs : List MemberOrigin) → origin_group s ≡ origin_group r → AllByRecursion (λ x. origin_group x ≡ origin_group r) rs → AllByRecursion (λ x. origin_group x ≡ origin_group s) rs
     regroup r s rs e same = subst (λ g. AllByRecursion (λ x. origin_group x ≡ g) rs) (sym e) same
 
-    up_list : (r : MemberOrigin) (rs : List MemberOrigin) → Ascends member_origin_key rs → AllByRecursion (λ s. origin_group s ≡ origin_group r) rs → Ascends transit_key (map (λ s. s.asn) rs)
+    up_list : (r : MemberOrigin) (rs : List MemberOrigin) → Ascends member_origin_key rs → AllByRecursion (λ s. origin_group s ≡ origin_group r) rs → Ascends asn_key (map (λ s. s.asn) rs)
     up_list r [] up same = tt
     up_list r (s ∷ rs) up same = (first s rs up.0 (regroup r s rs same.0 same.1), up_list r rs up.1 same.1)
+
+-- Rules
+abbrev rule_group : MemberRule → List ℕ
+rule_group r = r.member ∷ []
+
+abbrev rule_list_of : MemberRule → List MemberRule → RuleList
+rule_list_of r items = record { member = r.member; rules = items }
+
+pub rules_listed : AreListed rule_key rule_group (λ r. r) rule_list_of rules_key rules_in IsRuleList
+rules_listed = record {
+  again = λ r rs same. ap (λ t. r ∷ t) (map_itself rs);
+  keyed = λ r items. refl;
+  apart = λ r s up apart. by_first r s apart (key_up r.member s.member (r.place ∷ []) (s.place ∷ []) up);
+  stands = λ r rs up same. ((λ e. cc), (refl, members r rs same));
+}
+  where
+    map_itself : (rs : List MemberRule) → map (λ r. r) rs ≡ rs
+    map_itself [] = refl
+    map_itself (r ∷ rs) = ap (λ t. r ∷ t) (map_itself rs)
+
+    by_first : (r s : MemberRule) → (rule_group r ≢ rule_group s) → (r.member < s.member) ⊎ ((r.member ≡ s.member) × (order (r.place ∷ []) (s.place ∷ []) ≡ Less)) → order (rule_group r) (rule_group s) ≡ Less
+    by_first r s apart (inl lt) = less_first r.member s.member [] [] lt
+    by_first r s apart (inr both) = absurd (apart (ap (λ n. n ∷ []) both.0))
+
+    one_same : (m n : ℕ) → m ∷ [] ≡ n ∷ [] → m ≡ n
+    one_same m n e = cc
+
+    members : (r : MemberRule) (rs : List MemberRule) → AllByRecursion (λ s. rule_group s ≡ rule_group r) rs → AllByRecursion (λ x. x.member ≡ r.member) (map (λ s. s) rs)
+    members r [] same = tt
+    members r (s ∷ rs) same = (one_same s.member r.member same.0, members r rs same.1)

@@ -1,5 +1,5 @@
 -- A text is the dump of one registry at most, or has one fault.
-use Rattle.std.proofs.Common.{◌≡◌, ◌≢◌, ◌⊎◌, inl, inr, ℕ, List, Option, Some, None, Result, Ok, Err, refl, sym, ap, ◌∙◌, subst}
+use Rattle.std.proofs.Common.{◌≡◌, ◌≢◌, ◌⊎◌, inl, inr, ℕ, List, Some, Result, Ok, Err, refl, sym, ap, ◌∙◌}
 use Rattle.ixp_registry.specs.declared.breach.Breach.{Breach}
 use Rattle.ixp_registry.specs.declared.registry.Registry.{Registry}
 use Rattle.ixp_registry.specs.declared.rows.Rows.{Rows}
@@ -9,8 +9,11 @@ use Rattle.ixp_lines.proofs.Spelling.{some_is, none_some}
 use Rattle.ixp_rows.specs.declared.fault.DumpFault.{DumpFault}
 use Rattle.ixp_rows.specs.declared.fault.DumpFault.TheVariants.{BadLine, Order, Twice, Invalid, NoMemory}
 use Rattle.ixp_rows.specs.Answers.{DumpAnswer}
-use Rattle.ixp_rows.specs.Dumps.{RegistryAnswer, SameAnswer}
+use Rattle.ixp_rows.specs.Dumps.{RegistryAnswer}
 use Rattle.ixp_rows.proofs.OneAnswer.{one_answer}
+use Rattle.ixp_rows.proofs.SameRows.{rows_tell}
+use Rattle.ixp_validity.proofs.Sentences.{unbroken}
+use Rattle.ixp_validity.proofs.ToRules.{all_kept}
 
 abbrev Read : Type 0
 Read = Result Rows DumpFault
@@ -50,7 +53,7 @@ valid_or_fault : (version : Version) (t : List ℕ) (r : Registry) (f : DumpFaul
 valid_or_fault version t r f some a b = by_fault (parted version t f b)
   where
     by_fault : Broken version t f ⊎ DumpAnswer version t (Err f) → ⊥
-    by_fault (inl x) = let same = two_rows version t (rows_of r) x.0 a.0 x.2 in none_some x.1 (sym a.2.1 ∙ (ap breach same ∙ x.3))
+    by_fault (inl x) = let same = two_rows version t (rows_of r) x.0 a.0 x.2 in none_some x.1 (sym (unbroken (rows_of r) (all_kept r a.2)) ∙ (ap breach same ∙ x.3))
     by_fault (inr x) = rows_or_fault version t (rows_of r) f some a.0 x
 
 one_fault : (version : Version) (t : List ℕ) (f g : DumpFault) → ◌≢◌ {A = Result Registry DumpFault} (Err f) (Err NoMemory) → ◌≢◌ {A = Result Registry DumpFault} (Err g) (Err NoMemory)
@@ -63,8 +66,8 @@ one_fault version t f g some more a b = by_faults (parted version t f a) (parted
     by_faults (inr x) (inl y) = absurd (rows_or_fault version t y.0 f some y.2 x)
     by_faults (inr x) (inr y) = two_faults version t f g some more x y
 
-pub one_registry : (version : Version) (t : List ℕ) (x y : Result Registry DumpFault) → x ≢ Err NoMemory → y ≢ Err NoMemory → RegistryAnswer version t x → RegistryAnswer version t y → SameAnswer x y
-one_registry version t (Ok r) (Ok s) some more a b = two_rows version t (rows_of r) (rows_of s) a.0 b.0
-one_registry version t (Ok r) (Err f) some more a b = valid_or_fault version t r f more a b
-one_registry version t (Err f) (Ok s) some more a b = valid_or_fault version t s f some b a
+pub one_registry : (version : Version) (t : List ℕ) (x y : Result Registry DumpFault) → x ≢ Err NoMemory → y ≢ Err NoMemory → RegistryAnswer version t x → RegistryAnswer version t y → x ≡ y
+one_registry version t (Ok r) (Ok s) some more a b = ap (λ q. Ok q) (rows_tell r s a.2 b.2 (two_rows version t (rows_of r) (rows_of s) a.0 b.0))
+one_registry version t (Ok r) (Err f) some more a b = absurd (valid_or_fault version t r f more a b)
+one_registry version t (Err f) (Ok s) some more a b = absurd (valid_or_fault version t s f some b a)
 one_registry version t (Err f) (Err g) some more a b = ap (λ h. Err h) (one_fault version t f g some more a b)

@@ -4,7 +4,8 @@ use Rattle.std.specs.List.{AllByRecursion}
 use Rattle.std.specs.declared.cmp.Ordering.TheVariants.{Less}
 use Rattle.ixp_tables.specs.Tables.{order, Ascends}
 use Rattle.ixp_tables.proofs.Places.{Ascends_before, Ascends_behind}
-use Rattle.ixp_registry.specs.Keys.{member_key, contact_key, api_key_key, switch_key, port_key, vlan_key, interface_row_key, address_key, router_key, member_prefix_key, member_origin_key, rule_key, bogon_key, bogon_as_key, transit_key, roa_key}
+use Rattle.ixp_registry.specs.Keys.{member_key, contact_key, api_key_key, switch_key, port_key, vlan_key, interface_row_key, address_key, router_key, member_prefix_key, member_origin_key, rule_key}
+use Rattle.ixp_sorted.specs.Keys.{pattern_key, asn_key, range_key, roa_key}
 use Rattle.ixp_registry.specs.declared.rows.Rows.{Rows}
 use Rattle.ixp_registry.specs.declared.kind.Kind.{Kind}
 use Rattle.ixp_registry.specs.declared.kind.Kind.TheVariants.{Members, Contacts, Keys, Switches, Ports, Vlans, Interfaces, Addresses, Routers, Prefixes, Origins, Rules, Bogons, BogonAs, Transit, Roas}
@@ -165,8 +166,8 @@ all_ascend version w up =
       prefixes = front_ascends Prefixes prefix_line member_prefix_key (λ row. refl) w.prefixes _ prefixes;
       origins = front_ascends Origins origin_line member_origin_key origin_keyed w.origins _ origins;
       rules = front_ascends Rules rule_line rule_key (λ row. refl) w.rules _ rules;
-      bogons = front_ascends Bogons bogon_line bogon_key (λ row. refl) w.public.bogons _ bogons;
-      bogon_as = front_ascends BogonAs bogon_as_line bogon_as_key (λ row. refl) w.public.bogon_as _ bogon_as;
-      transit = front_ascends Transit transit_line transit_key (λ row. refl) w.public.transit _ transit;
+      bogons = front_ascends Bogons bogon_line pattern_key (λ row. refl) w.public.bogons _ bogons;
+      bogon_as = front_ascends BogonAs bogon_as_line range_key (λ row. refl) w.public.bogon_as _ bogon_as;
+      transit = front_ascends Transit transit_line asn_key (λ row. refl) w.public.transit _ transit;
       roas = rows_ascend Roas roa_line roa_key (λ row. refl) w.public.roas roas;
     }

@@ -1,14 +1,15 @@
 -- What is printed of a registry.
-use Rattle.std.proofs.Common.{◌≡◌, ℕ, ◌+◌, List, [], ◌∷◌, ◌++◌, length, map, flat_map, append-nil, append_assoc, length-append, refl, sym, ap, ◌∙◌, Option, Some, None}
+use Rattle.std.proofs.Common.{◌≡◌, ◌+◌, List, ◌∷◌, ◌++◌, length, map, flat_map, append-nil, append_assoc, length-append, refl, ap, ◌∙◌}
 use Rattle.std.proofs.lemmas.List.{length-map}
 use Rattle.std.proofs.lemmas.Grind.{flat_map-append}
 use Rattle.ixp_registry.specs.declared.network.Interface.{Interface}
 use Rattle.ixp_registry.specs.declared.lists.IrrList.{IrrList}
 use Rattle.ixp_registry.specs.declared.lists.OriginList.{OriginList}
 use Rattle.ixp_registry.specs.declared.rows.Rows.{Rows}
-use Rattle.ixp_registry.specs.Registries.{address_rows, addresses_of, prefixes_of, origins_of}
+use Rattle.ixp_registry.specs.declared.rules.RuleList.{RuleList}
+use Rattle.ixp_registry.specs.Registries.{address_rows, addresses_of, prefixes_of, origins_of, rules_in}
 use Rattle.ixp_lines.specs.declared.version.Version.{Version}
-use Rattle.ixp_lines.specs.Lines.{Line, line_text, address_line, prefix_line, origin_line, roa_line}
+use Rattle.ixp_lines.specs.Lines.{Line, line_text, address_line, prefix_line, origin_line, rule_line, roa_line}
 use Rattle.ixp_rows.specs.Reading.{sum}
 use Rattle.ixp_rows.specs.Texts.{lines_by, lines_text, rows_count}
 use Rattle.ixp_rows.specs.Printing.{all_kinds, kind_lines, kind_count}
@@ -25,6 +26,9 @@ pub origins_counted : (l : OriginList) (ls : List OriginList) → length (flat_m
 origins_counted l ls =
     length-append (origins_of l) (flat_map origins_of ls)
     ∙ ap (λ n. n + length (flat_map origins_of ls)) (length-map l.asns (λ a. record { member = l.member; family = l.family; asn = a }))
+
+pub rules_counted : (l : RuleList) (ls : List RuleList) → length (flat_map rules_in (l ∷ ls)) ≡ length l.rules + length (flat_map rules_in ls)
+rules_counted l ls = length-append (rules_in l) (flat_map rules_in ls)
 
 pub all_counted : (w : Rows) → sum (map (kind_count w) all_kinds) ≡ rows_count w
 all_counted w = refl
@@ -48,3 +52,6 @@ lists_more l ls = lines_more prefix_line prefixes_of l ls
 
 pub origin_lists_more : (l : OriginList) (ls : List OriginList) → lines_by origin_line (flat_map origins_of (l ∷ ls)) ≡ lines_by origin_line (origins_of l) ++ lines_by origin_line (flat_map origins_of ls)
 origin_lists_more l ls = lines_more origin_line origins_of l ls
+
+pub rule_lists_more : (l : RuleList) (ls : List RuleList) → lines_by rule_line (flat_map rules_in (l ∷ ls)) ≡ lines_by rule_line (rules_in l) ++ lines_by rule_line (flat_map rules_in ls)
+rule_lists_more l ls = lines_more rule_line rules_in l ls

@@ -5,7 +5,8 @@ use Rattle.std.specs.declared.cmp.Ordering.TheVariants.{Less}
 use Rattle.std.proofs.lemmas.Grind.{flat_map-append}
 use Rattle.std.proofs.lemmas.List.{length-map}
 use Rattle.ixp_tables.specs.Tables.{order, Ascends}
-use Rattle.ixp_registry.specs.Keys.{member_key, contact_key, api_key_key, switch_key, port_key, vlan_key, interface_row_key, address_key, router_key, member_prefix_key, member_origin_key, rule_key, bogon_key, bogon_as_key, transit_key, roa_key}
+use Rattle.ixp_registry.specs.Keys.{member_key, contact_key, api_key_key, switch_key, port_key, vlan_key, interface_row_key, address_key, router_key, member_prefix_key, member_origin_key, rule_key}
+use Rattle.ixp_sorted.specs.Keys.{pattern_key, asn_key, range_key, roa_key}
 use Rattle.ixp_registry.specs.declared.lists.MemberOrigin.{MemberOrigin}
 use Rattle.ixp_registry.specs.declared.router.Router.{Router}
 use Rattle.ixp_registry.specs.declared.rows.Rows.{Rows}
@@ -158,9 +159,9 @@ lines_ascend version w up =
     (step Prefixes prefix_line member_prefix_key (λ row. refl) (λ row. refl) 10 (omega arith) w.prefixes up.prefixes _
     (step Origins origin_line member_origin_key (λ row. refl) origin_keyed 11 (omega arith) w.origins up.origins _
     (step Rules rule_line rule_key (λ row. refl) (λ row. refl) 12 (omega arith) w.rules up.rules _
-    (step Bogons bogon_line bogon_key (λ row. refl) (λ row. refl) 13 (omega arith) w.public.bogons up.bogons _
-    (step BogonAs bogon_as_line bogon_as_key (λ row. refl) (λ row. refl) 14 (omega arith) w.public.bogon_as up.bogon_as _
-    (step Transit transit_line transit_key (λ row. refl) (λ row. refl) 15 (omega arith) w.public.transit up.transit _
+    (step Bogons bogon_line pattern_key (λ row. refl) (λ row. refl) 13 (omega arith) w.public.bogons up.bogons _
+    (step BogonAs bogon_as_line range_key (λ row. refl) (λ row. refl) 14 (omega arith) w.public.bogon_as up.bogon_as _
+    (step Transit transit_line asn_key (λ row. refl) (λ row. refl) 15 (omega arith) w.public.transit up.transit _
     (last_step Roas roa_line roa_key (λ row. refl) (λ row. refl) 16 (omega arith) w.public.roas up.roas))))))))))))))))
 
 site_stands : (version : Version) (w : Rows) → SiteFirst (row_lines version w)

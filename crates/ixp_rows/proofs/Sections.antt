@@ -1,5 +1,5 @@
 -- Rows that follow one another.
-use Rattle.std.proofs.Common.{◌≡◌, ℕ, zero, suc, ◌+◌, ◌-◌, ◌<◌, ◌≤◌, List, [], ◌∷◌, ◌++◌, length, map, Option, Some, None, option_map, IfSome, slice_get, Result, Ok, Err, refl, sym, ap, ◌∙◌, subst, arith, append_assoc, append-nil, length-append}
+use Rattle.std.proofs.Common.{◌≡◌, ℕ, zero, suc, ◌-◌, ◌<◌, List, [], ◌∷◌, ◌++◌, length, map, Option, Some, None, option_map, IfSome, slice_get, Result, Ok, Err, refl, sym, ap, ◌∙◌, arith, append_assoc, append-nil}
 use Rattle.std.specs.List.{AllByRecursion}
 use Rattle.std.specs.Ordering.{match_ordering}
 use Rattle.std.specs.declared.cmp.Ordering.{Ordering}
@@ -10,7 +10,7 @@ use Rattle.ixp_lines.specs.declared.version.Version.{Version}
 use Rattle.ixp_lines.specs.Fields.{Field}
 use Rattle.ixp_rows.specs.declared.misread.Misread.{Misread}
 use Rattle.ixp_rows.specs.declared.misread.Misread.TheVariants.{Bad, Order, Twice, NoMemory}
-use Rattle.ixp_rows.specs.Reading.{Fails, ◌>>=◌, key_in, last_key, LastBelow, misplaced, unless, begun, line_at, behind_row, more_with, rows_from, section}
+use Rattle.ixp_rows.specs.Reading.{Fails, ◌>>=◌, key_in, last_key, LastBelow, misplaced, unless, begun, line_at, behind_row, more_with, rows_from}
 
 -- the rows read so far, and then what is read on
 abbrev pub with_rows : List (List Field) → Result (List (List Field) × List ℕ) Misread → Result (List (List Field) × List ℕ) Misread

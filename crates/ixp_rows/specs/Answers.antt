@@ -4,12 +4,12 @@ use Rattle.std.specs.List.{AllByRecursion}
 use Rattle.std.specs.declared.cmp.Ordering.{Ordering}
 use Rattle.std.specs.declared.cmp.Ordering.TheVariants.{Equal, Greater}
 use Rattle.ixp_tables.specs.Tables.{order, Ascends}
-use Rattle.ixp_registry.specs.Keys.{member_key, contact_key, api_key_key, switch_key, port_key, vlan_key, interface_row_key, address_key, router_key, member_prefix_key, member_origin_key, rule_key, bogon_key, bogon_as_key, transit_key, roa_key}
-use Rattle.ixp_registry.specs.declared.lists.PublicLists.{PublicLists}
+use Rattle.ixp_registry.specs.Keys.{member_key, contact_key, api_key_key, switch_key, port_key, vlan_key, interface_row_key, address_key, router_key, member_prefix_key, member_origin_key, rule_key}
+use Rattle.ixp_sorted.specs.Keys.{pattern_key, asn_key, range_key, roa_key}
 use Rattle.ixp_registry.specs.declared.rows.Rows.{Rows}
 use Rattle.ixp_registry.specs.declared.kind.Kind.TheVariants.{Sites}
 use Rattle.ixp_lines.specs.declared.version.Version.{Version}
-use Rattle.ixp_lines.specs.Lines.{Line, IsLine, IsOfVersion, IsSecret, IsAction, line_text, key_of, site_line, member_line, contact_line, key_line, switch_line, port_line, vlan_line, interface_line, address_line, router_line, prefix_line, origin_line, rule_line, bogon_line, bogon_as_line, transit_line, roa_line}
+use Rattle.ixp_lines.specs.Lines.{Line, IsLine, IsOfVersion, line_text, key_of, site_line, member_line, contact_line, key_line, switch_line, port_line, vlan_line, interface_line, address_line, router_line, prefix_line, origin_line, rule_line, bogon_line, bogon_as_line, transit_line, roa_line}
 use Rattle.ixp_rows.specs.declared.fault.DumpFault.{DumpFault}
 use Rattle.ixp_rows.specs.declared.fault.DumpFault.TheVariants.{BadLine, Order, Twice, Invalid, NoMemory}
 use Rattle.ixp_rows.specs.Reading.{head_text, end_text}
@@ -23,12 +23,6 @@ row_lines version w =
     ++ (map (router_line version) w.routers ++ (map prefix_line w.prefixes ++ (map origin_line w.origins ++ (map rule_line w.rules
     ++ (map bogon_line w.public.bogons ++ (map bogon_as_line w.public.bogon_as ++ (map transit_line w.public.transit
     ++ map roa_line w.public.roas)))))))))))))))
-
--- what rows keep that have lines of the format, beside what their types keep
-pub record IsSpellable (w : Rows) : Type 0 where
-  pub keys : AllByRecursion (λ key. IsSecret key.secret) w.keys
-  pub addresses : AllByRecursion (λ row. IsSecret row.address.secret) w.addresses
-  pub rules : AllByRecursion (λ rule. IsAction rule.action) w.rules
 
 -- the rows of each kind ascend, as tables and the readers keep them
 pub record AllAscend (w : Rows) : Type 0 where
@@ -44,17 +38,10 @@ pub record AllAscend (w : Rows) : Type 0 where
   pub prefixes : Ascends member_prefix_key w.prefixes
   pub origins : Ascends member_origin_key w.origins
   pub rules : Ascends rule_key w.rules
-  pub bogons : Ascends bogon_key w.public.bogons
-  pub bogon_as : Ascends bogon_as_key w.public.bogon_as
-  pub transit : Ascends transit_key w.public.transit
+  pub bogons : Ascends pattern_key w.public.bogons
+  pub bogon_as : Ascends range_key w.public.bogon_as
+  pub transit : Ascends asn_key w.public.transit
   pub roas : Ascends roa_key w.public.roas
-
--- the items of each public list ascend
-pub record ListsAscend (p : PublicLists) : Type 0 where
-  pub bogons : Ascends bogon_key p.bogons
-  pub bogon_as : Ascends bogon_as_key p.bogon_as
-  pub transit : Ascends transit_key p.transit
-  pub roas : Ascends roa_key p.roas
 
 -- the first line, if there is one, is the site's
 abbrev pub SiteFirst : List Line → Type 0

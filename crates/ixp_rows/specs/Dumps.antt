@@ -2,7 +2,8 @@
 use Rattle.std.specs.Prelude.{◌≡◌, ℕ, List, Option, Some, None, Result, Ok, Err}
 use Rattle.ixp_registry.specs.declared.registry.Registry.{Registry}
 use Rattle.ixp_registry.specs.declared.rows.Rows.{Rows}
-use Rattle.ixp_registry.specs.Registries.{rows_of, breach, IsValid}
+use Rattle.ixp_registry.specs.Registries.{rows_of, breach}
+use Rattle.ixp_registry.specs.Valid.{Valid}
 use Rattle.ixp_lines.specs.declared.version.Version.{Version}
 use Rattle.ixp_lines.specs.declared.version.Version.TheVariants.{One, Two}
 use Rattle.ixp_rows.specs.Reading.{head_text, after_text}
@@ -14,7 +15,7 @@ use Rattle.ixp_rows.specs.Answers.{DumpAnswer}
 -- The valid registry whose dump the text is; where the text is a dump of other rows, the lowest rule that they break and the
 -- line of the first row that breaks it; else the first faulty line.
 abbrev pub RegistryAnswer : Version → List ℕ → Result Registry DumpFault → Type 0
-RegistryAnswer version t (Ok r) = DumpAnswer version t (Ok (rows_of r)) × (t ≡ dump_text version (rows_of r)) × IsValid r
+RegistryAnswer version t (Ok r) = DumpAnswer version t (Ok (rows_of r)) × (t ≡ dump_text version (rows_of r)) × Valid r
 RegistryAnswer version t (Err (Invalid rule line)) = (w : Rows) × DumpAnswer version t (Ok w) × (breach w ≡ Some (record { rule = rule; line = line }))
 RegistryAnswer version t (Err (BadLine n)) = DumpAnswer version t (Err (BadLine n))
 RegistryAnswer version t (Err (Order n)) = DumpAnswer version t (Err (Order n))
@@ -28,10 +29,3 @@ version_by None = Two
 
 abbrev pub version_in : List ℕ → Version
 version_in t = version_by (after_text (head_text One) t)
-
--- two answers say the same: registries of the same rows, or the same fault
-abbrev pub SameAnswer : Result Registry DumpFault → Result Registry DumpFault → Type 0
-SameAnswer (Ok r) (Ok s) = rows_of r ≡ rows_of s
-SameAnswer (Ok r) (Err f) = ⊥
-SameAnswer (Err f) (Ok s) = ⊥
-SameAnswer (Err f) (Err g) = ◌≡◌ {A = Result Registry DumpFault} (Err f) (Err g)

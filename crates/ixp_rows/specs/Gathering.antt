@@ -1,22 +1,17 @@
 -- Rows of which those that have one member and family make a list.
-use Rattle.std.specs.Prelude.{◌≡◌, ◌≢◌, ⊤, ℕ, List, [], ◌∷◌, Option, Some, None, map, flat_map}
+use Rattle.std.specs.Prelude.{◌≡◌, ◌≢◌, ⊤, ℕ, List, [], ◌∷◌, map}
 use Rattle.std.specs.List.{AllByRecursion}
 use Rattle.std.specs.declared.cmp.Ordering.TheVariants.{Less}
 use Rattle.ixp_tables.specs.Tables.{order, Ascends}
 use Rattle.ixp_num.specs.AddressForms.{version_of}
 use Rattle.ixp_num.specs.declared.family.Family.{Family}
 use Rattle.ixp_registry.specs.declared.network.AddressRow.{AddressRow}
-use Rattle.ixp_registry.specs.declared.lists.PublicLists.{PublicLists}
-use Rattle.ixp_registry.specs.Keys.{address_key, bogon_key, bogon_as_key, transit_key, roa_key}
+use Rattle.ixp_registry.specs.Keys.{address_key}
 
 -- the first address, if there is one, isn't the one of the interface and family
 abbrev pub Misses : ℕ → Family → List AddressRow → Type 0
 Misses interface family [] = ⊤
 Misses interface family (a ∷ others) = address_key a ≢ interface ∷ version_of family ∷ []
-
--- the public lists ascend
-abbrev pub PublicAscends : PublicLists → Type 0
-PublicAscends p = Ascends bogon_key p.bogons × Ascends bogon_as_key p.bogon_as × Ascends transit_key p.transit × Ascends roa_key p.roas
 
 -- What is said of rows `R` with the key `key`, each with an item in the list of its group; `made` is the list of a group's first row
 -- with these items, and `rows_in` are a list's rows.

@@ -1,4 +1,5 @@
 pub mod Answers
+pub mod Causes
 pub mod Dumps
 pub mod Gathering
 pub mod Groups

@@ -1,10 +1,8 @@
 -- What the readers of a dump compute, on lists. A fault says how many bytes are left where the faulty line begins.
-use Rattle.std.specs.Prelude.{◌≡◌, ℕ, zero, suc, ◌-◌, Bool, ◌&&◌, ◌||◌, ◌==◌, true, false, List, [], ◌∷◌, ◌++◌, length, take, drop, map, flat_map, Option, Some, None, IfSome, option_map, slice_get, Result, Ok, Err, if◌then◌else◌, codes, decimal, ◌+◌}
+use Rattle.std.specs.Prelude.{◌≡◌, ℕ, zero, suc, ◌-◌, Bool, ◌&&◌, ◌||◌, ◌==◌, false, List, [], ◌∷◌, ◌++◌, length, take, drop, flat_map, Option, Some, None, IfSome, option_map, slice_get, Result, Ok, Err, if◌then◌else◌, codes, decimal, ◌+◌}
 use Rattle.std.specs.Ordering.{match_ordering}
-use Rattle.std.specs.declared.cmp.Ordering.{Ordering}
-use Rattle.std.specs.declared.cmp.Ordering.TheVariants.{Less, Equal, Greater}
-use Rattle.ixp_tables.specs.Tables.{order}
-use Rattle.ixp_registry.specs.Places.{same}
+use Rattle.std.specs.declared.cmp.Ordering.TheVariants.{Less}
+use Rattle.ixp_tables.specs.Tables.{order, same}
 use Rattle.std.specs.List.{list_any}
 use Rattle.std.specs.Option.{is_some, option_map_or}
 use Rattle.ixp_registry.specs.declared.kind.Kind.{Kind}
@@ -13,10 +11,10 @@ use Rattle.ixp_lines.specs.declared.version.Version.TheVariants.{One, Two}
 use Rattle.ixp_lines.specs.declared.version.Version.{Version}
 use Rattle.ixp_lines.specs.Fields.{Field}
 use Rattle.ixp_registry.specs.Kinds.{word_of}
-use Rattle.ixp_lines.specs.Lines.{Line, form_of, key_length, field_key}
+use Rattle.ixp_lines.specs.Lines.{form_of, key_length, field_key}
 use Rattle.ixp_lines.specs.Reading.{fields_at}
 use Rattle.ixp_rows.specs.declared.fault.DumpFault.{DumpFault}
-use Rattle.ixp_rows.specs.declared.fault.DumpFault.TheVariants.{BadLine, Order as OutOfOrder, Twice as SameKey, Invalid, NoMemory as OutOfMemory}
+use Rattle.ixp_rows.specs.declared.fault.DumpFault.TheVariants.{BadLine, Order as OutOfOrder, Twice as SameKey, NoMemory as OutOfMemory}
 use Rattle.ixp_rows.specs.declared.misread.Misread.{Misread}
 use Rattle.ixp_rows.specs.declared.misread.Misread.TheVariants.{Bad, Order, Twice, NoMemory}
 

@@ -1,4 +1,5 @@
 //! Why a text is no dump.
+use ixp_causes::{Cause, Code, Place};
 use std::alloc::AllocError;
 
 /// Why a text is no dump of a valid registry. Lines are counted from 1; the fault is that of the first line that
@@ -15,6 +16,35 @@ pub enum DumpFault {
     /// at this line.
     Invalid { rule: u32, line: usize },
     NoMemory,
+}
+
+impl DumpFault {
+    ghost use Rattle.std.specs.Prelude.{◌≡◌};
+    ghost use Rattle.ixp_rows.specs.Causes.{cause_of};
+
+    /// How the fault is told; None of want of memory.
+    pub fn cause(self) -> Option<Cause>
+        ensures { result ≡ cause_of self }
+    {
+        let (code, line) = match self {
+            DumpFault::BadLine { line } => (Code::U1, line),
+            DumpFault::Order { line } => (Code::U2, line),
+            DumpFault::Twice { line } => (Code::U3, line),
+            DumpFault::Invalid { rule, line } => {
+                let place = Place::Rule {
+                    rule,
+                    line: line as u64,
+                };
+                return Some(Cause {
+                    code: Code::U4,
+                    place,
+                });
+            }
+            DumpFault::NoMemory => return None,
+        };
+        let place = Place::Line { line: line as u64 };
+        Some(Cause { code, place })
+    }
 }
 
 impl From<AllocError> for DumpFault {

@@ -5,15 +5,17 @@ ghost use Rattle.std.specs.Option.{is_some};
 ghost use Rattle.ixp_num.specs.AddressForms.{version_of};
 ghost use Rattle.ixp_num.specs.declared.family.Family.TheVariants.{V4, V6};
 ghost use Rattle.ixp_tables.specs.Tables.{Ascends, find};
-ghost use Rattle.ixp_registry.specs.Keys.{address_key, interface_row_key, interface_key, irr_key, origins_key, member_prefix_key, member_origin_key};
-ghost use Rattle.ixp_registry.specs.Registries.{rows_of, bare, addresses_of, address_rows, IsIn, prefixes_of, origins_of, IsPrefixList, IsOriginList, ListsStand};
+ghost use Rattle.ixp_registry.specs.Keys.{address_key, interface_row_key, interface_key, irr_key, origins_key, rules_key, member_prefix_key, member_origin_key, rule_key};
+ghost use Rattle.ixp_registry.specs.Registries.{rows_of, bare, addresses_of, address_rows, prefixes_of, origins_of, rules_in};
+ghost use Rattle.ixp_registry.specs.Valid.{IsIn};
+ghost use Rattle.ixp_validity.specs.WellFormed.{AreOrdered, HasLists, IsPrefixList, IsOriginList, IsRuleList};
 ghost use Rattle.ixp_registry.specs.Rules.{addresses_have_interfaces};
-ghost use Rattle.ixp_rows.specs.Gathering.{Misses, PublicAscends, AreListed};
+ghost use Rattle.ixp_rows.specs.Gathering.{Misses, AreListed};
 
 use ixp_num::{Asn, Family, Items, Prefix};
 use ixp_registry::{
-    AddressRow, IfAddr, Interface, InterfaceRow, IrrList, MemberOrigin, MemberPrefix, OriginList,
-    Registry, Rows,
+    AddressRow, IfAddr, Interface, InterfaceRow, IrrList, MemberOrigin, MemberPrefix, MemberRule,
+    OriginList, Registry, Rows, RuleList,
 };
 use ixp_tables::{Row, Table};
 use std::alloc::{AllocError, Global};
@@ -223,6 +225,39 @@ impl Listed for MemberOrigin {
     }
 }
 
+impl Listed for MemberRule {
+    type Item = MemberRule;
+
+    type List = RuleList;
+
+    ghost group = { λ r. r.member ∷ [] };
+
+    ghost item = { λ r. r };
+
+    ghost made = { λ r items. record { member = r.member; rules = items } };
+
+    ghost rows_in = { rules_in };
+
+    ghost IsList = { IsRuleList };
+
+    fn is_with(&self, other: &MemberRule) -> bool {
+        self.member == other.member
+    }
+
+    fn item(&self) -> MemberRule {
+        *self
+    }
+
+    fn list(&self, items: Items<MemberRule>) -> RuleList
+        ensures { result ≡ record { member = self.now.member; rules = items } }
+    {
+        RuleList {
+            member: self.member,
+            rules: items,
+        }
+    }
+}
+
 fn irr_of(alloc: Global, rows: &[MemberPrefix]) -> Result<Table<IrrList>, AllocError>
     requires { Ascends member_prefix_key rows.now }
     ensures rows { IfOk result (λ lists. flat_map prefixes_of lists ≡ rows.now) }
@@ -241,12 +276,42 @@ fn origins_of(alloc: Global, rows: &[MemberOrigin]) -> Result<Table<OriginList>,
     Ok(Table::from_ascending(lists))
 }
 
+fn rules_of(alloc: Global, rows: &[MemberRule]) -> Result<Table<RuleList>, AllocError>
+    requires { Ascends rule_key rows.now }
+    ensures rows { IfOk result (λ lists. flat_map rules_in lists ≡ rows.now) }
+    ensures lists { IfOk result (λ lists. AllByRecursion IsRuleList lists) }
+{
+    let lists = lists_of::<MemberRule>(alloc, rows)?;
+    Ok(Table::from_ascending(lists))
+}
+
+/// Does nothing. It is called for what it ensures: the tables of a registry ascend, and so do its public lists.
+fn tables_ascend(registry: &Registry)
+    ensures { AreOrdered registry.now }
+{
+    registry.members.as_slice();
+    registry.contacts.as_slice();
+    registry.keys.as_slice();
+    registry.switches.as_slice();
+    registry.ports.as_slice();
+    registry.vlans.as_slice();
+    registry.interfaces.as_slice();
+    registry.routers.as_slice();
+    registry.irr.as_slice();
+    registry.origins.as_slice();
+    registry.rules.as_slice();
+    registry.public.bogons.as_slice();
+    registry.public.bogon_as.as_slice();
+    registry.public.transit.as_slice();
+    registry.public.roas.as_slice();
+}
+
 /// The registry of a dump's rows, where each address has its interface.
 pub(crate) fn registry_of(alloc: Global, rows: Rows) -> Result<Registry, AllocError>
-    requires there { addresses_have_interfaces rows ≡ None }
-    requires public { PublicAscends rows.public }
+    requires { addresses_have_interfaces rows ≡ None }
     ensures rows { IfOk result (λ r. rows_of r ≡ rows) }
-    ensures lists { IfOk result ListsStand }
+    ensures lists { IfOk result HasLists }
+    ensures ordered { IfOk result AreOrdered }
 {
     let Rows {
         site,
@@ -267,7 +332,8 @@ pub(crate) fn registry_of(alloc: Global, rows: Rows) -> Result<Registry, AllocEr
     let with = interfaces_of(alloc, interfaces.as_slice(), addresses.into_rows())?;
     let irr = irr_of(alloc, prefixes.as_slice())?;
     let origins = origins_of(alloc, origins.as_slice())?;
-    Ok(Registry {
+    let rules = rules_of(alloc, rules.as_slice())?;
+    let registry = Registry {
         site,
         members,
         contacts,
@@ -281,5 +347,7 @@ pub(crate) fn registry_of(alloc: Global, rows: Rows) -> Result<Registry, AllocEr
         origins,
         rules,
         public,
-    })
+    };
+    tables_ascend(&registry);
+    Ok(registry)
 }

@@ -1,8 +1,6 @@
 //! Rows that are read together.
 ghost use Rattle.std.specs.Prelude.{◌≡◌, ◌∷◌, [], IfOk};
 ghost use Rattle.std.specs.List.{AllByRecursion};
-ghost use Rattle.ixp_tables.specs.Tables.{Ascends};
-ghost use Rattle.ixp_registry.specs.Keys.{bogon_key, bogon_as_key, transit_key, roa_key};
 ghost use Rattle.ixp_registry.specs.declared.kind.Kind.TheVariants as of;
 ghost use Rattle.ixp_lines.specs.Lines.{IsOfVersion};
 ghost use Rattle.ixp_rows.specs.Reading.{Gives, sections_at};
@@ -11,11 +9,12 @@ ghost use Rattle.ixp_rows.specs.Groups.{owner_fields, network_fields, steering_f
 use crate::misread::Misread;
 use crate::section::section;
 use ixp_lines::Version;
-use ixp_num::{Asn, Items, Pattern, Roa};
+use ixp_num::{Asn, Pattern, Roa};
 use ixp_registry::{
     AddressRow, ApiKey, Contact, InterfaceRow, Member, MemberOrigin, MemberPrefix, MemberRule,
     Port, PublicLists, Router, Switch, Vlan,
 };
+use ixp_sorted::Sorted;
 use ixp_tables::Table;
 use std::alloc::Global;
 
@@ -116,21 +115,17 @@ pub(crate) fn read_public(
     version: Version,
     text: &[u8],
 ) -> Result<(PublicLists, &[u8]), Misread>
-    ensures reads { Gives (λ x. (public_fields x.0, x.1.now)) result (sections_at version (of.Bogons ∷ of.BogonAs ∷ of.Transit ∷ of.Roas ∷ []) text.now) }
-    ensures bogons { IfOk result (λ x. Ascends bogon_key x.0.bogons) }
-    ensures bogon_ases { IfOk result (λ x. Ascends bogon_as_key x.0.bogon_as) }
-    ensures transit { IfOk result (λ x. Ascends transit_key x.0.transit) }
-    ensures roas { IfOk result (λ x. Ascends roa_key x.0.roas) }
+    ensures { Gives (λ x. (public_fields x.0, x.1.now)) result (sections_at version (of.Bogons ∷ of.BogonAs ∷ of.Transit ∷ of.Roas ∷ []) text.now) }
 {
     let (bogons, rest) = section::<Pattern>(alloc, version, text)?;
     let (bogon_as, rest) = section::<(Asn, Asn)>(alloc, version, rest)?;
     let (transit, rest) = section::<Asn>(alloc, version, rest)?;
     let (roas, rest) = section::<Roa>(alloc, version, rest)?;
     let public = PublicLists {
-        bogons: Items::from_vec(bogons),
-        bogon_as: Items::from_vec(bogon_as),
-        transit: Items::from_vec(transit),
-        roas: Items::from_vec(roas),
+        bogons: Sorted::from_ascending(bogons),
+        bogon_as: Sorted::from_ascending(bogon_as),
+        transit: Sorted::from_ascending(transit),
+        roas: Sorted::from_ascending(roas),
     };
     Ok((public, rest))
 }

@@ -3,8 +3,11 @@ ghost use Rattle.std.specs.Prelude.{◌≡◌, ◌≢◌, ℕ, List, Result, Ok,
 ghost use Rattle.std.specs.List.{AllByRecursion};
 ghost use Rattle.ixp_registry.specs.declared.registry.Registry.{Registry};
 ghost use Rattle.ixp_registry.specs.declared.rows.Rows.{Rows};
-ghost use Rattle.ixp_rows.specs.Dumps.{RegistryAnswer, SameAnswer};
+ghost use Rattle.ixp_registry.specs.Registries.{rows_of};
+ghost use Rattle.ixp_registry.specs.Valid.{Valid};
+ghost use Rattle.ixp_rows.specs.Dumps.{RegistryAnswer};
 ghost use Rattle.ixp_lines.specs.declared.version.Version.{Version};
+ghost use Rattle.ixp_lines.specs.declared.version.Version.TheVariants.{Two};
 ghost use Rattle.ixp_lines.specs.Lines.{IsLine, IsOfVersion};
 ghost use Rattle.ixp_rows.specs.declared.fault.DumpFault.{DumpFault};
 ghost use Rattle.ixp_rows.specs.declared.fault.DumpFault.TheVariants.{NoMemory};
@@ -26,8 +29,14 @@ pub fn printed_is_read()
     ensures reads { (version : Version) (w : Rows) → AllAscend w → AllByRecursion (IsLine version) (row_lines version w) → dump_at version (dump_text version w) ≡ Ok (row_fields version w) }
 {}
 
-/// A text is the dump of one registry's rows at most, or has one fault, but that memory may run out: what the readers
-/// of registries ensure says exactly when each other answer comes.
+/// A text is the dump of one valid registry at most, or has one fault, but that memory may run out: what the readers
+/// of registries ensure says exactly when each other answer comes. And two valid registries of the same rows are one.
 pub fn one_registry()
-    ensures { (version : Version) (t : List ℕ) (x y : Result Registry DumpFault) → x ≢ Err NoMemory → y ≢ Err NoMemory → RegistryAnswer version t x → RegistryAnswer version t y → SameAnswer x y }
+    ensures answer { (version : Version) (t : List ℕ) (x y : Result Registry DumpFault) → x ≢ Err NoMemory → y ≢ Err NoMemory → RegistryAnswer version t x → RegistryAnswer version t y → x ≡ y }
+    ensures rows { (r s : Registry) → Valid r → Valid s → rows_of r ≡ rows_of s → r ≡ s }
+{}
+
+/// What `print_dump` prints of a valid registry is read again as this registry.
+pub fn dumps_of_valid_registries_are_read()
+    ensures { (r : Registry) → Valid r → RegistryAnswer Two (dump_text Two (rows_of r)) (Ok r) }
 {}

@@ -1,8 +1,8 @@
 //! Printing dumps.
 ghost use Rattle.std.specs.Prelude.{◌≡◌, ◌≤◌, ◌^◌, ◌++◌, ◌+◌, OnOk, IfSome, IfNone, flat_map, map, length};
 ghost use Rattle.ixp_lines.specs.declared.version.Version.TheVariants.{Two};
-ghost use Rattle.ixp_lines.specs.Lines.{text_of, interface_line, address_line, prefix_line, origin_line};
-ghost use Rattle.ixp_registry.specs.Registries.{rows_of, bare, addresses_of, address_rows, prefixes_of, origins_of};
+ghost use Rattle.ixp_lines.specs.Lines.{text_of, interface_line, address_line, prefix_line, origin_line, rule_line};
+ghost use Rattle.ixp_registry.specs.Registries.{rows_of, bare, addresses_of, address_rows, prefixes_of, origins_of, rules_in};
 ghost use Rattle.ixp_rows.specs.Texts.{lines_by, lines_text, rows_count, dump_text};
 ghost use Rattle.ixp_rows.specs.Reading.{head_text, end_text, sum};
 ghost use Rattle.ixp_rows.specs.Printing.{kind_lines, kind_count};
@@ -11,6 +11,7 @@ use ixp_lines::{Kind, Lined, Version, print_address};
 use ixp_num::Family;
 use ixp_registry::{
     IfAddr, Interface, InterfaceRow, IrrList, MemberOrigin, MemberPrefix, OriginList, Registry,
+    RuleList,
 };
 use ixp_text::{put, put_number};
 use std::alloc::AllocError;
@@ -137,6 +138,16 @@ fn put_origin_lists(lists: &[OriginList], out: &mut Vec<u8>) -> Result<(), Alloc
     Ok(())
 }
 
+#[tactic(auto, using(crate::proofs::Printed::rule_lists_more))]
+fn put_rule_lists(lists: &[RuleList], out: &mut Vec<u8>) -> Result<(), AllocError>
+    ensures { OnOk result (out.new.items ≡ out.old.items ++ lines_by rule_line (flat_map rules_in lists.now)) }
+{
+    for list in lists {
+        put_rows(list.rules.as_slice(), out)?;
+    }
+    Ok(())
+}
+
 fn put_kind(registry: &Registry, kind: Kind, out: &mut Vec<u8>) -> Result<(), AllocError>
     ensures { OnOk result (out.new.items ≡ out.old.items ++ kind_lines Two (rows_of registry.now) kind) }
 {
@@ -153,7 +164,7 @@ fn put_kind(registry: &Registry, kind: Kind, out: &mut Vec<u8>) -> Result<(), Al
         Kind::Routers => put_rows(registry.routers.as_slice(), out),
         Kind::Prefixes => put_lists(registry.irr.as_slice(), out),
         Kind::Origins => put_origin_lists(registry.origins.as_slice(), out),
-        Kind::Rules => put_rows(registry.rules.as_slice(), out),
+        Kind::Rules => put_rule_lists(registry.rules.as_slice(), out),
         Kind::Bogons => put_rows(registry.public.bogons.as_slice(), out),
         Kind::BogonAs => put_rows(registry.public.bogon_as.as_slice(), out),
         Kind::Transit => put_rows(registry.public.transit.as_slice(), out),
@@ -217,6 +228,18 @@ fn count_origins(lists: &[OriginList]) -> Option<usize>
     Some(count)
 }
 
+#[tactic(auto, using(crate::proofs::Printed::rules_counted))]
+fn count_rules(lists: &[RuleList]) -> Option<usize>
+    ensures some { IfSome result (λ n. n ≡ length (flat_map rules_in lists.now)) }
+    ensures none { IfNone result (2 ^ 64 ≤ length (flat_map rules_in lists.now)) }
+{
+    let mut count = 0usize;
+    for list in lists {
+        count = count.checked_add(list.rules.len())?;
+    }
+    Some(count)
+}
+
 fn count_kind(registry: &Registry, kind: Kind) -> Option<usize>
     ensures some { IfSome result (λ n. n ≡ kind_count (rows_of registry.now) kind) }
     ensures none { IfNone result (2 ^ 64 ≤ kind_count (rows_of registry.now) kind) }
@@ -234,7 +257,7 @@ fn count_kind(registry: &Registry, kind: Kind) -> Option<usize>
         Kind::Routers => Some(registry.routers.len()),
         Kind::Prefixes => count_prefixes(registry.irr.as_slice()),
         Kind::Origins => count_origins(registry.origins.as_slice()),
-        Kind::Rules => Some(registry.rules.len()),
+        Kind::Rules => count_rules(registry.rules.as_slice()),
         Kind::Bogons => Some(registry.public.bogons.len()),
         Kind::BogonAs => Some(registry.public.bogon_as.len()),
         Kind::Transit => Some(registry.public.transit.len()),

@@ -3,7 +3,6 @@ ghost use Rattle.std.specs.Prelude.{◌≡◌, ◌<◌, ◌≤◌, ◌+◌, ◌-
 ghost use Rattle.std.specs.List.{AllByRecursion};
 ghost use Rattle.ixp_lines.specs.Lines.{IsOfVersion};
 ghost use Rattle.ixp_rows.specs.Answers.{DumpAnswer};
-ghost use Rattle.ixp_rows.specs.Gathering.{PublicAscends};
 ghost use Rattle.ixp_rows.specs.Groups.{row_fields};
 ghost use Rattle.ixp_rows.specs.Groups.{IsRead};
 ghost use Rattle.ixp_rows.specs.Texts.{dump_text};
@@ -95,7 +94,6 @@ fn count(_version: Version, rows: &Rows) -> Option<usize>
 #[tactic(auto, unfolding(crate::specs::Reading::dump_at))]
 fn dump_of(alloc: Global, version: Version, text: &[u8]) -> Result<Rows, Misread>
     ensures reads { Gives (row_fields version) result (dump_at version text.now) }
-    ensures public { IfOk result (λ rows. PublicAscends rows.public) }
     ensures of_version { IfOk result (λ rows. AllByRecursion (IsOfVersion version) rows.routers) }
 {
     let (rows, rest) = rows_of(alloc, version, text)?;
@@ -114,7 +112,6 @@ pub fn read_rows(alloc: Global, version: Version, text: &[u8]) -> Result<Rows, D
     ensures answer { DumpAnswer version text.now result }
     ensures reads { IsRead version text.now result }
     ensures spelt { IfOk result (λ rows. text.now ≡ dump_text version rows) }
-    ensures public { IfOk result (λ rows. PublicAscends rows.public) }
 {
     match dump_of(alloc, version, text) {
         Ok(rows) => Ok(rows),

@@ -3,7 +3,6 @@ ghost use Rattle.std.specs.Prelude.{◌≡◌, ◌<◌, ◌+◌, length, option_
 ghost use Rattle.ixp_registry.specs.declared.kind.Kind.TheVariants.{Sites};
 ghost use Rattle.std.specs.List.{AllByRecursion};
 ghost use Rattle.ixp_lines.specs.Lines.{IsOfVersion, site_line};
-ghost use Rattle.ixp_rows.specs.Gathering.{PublicAscends};
 ghost use Rattle.ixp_rows.specs.Groups.{row_fields};
 ghost use Rattle.ixp_rows.specs.Reading.{Gives, head_text, after_text, needed, line_at, rows_at};
 
@@ -48,7 +47,6 @@ pub(crate) fn rows_of(
     text: &[u8],
 ) -> Result<(Rows, &[u8]), Misread>
     ensures reads { Gives (λ x. (row_fields version x.0, x.1.now)) result (rows_at version text.now) }
-    ensures public { IfOk result (λ x. PublicAscends x.0.public) }
     ensures of_version { IfOk result (λ x. AllByRecursion (IsOfVersion version) x.0.routers) }
 {
     let rest = match after_head(version, text) {

@@ -1,8 +1,7 @@
 -- Lists that are joined.
-use Rattle.std.proofs.Common.{◌≡◌, ℕ, zero, suc, take, drop, ◌+◌, add-one, if◌then◌else◌, Option, Some, map, List, [], ◌∷◌, ◌++◌, Bool, true, false, ◌||◌, ◌&&◌, refl, ap, sym, ◌∙◌, arith}
+use Rattle.std.proofs.Common.{◌≡◌, ℕ, zero, suc, take, drop, ◌+◌, add-one, map, List, [], ◌∷◌, ◌++◌, Bool, true, false, ◌||◌, ◌&&◌, refl, ap, sym, ◌∙◌, arith}
 use Rattle.std.specs.List.{list_any, list_all}
 use Rattle.ixp_registry.specs.Places.{first_with_earlier_from}
-use Rattle.std.proofs.lemmas.Grind.{common_steps}
 
 or_assoc : (a b c : Bool) → (a || b || c) ≡ (a || (b || c))
 or_assoc true b c = refl

@@ -1,5 +1,5 @@
 -- What is kept of the weights of members' lists: a number that stops at the greatest u64.
-use Rattle.std.specs.Prelude.{◌≡◌, ℕ, Bool, ◌-◌, ◌^◌, ◌==◌, ◌&&◌, min, Option, Some, None, [], ◌∷◌, false, if◌then◌else◌}
+use Rattle.std.specs.Prelude.{◌≡◌, ℕ, ◌-◌, ◌^◌, ◌==◌, ◌&&◌, min, Option, Some, None, if◌then◌else◌}
 use Rattle.std.specs.Option.{unwrap_or}
 use Rattle.std.specs.declared.cmp.Ordering.{Ordering}
 use Rattle.std.specs.Ordering.{nat_cmp, ordering_then}
@@ -11,10 +11,9 @@ use Rattle.ixp_num.specs.Families.{same_family}
 use Rattle.ixp_registry.specs.declared.rows.Rows.{Rows}
 use Rattle.ixp_registry.specs.declared.network.AddressRow.{AddressRow}
 use Rattle.ixp_registry.specs.declared.network.InterfaceRow.{InterfaceRow}
-use Rattle.ixp_tables.specs.Tables.{find}
-use Rattle.ixp_registry.specs.Keys.{member_key}
-use Rattle.ixp_registry.specs.Lookups.{if_there, is_connected}
-use Rattle.ixp_registry.specs.Rules.{list_weight, vlan_weight}
+use Rattle.ixp_registry.specs.Lookups.{is_member_connected}
+use Rattle.ixp_registry.specs.Rules.{list_weight}
+use Rattle.ixp_registry.specs.Weight.{vlan_weight}
 
 -- two numbers are the same as far as a u64 tells
 abbrev pub capped : ℕ → ℕ
@@ -40,5 +39,5 @@ HasWeights w m = (member : ℕ) (family : Family) → capped (weight_at m member
 abbrev pub interface_weight : Rows → ℕ → Family → AddressRow → InterfaceRow → ℕ
 interface_weight w member family a i =
     if i.member == member && same_family a.address.addr.family family && a.address.rs && a.address.irr
-    && if_there (find member_key (member ∷ []) w.members) false (λ m. is_connected m.status)
-    then vlan_weight w i.vlan family else 0
+    && is_member_connected w.members member
+    then vlan_weight w.routers i.vlan family else 0

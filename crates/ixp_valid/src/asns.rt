@@ -1,7 +1,8 @@
 //! Rule 4: AS numbers that are reserved, or shared by a member and a router.
 ghost use Rattle.std.specs.Prelude.{◌≡◌, ◌==◌};
 ghost use Rattle.std.specs.List.{list_any};
-ghost use Rattle.ixp_registry.specs.Rules.{is_reserved, members_have_asns, routers_have_asns, rule_4};
+ghost use Rattle.ixp_registry.specs.Rules.{members_have_asns, routers_have_asns, rule_4};
+ghost use Rattle.ixp_registry.specs.Words.{is_reserved};
 ghost use Rattle.ixp_places.specs.Sizes.{HasLines};
 
 use ixp_places::{earliest, first, members_at, routers_at};

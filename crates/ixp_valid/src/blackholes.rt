@@ -1,29 +1,21 @@
 //! Rule 15: the blackhole addresses of routers, and the communities that they take.
 ghost use Rattle.std.specs.Prelude.{◌≡◌, ◌||◌, true};
 ghost use Rattle.std.specs.List.{list_any};
-ghost use Rattle.ixp_registry.specs.Lookups.{if_there};
-ghost use Rattle.ixp_registry.specs.Rules.{has_address, has_blackhole, blackholes_meet, is_blackhole, blackholes_lie_apart, routers_have_blackholes, rule_15};
+ghost use Rattle.ixp_tables.specs.Tables.{if_there};
+ghost use Rattle.ixp_registry.specs.Rules.{is_assigned, blackholes_meet, may_be_blackhole, blackholes_lie_apart, routers_have_blackholes, rule_15};
+ghost use Rattle.ixp_registry.specs.Lookups.{has_blackhole};
 ghost use Rattle.ixp_places.specs.Sizes.{HasLines};
 
 use crate::earlier::{MeetsEarlier, first_with_earlier};
 use ixp_num::Addr;
-use ixp_places::{earliest, first, is_host_in, routers_at, same_addr};
-use ixp_registry::{Router, Rows};
+use ixp_places::{earliest, first, has_blackhole, is_host_in, routers_at, same_addr};
+use ixp_registry::{AddressRow, Router, Rows};
 
 impl MeetsEarlier for Router {
     ghost meets = { blackholes_meet };
 
     fn meets(&self, earlier: &[Router]) -> bool {
-        has_blackhole(self, &self.addr) || meets_any(self, earlier)
-    }
-}
-
-fn has_blackhole(router: &Router, addr: &Addr) -> bool
-    ensures { result ≡ has_blackhole router.now addr.now }
-{
-    match router.blackhole {
-        Some(blackhole) => same_addr(&blackhole, addr),
-        None => false,
+        meets_any(self, earlier) || has_blackhole(self, &self.addr)
     }
 }
 
@@ -40,27 +32,26 @@ fn blackholes_lie_apart(rows: &Rows) -> Option<usize>
     first_with_earlier(routers_at(rows), rows.routers.as_slice())
 }
 
-fn has_address(rows: &Rows, addr: &Addr) -> bool
-    ensures { result ≡ has_address rows.now addr.now }
+fn is_assigned(addresses: &[AddressRow], addr: &Addr) -> bool
+    ensures { result ≡ is_assigned addresses.now addr.now }
 {
-    let addresses = rows.addresses.as_slice();
     addresses.iter().any(|x| same_addr(&x.address.addr, addr))
 }
 
-fn is_blackhole(rows: &Rows, router: &Router, addr: &Addr) -> bool
-    ensures { result ≡ is_blackhole rows.now router.now addr.now }
+fn may_be_blackhole(rows: &Rows, router: &Router, addr: &Addr) -> bool
+    ensures { result ≡ may_be_blackhole rows.now router.now addr.now }
 {
     addr.family == router.family
-        && is_host_in(rows, router.vlan, router.family, addr)
-        && !has_address(rows, addr)
+        && is_host_in(&rows.vlans, router.vlan, router.family, addr)
+        && !is_assigned(rows.addresses.as_slice(), addr)
         && !(router.asn.0 == 65535)
 }
 
 fn may_have_its_blackhole(rows: &Rows, router: &Router) -> bool
-    ensures { result ≡ if_there router.now.blackhole true (is_blackhole rows.now router.now) }
+    ensures { result ≡ if_there router.now.blackhole true (may_be_blackhole rows.now router.now) }
 {
     match router.blackhole {
-        Some(blackhole) => is_blackhole(rows, router, &blackhole),
+        Some(blackhole) => may_be_blackhole(rows, router, &blackhole),
         None => true,
     }
 }

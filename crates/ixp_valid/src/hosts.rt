@@ -14,7 +14,7 @@ fn addresses_are_hosts(rows: &Rows) -> Option<usize>
     first(
         addresses_at(rows),
         addresses,
-        |a| !is_host_at(rows, a.interface, &a.address.addr),
+        |a| !is_host_at(&rows.vlans, &rows.interfaces, a.interface, &a.address.addr),
     )
 }
 
@@ -26,7 +26,7 @@ fn routers_are_hosts(rows: &Rows) -> Option<usize>
     first(
         routers_at(rows),
         routers,
-        |r| !is_host_in(rows, r.vlan, r.family, &r.addr),
+        |r| !is_host_in(&rows.vlans, r.vlan, r.family, &r.addr),
     )
 }
 

@@ -80,8 +80,3 @@ pub fn first_breach(alloc: Global, rows: &Rows) -> Result<Option<Breach>, AllocE
         ],
     ))
 }
-
-#[cfg(test)]
-mod sample;
-#[cfg(test)]
-mod tests;

@@ -15,7 +15,11 @@ fn contacts_have_members(rows: &Rows) -> Option<usize>
     ensures { result ≡ contacts_have_members rows.now }
 {
     let contacts = rows.contacts.as_slice();
-    first(contacts_at(rows), contacts, |c| !has_member(rows, c.member))
+    first(
+        contacts_at(rows),
+        contacts,
+        |c| !has_member(&rows.members, c.member),
+    )
 }
 
 fn keys_have_owners(rows: &Rows) -> Option<usize>
@@ -23,7 +27,7 @@ fn keys_have_owners(rows: &Rows) -> Option<usize>
     ensures { result ≡ keys_have_owners rows.now }
 {
     let keys = rows.keys.as_slice();
-    first(keys_at(rows), keys, |k| !has_owner(rows, k.owner))
+    first(keys_at(rows), keys, |k| !has_owner(&rows.members, k.owner))
 }
 
 fn ports_have_switches(rows: &Rows) -> Option<usize>
@@ -32,7 +36,8 @@ fn ports_have_switches(rows: &Rows) -> Option<usize>
 {
     let ports = rows.ports.as_slice();
     first(ports_at(rows), ports, |p| {
-        !(has_switch(rows, p.switch) && (p.member == 0 || has_member(rows, p.member)))
+        !(has_switch(&rows.switches, p.switch)
+            && (p.member == 0 || has_member(&rows.members, p.member)))
     })
 }
 
@@ -42,7 +47,9 @@ fn interfaces_have_ports(rows: &Rows) -> Option<usize>
 {
     let interfaces = rows.interfaces.as_slice();
     first(interfaces_at(rows), interfaces, |i| {
-        !(has_member(rows, i.member) && has_port(rows, i.port) && has_vlan(rows, i.vlan))
+        !(has_member(&rows.members, i.member)
+            && has_port(&rows.ports, i.port)
+            && has_vlan(&rows.vlans, i.vlan))
     })
 }
 
@@ -54,7 +61,7 @@ fn addresses_have_interfaces(rows: &Rows) -> Option<usize>
     first(
         addresses_at(rows),
         addresses,
-        |a| !has_interface(rows, a.interface),
+        |a| !has_interface(&rows.interfaces, a.interface),
     )
 }
 
@@ -63,7 +70,11 @@ fn routers_have_vlans(rows: &Rows) -> Option<usize>
     ensures { result ≡ routers_have_vlans rows.now }
 {
     let routers = rows.routers.as_slice();
-    first(routers_at(rows), routers, |r| !has_vlan(rows, r.vlan))
+    first(
+        routers_at(rows),
+        routers,
+        |r| !has_vlan(&rows.vlans, r.vlan),
+    )
 }
 
 fn prefixes_have_members(rows: &Rows) -> Option<usize>
@@ -71,7 +82,11 @@ fn prefixes_have_members(rows: &Rows) -> Option<usize>
     ensures { result ≡ prefixes_have_members rows.now }
 {
     let prefixes = rows.prefixes.as_slice();
-    first(prefixes_at(rows), prefixes, |p| !has_member(rows, p.member))
+    first(
+        prefixes_at(rows),
+        prefixes,
+        |p| !has_member(&rows.members, p.member),
+    )
 }
 
 fn origins_have_members(rows: &Rows) -> Option<usize>
@@ -79,7 +94,11 @@ fn origins_have_members(rows: &Rows) -> Option<usize>
     ensures { result ≡ origins_have_members rows.now }
 {
     let origins = rows.origins.as_slice();
-    first(origins_at(rows), origins, |o| !has_member(rows, o.member))
+    first(
+        origins_at(rows),
+        origins,
+        |o| !has_member(&rows.members, o.member),
+    )
 }
 
 fn rules_have_members(rows: &Rows) -> Option<usize>
@@ -87,7 +106,11 @@ fn rules_have_members(rows: &Rows) -> Option<usize>
     ensures { result ≡ rules_have_members rows.now }
 {
     let rules = rows.rules.as_slice();
-    first(rules_at(rows), rules, |r| !has_member(rows, r.member))
+    first(
+        rules_at(rows),
+        rules,
+        |r| !has_member(&rows.members, r.member),
+    )
 }
 
 /// Each row that is named is there.
@@ -116,7 +139,7 @@ fn ports_are_the_members(rows: &Rows) -> Option<usize>
     first(
         interfaces_at(rows),
         interfaces,
-        |i| !is_port_of(rows, i.port, i.member),
+        |i| !is_port_of(&rows.ports, i.port, i.member),
     )
 }
 
@@ -136,7 +159,7 @@ fn interfaces_have_no_left_member(rows: &Rows) -> Option<usize>
     first(
         interfaces_at(rows),
         interfaces,
-        |i| has_left(rows, i.member),
+        |i| has_left(&rows.members, i.member),
     )
 }
 

@@ -1,6 +1,7 @@
 //! Rule 7: addresses and secrets that two have.
 ghost use Rattle.std.specs.Prelude.{◌≡◌, ◌++◌, map, IfOk};
-ghost use Rattle.ixp_registry.specs.Rules.{addr_numbers, secrets_differ, addresses_differ, rule_7};
+ghost use Rattle.ixp_registry.specs.Rules.{secrets_differ, addresses_differ, rule_7};
+ghost use Rattle.ixp_registry.specs.Words.{addr_numbers};
 ghost use Rattle.ixp_places.specs.Sizes.{HasLines};
 
 use ixp_num::Addr;

@@ -1,8 +1,9 @@
 //! Rule 11: members' own rules.
 ghost use Rattle.std.specs.Prelude.{◌≡◌, ◌==◌, ◌+◌, ◌<◌, ◌^◌, length, not, nat_le, true};
-ghost use Rattle.ixp_registry.specs.Lookups.{if_there};
+ghost use Rattle.ixp_tables.specs.Tables.{if_there};
 ghost use Rattle.ixp_registry.specs.Places.{first_beside};
-ghost use Rattle.ixp_registry.specs.Rules.{place_after, is_action_of, rules_follow, rules_are_lawful, rule_11};
+ghost use Rattle.ixp_registry.specs.Rules.{place_after, rules_follow, rules_are_lawful, rule_11};
+ghost use Rattle.ixp_registry.specs.Words.{is_action_of, is_lawful};
 ghost use Rattle.ixp_places.specs.Sizes.{HasLines};
 
 use ixp_num::Asn;
@@ -71,16 +72,18 @@ fn is_peer(peer: Option<Asn>) -> bool
     }
 }
 
+fn is_lawful(rule: &MemberRule) -> bool
+    ensures { result ≡ is_lawful rule.now }
+{
+    is_action_of(rule.way, rule.action) && is_peer(rule.peer)
+}
+
 fn rules_are_lawful(rows: &Rows) -> Option<usize>
     requires { HasLines rows.now }
     ensures { result ≡ rules_are_lawful rows.now }
 {
     let rules = rows.rules.as_slice();
-    first(
-        rules_at(rows),
-        rules,
-        |r| !(is_action_of(r.way, r.action) && is_peer(r.peer)),
-    )
+    first(rules_at(rows), rules, |r| !is_lawful(r))
 }
 
 /// A member's rules have the places 1 to n and lawful actions, and a rule's peer is any or at least 1.

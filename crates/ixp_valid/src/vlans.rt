@@ -1,8 +1,9 @@
 //! Rule 5: the prefixes and tags of VLANs.
 ghost use Rattle.std.specs.Prelude.{◌≡◌, ◌||◌};
 ghost use Rattle.std.specs.List.{list_any, list_all};
-ghost use Rattle.ixp_registry.specs.Lookups.{overlap, listed, prefixes_of};
-ghost use Rattle.ixp_registry.specs.Rules.{is_vlan_length, overlaps_any, vlans_lie_apart, vlans_have_bounds, rule_5};
+ghost use Rattle.ixp_registry.specs.Lookups.{overlap, listed, vlan_prefixes};
+ghost use Rattle.ixp_registry.specs.Rules.{vlans_lie_apart, vlans_have_bounds, rule_5};
+ghost use Rattle.ixp_registry.specs.Words.{is_vlan_length, overlaps_any};
 ghost use Rattle.ixp_places.specs.Sizes.{HasLines};
 
 use crate::earlier::{MeetsEarlier, first_with_earlier};
@@ -11,7 +12,7 @@ use ixp_places::{earliest, first, vlans_at};
 use ixp_registry::{Rows, Vlan};
 
 impl MeetsEarlier for Vlan {
-    ghost meets = { λ earlier v. list_any (λ u. list_any (overlaps_any (prefixes_of u)) (prefixes_of v)) earlier || list_any (overlaps_any (listed v.v4)) (listed v.v6) };
+    ghost meets = { λ earlier v. list_any (λ u. list_any (overlaps_any (vlan_prefixes u)) (vlan_prefixes v)) earlier || list_any (overlaps_any (listed v.v4)) (listed v.v6) };
 
     fn meets(&self, earlier: &[Vlan]) -> bool {
         overlaps_earlier(self, earlier) || overlaps_itself(self)
@@ -35,13 +36,13 @@ fn overlaps(one: &Option<Prefix>, other: &Prefix) -> bool
 
 /// Whether the prefix overlaps with one of the VLAN's.
 fn overlaps_vlan(vlan: &Vlan, prefix: &Prefix) -> bool
-    ensures { result ≡ overlaps_any (prefixes_of vlan.now) prefix.now }
+    ensures { result ≡ overlaps_any (vlan_prefixes vlan.now) prefix.now }
 {
     overlaps(&vlan.v4, prefix) || overlaps(&vlan.v6, prefix)
 }
 
 fn column_overlaps(vlan: &Vlan, column: &Option<Prefix>) -> bool
-    ensures { result ≡ list_any (overlaps_any (prefixes_of vlan.now)) (listed column.now) }
+    ensures { result ≡ list_any (overlaps_any (vlan_prefixes vlan.now)) (listed column.now) }
 {
     match column {
         Some(prefix) => overlaps_vlan(vlan, prefix),
@@ -50,13 +51,13 @@ fn column_overlaps(vlan: &Vlan, column: &Option<Prefix>) -> bool
 }
 
 fn vlans_overlap(one: &Vlan, other: &Vlan) -> bool
-    ensures { result ≡ list_any (overlaps_any (prefixes_of one.now)) (prefixes_of other.now) }
+    ensures { result ≡ list_any (overlaps_any (vlan_prefixes one.now)) (vlan_prefixes other.now) }
 {
     column_overlaps(one, &other.v4) || column_overlaps(one, &other.v6)
 }
 
 fn overlaps_earlier(vlan: &Vlan, earlier: &[Vlan]) -> bool
-    ensures { result ≡ list_any (λ u. list_any (overlaps_any (prefixes_of u)) (prefixes_of vlan.now)) earlier.now }
+    ensures { result ≡ list_any (λ u. list_any (overlaps_any (vlan_prefixes u)) (vlan_prefixes vlan.now)) earlier.now }
 {
     earlier.iter().any(|one| vlans_overlap(one, vlan))
 }
@@ -96,7 +97,7 @@ fn column_has_length(column: &Option<Prefix>) -> bool
 }
 
 fn has_lengths(vlan: &Vlan) -> bool
-    ensures { result ≡ list_all is_vlan_length (prefixes_of vlan.now) }
+    ensures { result ≡ list_all is_vlan_length (vlan_prefixes vlan.now) }
 {
     column_has_length(&vlan.v4) && column_has_length(&vlan.v6)
 }

@@ -1,16 +1,15 @@
 //! Rule 13: how much the sessions of route servers make of members' lists.
-ghost use Rattle.std.specs.Prelude.{◌≡◌, ◌+◌, ◌<◌, ◌^◌, ℕ, [], ◌∷◌, false, IfOk, OnOk, length};
-ghost use Rattle.ixp_tables.specs.Tables.{find};
-ghost use Rattle.ixp_registry.specs.Keys.{member_key};
-ghost use Rattle.ixp_registry.specs.Lookups.{if_there, is_connected};
+ghost use Rattle.std.specs.Prelude.{◌≡◌, ◌+◌, ◌<◌, ◌^◌, ℕ, IfOk, OnOk, length};
 ghost use Rattle.ixp_num.specs.declared.family.Family.{Family};
 ghost use Rattle.ixp_registry.specs.Places.{first_heavy};
-ghost use Rattle.ixp_registry.specs.Rules.{router_weight, vlan_weight, address_weight, sessions_are_light};
+ghost use Rattle.ixp_registry.specs.Rules.{row_weight, sessions_are_light};
+ghost use Rattle.ixp_registry.specs.Weight.{vlan_weight};
+ghost use Rattle.ixp_registry.specs.Words.{router_weight};
 ghost use Rattle.ixp_places.specs.Sizes.{HasLines};
 ghost use Rattle.ixp_valid.specs.Weights.{capped, share_of, weight_at, interface_weight, HasWeights};
 
 use ixp_num::Family;
-use ixp_places::{is_connected, prefixes_at};
+use ixp_places::{is_member_connected, prefixes_at};
 use ixp_registry::{AddressRow, InterfaceRow, MemberPrefix, Router, Rows};
 use std::alloc::{AllocError, Global};
 use std::collections::BTreeMap;
@@ -28,11 +27,11 @@ fn router_weight(router: &Router) -> u64
 }
 
 /// What the routers of the family in the VLAN make of one row, as far as a `u64` tells.
-fn vlan_weight(rows: &Rows, vlan: u32, family: Family) -> u64
-    ensures { capped result ≡ capped (vlan_weight rows.now vlan family) }
+fn vlan_weight(routers: &[Router], vlan: u32, family: Family) -> u64
+    ensures { capped result ≡ capped (vlan_weight routers.now vlan family) }
 {
     let mut weight = 0u64;
-    let mut left = rows.routers.as_slice();
+    let mut left = routers;
     'routers: while let Some((router, others)) = left.split_first() {
         if router.vlan == vlan && router.family == family {
             weight = weight.saturating_add(router_weight(router));
@@ -40,15 +39,6 @@ fn vlan_weight(rows: &Rows, vlan: u32, family: Family) -> u64
         left = others;
     }
     weight
-}
-
-fn is_member_connected(rows: &Rows, member: u32) -> bool
-    ensures { result ≡ if_there (find member_key (member ∷ []) rows.now.members) false (λ m. is_connected m.status) }
-{
-    match rows.members.find(&member) {
-        Some(member) => is_connected(member.status),
-        None => false,
-    }
 }
 
 /// For which list the sessions of an address at the interface count, and how much.
@@ -60,8 +50,8 @@ fn interface_share(
     ensures { (member : ℕ) (family : Family) → capped (share_of result member family) ≡ capped (interface_weight rows.now member family row.now interface.now) }
 {
     let address = &row.address;
-    if address.rs && address.irr && is_member_connected(rows, interface.member) {
-        let weight = vlan_weight(rows, interface.vlan, address.addr.family);
+    if address.rs && address.irr && is_member_connected(&rows.members, interface.member) {
+        let weight = vlan_weight(rows.routers.as_slice(), interface.vlan, address.addr.family);
         Some((interface.member, address.addr.family, weight))
     } else {
         None
@@ -70,7 +60,7 @@ fn interface_share(
 
 /// For which list the sessions of an address count, and how much.
 fn share(rows: &Rows, row: &AddressRow) -> Option<(u32, Family, u64)>
-    ensures { (member : ℕ) (family : Family) → capped (share_of result member family) ≡ capped (address_weight rows.now member family row.now) }
+    ensures { (member : ℕ) (family : Family) → capped (share_of result member family) ≡ capped (row_weight rows.now member family row.now) }
 {
     match rows.interfaces.find(&row.interface) {
         Some(interface) => interface_share(rows, interface, row),

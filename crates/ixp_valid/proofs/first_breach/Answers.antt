@@ -1,4 +1,4 @@
-use Rattle.std.proofs.Common.{◌≡◌, ℕ, List, [], ◌∷◌, Option, refl, ap, ◌∙◌}
+use Rattle.std.proofs.Common.{◌≡◌, ℕ, List, ◌∷◌, Option, refl, ap, ◌∙◌}
 use Rattle.ixp_registry.specs.Registries.{first_rule}
 use Rattle.ixp_valid.proofs.first_breach.Goals as goal
 

@@ -1,4 +1,4 @@
-use Rattle.std.proofs.Common.{◌≡◌, ◌∙◌, sym}
+use Rattle.std.proofs.Common.{◌∙◌, sym}
 use Rattle.ixp_lines.proofs.Values.{address_same, address_other}
 use Rattle.ixp_lines.proofs.numbers.address_in.Goals as goal
 

@@ -1,4 +1,4 @@
-use Rattle.std.proofs.Common.{◌≡◌, ◌∙◌, sym, rules}
+use Rattle.std.proofs.Common.{◌∙◌, sym, rules}
 use Rattle.ixp_lines.proofs.Values.{bounds_same, bounds_other}
 use Rattle.ixp_lines.proofs.numbers.bounds_in.Goals as goal
 

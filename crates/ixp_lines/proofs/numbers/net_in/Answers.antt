@@ -1,4 +1,4 @@
-use Rattle.std.proofs.Common.{◌≡◌, ◌∙◌, sym}
+use Rattle.std.proofs.Common.{◌∙◌, sym}
 use Rattle.ixp_lines.proofs.Values.{net_same, net_other}
 use Rattle.ixp_lines.proofs.numbers.net_in.Goals as goal
 

@@ -1,4 +1,4 @@
-use Rattle.std.proofs.Common.{rules, ◌≡◌}
+use Rattle.std.proofs.Common.{rules}
 use Rattle.ixp_lines.specs.Reading.{value_of}
 use Rattle.ixp_lines.proofs.DigitWords.{digit_1, digit_2, digit_3}
 use Rattle.ixp_lines.proofs.words.action_in.Goals as goal

@@ -1,4 +1,4 @@
-use Rattle.std.proofs.Common.{rules, ◌≡◌, ◌+◌, ◌<◌, ◌≤◌, ℕ, List, [], ◌∷◌, map, length, arith, sym, ◌∙◌, ap, Bool, true, false, nat_le}
+use Rattle.std.proofs.Common.{rules, ◌≡◌, ◌+◌, ◌∷◌, map, arith, sym, ◌∙◌, ap}
 use Rattle.std.specs.Option.{unwrap_or}
 use Rattle.std.specs.BTreeMap as tree
 use Rattle.std.specs.Ordering.{is_eq}

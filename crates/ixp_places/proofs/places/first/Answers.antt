@@ -1,7 +1,6 @@
-use Rattle.std.proofs.Common.{rules, ◌≡◌, ◌+◌, ℕ, Bool, List, arith, sym, ◌∙◌, ap, true, false, refl, subst, ◌∷◌, Some}
-use Rattle.std.specs.Fn.{FnReturnsAt}
+use Rattle.std.proofs.Common.{rules, ◌≡◌, ℕ, List, arith, sym, ◌∙◌, ap, true, false, refl, subst, ◌∷◌, Some}
 use Rattle.ixp_registry.specs.Places.{first}
-use Rattle.ixp_places.proofs.Placing.{first_here, first_on}
+use Rattle.ixp_registry.proofs.Placing.{first_here, first_on}
 use Rattle.ixp_places.proofs.places.first.Goals as goal
 
 pub returns-then-breaks : goal.returns-then-breaks

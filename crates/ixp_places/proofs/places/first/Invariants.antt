@@ -1,4 +1,4 @@
-use Rattle.std.proofs.Common.{length, ◌≡◌, ◌+◌, ℕ, Bool}
+use Rattle.std.proofs.Common.{length, ◌≡◌, ◌+◌, Bool}
 use Rattle.std.specs.Fn.{FnReturnsAt}
 use Rattle.ixp_registry.specs.Places.{first}
 use Rattle.ixp_places.proofs.places.first.Given as goal

@@ -1,10 +1,10 @@
 use Rattle.std.proofs.Common.{rules, ◌≡◌, ◌++◌, ◌∷◌, [], subst, sym, ap, ◌∙◌, append-nil, flat_map, length, map}
-use Rattle.std.specs.List.{AllByRecursion}
 use Rattle.ixp_num.specs.declared.family.Family.TheVariants.{V4, V6}
 use Rattle.ixp_tables.specs.Tables.{Ascends}
 use Rattle.ixp_tables.proofs.Places.{Ascends_behind}
 use Rattle.ixp_registry.specs.Keys.{address_key, interface_row_key}
-use Rattle.ixp_registry.specs.Registries.{bare, addresses_of, IsIn}
+use Rattle.ixp_registry.specs.Registries.{bare, addresses_of}
+use Rattle.ixp_registry.specs.Valid.{IsIn}
 use Rattle.ixp_rows.proofs.Gathered.{no_rows, AreThere, all_more, all_behind, none_below, there_behind, none_there, interface_more, addresses_moved}
 use Rattle.ixp_rows.proofs.gathering.interfaces_of.Goals as goal
 

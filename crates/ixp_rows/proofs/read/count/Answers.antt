@@ -1,4 +1,3 @@
-use Rattle.std.proofs.Common.{◌≡◌, sym}
 use Rattle.ixp_rows.proofs.Counts.{counted}
 use Rattle.ixp_rows.proofs.read.count.Goals as goal
 

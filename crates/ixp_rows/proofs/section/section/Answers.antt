@@ -1,4 +1,4 @@
-use Rattle.std.proofs.Common.{◌≡◌, ◌∙◌, sym, subst, length, Ok, Some, None, option_map, List, map}
+use Rattle.std.proofs.Common.{sym, subst, length}
 use Rattle.std.specs.List.{AllByRecursion}
 use Rattle.ixp_tables.specs.Tables.{Ascends}
 use Rattle.ixp_tables.proofs.Views.{Ascends-more}

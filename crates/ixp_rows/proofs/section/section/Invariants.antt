@@ -1,4 +1,4 @@
-use Rattle.std.proofs.Common.{◌≡◌, length, suc}
+use Rattle.std.proofs.Common.{length}
 use Rattle.std.specs.List.{AllByRecursion}
 use Rattle.ixp_tables.specs.Tables.{Ascends}
 use Rattle.ixp_rows.specs.Reading.{section}

@@ -1,8 +1,8 @@
-use Rattle.std.proofs.Common.{rules, ◌≡◌, ◌==◌, ◌||◌, ℕ, Bool, subst}
+use Rattle.std.proofs.Common.{rules, ◌≡◌, ◌==◌, ◌||◌, Bool, subst}
 use Rattle.std.specs.List.{list_any}
 use Rattle.ixp_registry.specs.declared.router.Router.{Router}
 use Rattle.ixp_registry.specs.Lines.{routers_at}
-use Rattle.ixp_registry.specs.Rules.{is_reserved}
+use Rattle.ixp_registry.specs.Words.{is_reserved}
 use Rattle.ixp_valid.proofs.asns.routers_have_asns.Goals as goal
 
 pub returns : goal.returns

@@ -1,4 +1,4 @@
-use Rattle.std.proofs.Common.{rules, ◌≡◌, ◌+◌, ◌∷◌, take, drop, arith, add-one, sym, ◌∙◌, ap, false}
+use Rattle.std.proofs.Common.{rules, ◌≡◌, ◌+◌, ◌∷◌, take, arith, add-one, sym, ◌∙◌, ap, false}
 use Rattle.ixp_registry.specs.Places.{first_with_earlier_from}
 use Rattle.ixp_valid.proofs.Lists.{drop_next, earlier_on}
 use Rattle.ixp_valid.proofs.earlier.first_with_earlier.Goals as goal

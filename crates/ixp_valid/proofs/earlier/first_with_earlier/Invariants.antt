@@ -1,4 +1,4 @@
-use Rattle.std.proofs.Common.{◌≡◌, ◌+◌, List, [], length, take, drop}
+use Rattle.std.proofs.Common.{◌≡◌, ◌+◌, [], length, take, drop}
 use Rattle.ixp_registry.specs.Places.{first_with_earlier_from}
 use Rattle.ixp_valid.proofs.earlier.first_with_earlier.Given as goal
 

@@ -1,8 +1,7 @@
 use Rattle.std.proofs.Common.{rules, ◌≡◌, ◌++◌, ℕ, List, map, IfOk, ap, ◌∙◌, subst}
-use Rattle.ixp_num.specs.declared.addr.Addr.{Addr}
 use Rattle.ixp_registry.specs.Lines.{addresses_at}
 use Rattle.ixp_registry.specs.Places.{first_beyond}
-use Rattle.ixp_registry.specs.Rules.{addr_numbers}
+use Rattle.ixp_registry.specs.Words.{addr_numbers}
 use Rattle.ixp_valid.proofs.Lists.{mapped_both}
 use Rattle.ixp_valid.proofs.sharing.addresses_differ.Goals as goal
 

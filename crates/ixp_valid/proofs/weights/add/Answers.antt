@@ -1,7 +1,5 @@
-use Rattle.std.proofs.Common.{rules, ◌≡◌, ◌+◌, ℕ, arith}
+use Rattle.std.proofs.Common.{arith}
 use Rattle.std.proofs.lemmas.Grind.{common_steps}
-use Rattle.ixp_num.specs.declared.family.Family.{Family}
-use Rattle.ixp_valid.specs.Weights.{capped, weight_at}
 use Rattle.ixp_valid.proofs.Weighing.{weight_added}
 use Rattle.ixp_valid.proofs.weights.add.Goals as goal
 

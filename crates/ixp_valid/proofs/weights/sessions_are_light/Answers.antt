@@ -1,4 +1,4 @@
-use Rattle.std.proofs.Common.{◌≡◌, ℕ, ap, ◌∙◌}
+use Rattle.std.proofs.Common.{ℕ, ap, ◌∙◌}
 use Rattle.ixp_registry.specs.declared.lists.MemberPrefix.{MemberPrefix}
 use Rattle.ixp_registry.specs.Lines.{prefixes_at}
 use Rattle.ixp_registry.specs.Places.{first_heavy}
