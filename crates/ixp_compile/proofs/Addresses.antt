@@ -17,7 +17,7 @@ use Rattle.ixp_registry.specs.declared.network.Interface.{Interface}
 use Rattle.ixp_registry.specs.declared.registry.Registry.{Registry}
 use Rattle.ixp_registry.specs.declared.router.Router.{Router}
 use Rattle.ixp_registry.specs.Lookups.{same_addr}
-use Rattle.ixp_registry.specs.Rules.{addr_numbers}
+use Rattle.ixp_registry.specs.Words.{addr_numbers}
 use Rattle.ixp_registry.specs.Sessions.{Session, address_of}
 use Rattle.ixp_policy.specs.Import.{has_address}
 use Rattle.ixp_compile.proofs.Communities.{or_false}

@@ -1,5 +1,5 @@
 -- The texts of a valid registry do what the rules over its rows say.
-use Rattle.std.proofs.Common.{◌≡◌, ℕ, ◌<◌, ◌≤◌, ◌^◌, Bool, true, false, nat_le, not, List, [], ◌∷◌, ◌++◌, map, reverse, append-nil, Option, Some, None, Result, Ok, codes, refl, sym, ap, ◌∙◌, subst, if◌then◌else◌}
+use Rattle.std.proofs.Common.{◌≡◌, ℕ, ◌≤◌, Bool, true, false, nat_le, not, List, [], ◌∷◌, ◌++◌, map, reverse, append-nil, Option, Some, None, Result, Ok, codes, refl, sym, ap, ◌∙◌, subst, if◌then◌else◌}
 use Rattle.std.specs.Option.{is_some}
 use Rattle.ixp_tables.specs.Tables.{find}
 use Rattle.ixp_lang.specs.declared.fate.Fate.{Fate}
@@ -14,7 +14,6 @@ use Rattle.ixp_lang.specs.Walks.{walk}
 use Rattle.ixp_registry.specs.declared.registry.Registry.{Registry}
 use Rattle.ixp_registry.specs.declared.router.Router.{Router}
 use Rattle.ixp_registry.specs.Keys.{router_key}
-use Rattle.ixp_registry.specs.Registries.{IsValid}
 use Rattle.ixp_registry.specs.Sessions.{Session, session}
 use Rattle.ixp_pfxset.specs.BlockList.{blocks}
 use Rattle.ixp_pfxset.specs.declared.mode.Mode.TheVariants.{Exact, More}
@@ -28,18 +27,18 @@ use Rattle.ixp_policy.specs.Import.{is_covered_by, is_in_list}
 use Rattle.ixp_policy.specs.Export.{steered, wish}
 use Rattle.ixp_policy.specs.Fates.{passes, fate_of}
 use Rattle.ixp_policy.specs.Tags.{tagged}
+use Rattle.ixp_registry.specs.Valid.{Valid}
 use Rattle.ixp_compile.specs.declared.inputs.Inputs.{Inputs}
 use Rattle.ixp_compile.specs.Fragment.{bgp_name, up_name}
 use Rattle.ixp_compile.specs.Generated.{header_inputs, inputs, allowed_set, covered_set, mode_of, session_part, footer, generated, own_part, roa_tables, router_sessions}
 use Rattle.ixp_compile.specs.Header.{header}
 use Rattle.ixp_compile.specs.Imports.{Allows}
 use Rattle.ixp_compile.specs.Rewriting.{rewritten}
-use Rattle.ixp_compile.specs.Whole.{IsNumbered}
 use Rattle.ixp_compile.proofs.Communities.{eq_refl}
 use Rattle.ixp_compile.proofs.FatesWalked.{walked}
 use Rattle.ixp_compile.proofs.Rewrites.{rules_decide}
 use Rattle.ixp_compile.proofs.RouterSessions.{sent_entry, others_sent}
-use Rattle.ixp_compile.proofs.SessionsKept.{session_lawful, session_number, standing, sessions_numbered}
+use Rattle.ixp_compile.proofs.SessionsKept.{session_lawful, session_number, standing, sessions_numbered, session_small}
 use Rattle.ixp_compile.proofs.Validity.{head_stands, router_apart}
 use Rattle.ixp_compile.proofs.WholeText.{text, up_does, sends_does, count_does}
 
@@ -62,15 +61,15 @@ allows r router s = record {
   covered = λ route family host. covered (inputs r router s) route.net family;
 }
 
-module _ (r : Registry) (valid : IsValid r)
+module _ (r : Registry) (valid : Valid r)
     (handle : List ℕ) (router : Router) (there : find router_key handle r.routers ≡ Some router)
     (n : ℕ) (s : Session) (its : session r router n ≡ Some s) where
-  pub right : IsNumbered r → (route : Route) → route.net.family ≡ router.family
+  pub right : (route : Route) → route.net.family ≡ router.family
       → walk (generated r router) (roa_tables r) (bgp_name n) route ≡ Ok (fate_of r router route s)
-  right numbered route family =
+  right route family =
       ap (λ m. walk (generated r router) (roa_tables r) (bgp_name m) route) (sym (session_number r router n s its))
       ∙ walked r router allowed_set covered_set (head_stands r valid handle router there) (router_apart r valid handle router there) (router_sessions r router)
-      (sessions_numbered r router numbered) at.0 s at.1 at.2 route family (allows r router s) (session_lawful r router valid n s its)
+      (sessions_numbered r router valid) at.0 s at.1 at.2 route family (allows r router s) (session_lawful r router valid n s its)
       ∙ ap (λ xs. Ok (record { table = Some (tagged r router s route); passed = passes r router s route; sent = if passes r router s route then xs else [] }))
       (sym (others_sent r router s (tagged r router s route)))
     where
@@ -85,13 +84,13 @@ module _ (r : Registry) (valid : IsValid r)
   own_text : own ≡ text r router allowed_set covered_set (s ∷ [])
   own_text = ap (λ l. header (header_inputs r router) ++ (l ++ (footer ++ []))) (sym (append-nil (session_part (inputs r router s))))
 
-  pub own_right : n < 2 ^ 64 → (route : Route) → route.net.family ≡ router.family
+  pub own_right : (route : Route) → route.net.family ≡ router.family
       → walk own (roa_tables r) (bgp_name n) route ≡ Ok (record { table = Some (tagged r router s route); passed = passes r router s route; sent = [] })
-  own_right small route family =
+  own_right route family =
       ap (λ is. walk is (roa_tables r) (bgp_name n) route) own_text
       ∙ ap (λ m. walk (text r router allowed_set covered_set (s ∷ [])) (roa_tables r) (bgp_name m) route) (sym (session_number r router n s its))
       ∙ walked r router allowed_set covered_set (head_stands r valid handle router there) (router_apart r valid handle router there) (s ∷ [])
-      (subst (λ m. m < 2 ^ 64) (sym (session_number r router n s its)) small, tt, tt) [] s [] refl route family (allows r router s)
+      (session_small r router valid n s its, tt, tt) [] s [] refl route family (allows r router s)
       (session_lawful r router valid n s its)
       ∙ ap (λ b. Ok (record { table = Some (tagged r router s route); passed = passes r router s route; sent = if passes r router s route then map (sent_entry r router s (tagged r router s route)) (if not b then s ∷ [] else []) else [] }))
       (eq_refl s.interface.number)

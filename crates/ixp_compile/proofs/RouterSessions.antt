@@ -2,7 +2,7 @@
 use Rattle.std.proofs.Common.{◌≡◌, ℕ, Bool, true, false, ◌&&◌, ◌==◌, List, [], ◌∷◌, map, filter, filter_map, Option, Some, None, refl, sym, ap, ◌∙◌, true≢false, if◌then◌else◌}
 use Rattle.std.specs.List.{cons_option}
 use Rattle.std.proofs.lemmas.Bool.{and_parts}
-use Rattle.ixp_tables.specs.Tables.{find}
+use Rattle.ixp_tables.specs.Tables.{find, if_there}
 use Rattle.ixp_lang.specs.declared.route.Route.{Route}
 use Rattle.ixp_registry.specs.declared.members.Member.{Member}
 use Rattle.ixp_registry.specs.declared.network.IfAddr.{IfAddr}
@@ -10,8 +10,8 @@ use Rattle.ixp_registry.specs.declared.network.Interface.{Interface}
 use Rattle.ixp_registry.specs.declared.registry.Registry.{Registry}
 use Rattle.ixp_registry.specs.declared.router.Router.{Router}
 use Rattle.ixp_registry.specs.Keys.{member_key}
-use Rattle.ixp_registry.specs.Lookups.{if_there, is_connected}
-use Rattle.ixp_registry.specs.Sessions.{Session, address_of, is_session, is_member_connected, session_with, session_at}
+use Rattle.ixp_registry.specs.Lookups.{is_connected, is_member_connected}
+use Rattle.ixp_registry.specs.Sessions.{Session, address_of, is_session, session_with, session_at}
 use Rattle.ixp_policy.specs.Export.{received}
 use Rattle.ixp_policy.specs.Fates.{session_name, sent_to, is_other, sent_to_others}
 use Rattle.ixp_compile.specs.Generated.{router_sessions}
@@ -20,9 +20,9 @@ module _ (r : Registry) (router : Router) where
   -- an interface with a session has a record of it
   has_session : (i : Interface) → is_session r router i ≡ true → (s : Session) × (session_at r router i ≡ Some s) × (s.interface ≡ i)
   has_session i e = go (address_of router.family i) (find member_key (i.member ∷ []) r.members) refl refl where
-    both : (if_there (address_of router.family i) false (λ a. a.rs) ≡ true) × (is_member_connected r i.member ≡ true)
+    both : (if_there (address_of router.family i) false (λ a. a.rs) ≡ true) × (is_member_connected r.members i.member ≡ true)
     both =
-        let parts = and_parts (i.vlan == router.vlan && if_there (address_of router.family i) false (λ a. a.rs)) (is_member_connected r i.member) e in
+        let parts = and_parts (i.vlan == router.vlan && if_there (address_of router.family i) false (λ a. a.rs)) (is_member_connected r.members i.member) e in
         ((and_parts (i.vlan == router.vlan) (if_there (address_of router.family i) false (λ a. a.rs)) parts.0).1, parts.1)
 
     go : (a : Option IfAddr) (m : Option Member) → address_of router.family i ≡ a → find member_key (i.member ∷ []) r.members ≡ m

@@ -1,12 +1,12 @@
 -- A session of a router, by its interface's number.
-use Rattle.std.proofs.Common.{◌≡◌, ℕ, ◌<◌, ◌^◌, Bool, true, false, ◌&&◌, ◌==◌, not, nat_le, List, [], ◌∷◌, ◌++◌, filter, filter_map, Option, Some, None, refl, sym, ap, ◌∙◌, subst, arith, inl, inr, ◌⊎◌, if◌then◌else◌}
+use Rattle.std.proofs.Common.{◌≡◌, ℕ, ◌<◌, ◌^◌, Bool, true, false, ◌==◌, List, [], ◌∷◌, ◌++◌, filter_map, Option, Some, None, refl, sym, ap, ◌∙◌, subst, arith, inl, inr, ◌⊎◌, if◌then◌else◌}
 use Rattle.std.specs.List.{AllByRecursion, cons_option}
 use Rattle.std.specs.declared.cmp.Ordering.{Ordering}
 use Rattle.std.specs.declared.cmp.Ordering.TheVariants.{Less, Equal, Greater}
 use Rattle.std.specs.Ordering.{match_ordering}
 use Rattle.std.proofs.lemmas.Bool.{ne_eqb}
 use Rattle.std.proofs.lemmas.List.Elements.{filter_map-append}
-use Rattle.ixp_tables.specs.Tables.{order, Ascends, find}
+use Rattle.ixp_tables.specs.Tables.{order, Ascends, find, if_there}
 use Rattle.ixp_tables.proofs.Orders.{head_same}
 use Rattle.ixp_tables.proofs.TableLaws.{find-key}
 use Rattle.ixp_registry.specs.declared.members.Member.{Member}
@@ -15,40 +15,18 @@ use Rattle.ixp_registry.specs.declared.network.Interface.{Interface}
 use Rattle.ixp_registry.specs.declared.registry.Registry.{Registry}
 use Rattle.ixp_registry.specs.declared.router.Router.{Router}
 use Rattle.ixp_registry.specs.declared.rules.MemberRule.{MemberRule}
-use Rattle.ixp_registry.specs.Keys.{interface_key, member_key}
-use Rattle.ixp_registry.specs.Lines.{rules_at}
-use Rattle.ixp_registry.specs.Lookups.{if_there}
-use Rattle.ixp_registry.specs.Registries.{IsValid, rows_of}
-use Rattle.ixp_registry.specs.Rules.{rules, rules_follow, rules_are_lawful, is_action_of}
+use Rattle.ixp_registry.specs.Keys.{interface_key, member_key, rules_key}
 use Rattle.ixp_registry.specs.Sessions.{Session, address_of, is_session, rules_of, session, session_at, session_with}
-use Rattle.ixp_rows.proofs.Gathered.{key_up, all_kept, not_false}
-use Rattle.ixp_rows.proofs.Valid.{rules_kept, sentences_kept}
+use Rattle.ixp_registry.specs.declared.rules.RuleList.{RuleList}
+use Rattle.ixp_registry.specs.Valid.{Valid, ValidInterface, ValidRuleList}
+use Rattle.ixp_tables.proofs.Looking.{all_found}
+use Rattle.ixp_tables.proofs.FirstNumbers.{key_up}
 use Rattle.ixp_compile.specs.Generated.{router_sessions}
 use Rattle.ixp_compile.specs.Rewriting.{AreLawful}
-use Rattle.ixp_compile.specs.Whole.{IsNumbered}
 use Rattle.ixp_compile.proofs.FatesWalked.{Numbered}
 
--- Rules.
-
-none_unlawful : (r : Registry) → IsValid r → rules_are_lawful (rows_of r) ≡ None
-none_unlawful r valid =
-    let kept = rules_kept 1 (rules (rows_of r)) valid.1 in
-    let eleventh = sentences_kept (rules_follow (rows_of r) ∷ rules_are_lawful (rows_of r) ∷ []) kept.1.1.1.1.1.1.1.1.1.1.0 in
-    eleventh.1.0
-
-all_lawful : (xs : List MemberRule) → AllByRecursion (λ x. not (is_action_of x.way x.action && if_there x.peer true (λ p. nat_le 1 p.0)) ≡ false) xs → AreLawful xs
-all_lawful [] all = tt
-all_lawful (x ∷ xs) all = (not_false (is_action_of x.way x.action && if_there x.peer true (λ p. nat_le 1 p.0)) all.0, all_lawful xs all.1)
-
-rules_lawful : (r : Registry) → IsValid r → AreLawful r.rules
-rules_lawful r valid = all_lawful r.rules (all_kept (rules_at (rows_of r)) (λ x. not (is_action_of x.way x.action && if_there x.peer true (λ p. nat_le 1 p.0))) r.rules (none_unlawful r valid))
-
-some_lawful : (test : MemberRule → Bool) (xs : List MemberRule) → AreLawful xs → AreLawful (filter test xs)
-some_lawful test [] all = tt
-some_lawful test (x ∷ xs) all = go (test x) (some_lawful test xs all.1) where
-  go : (b : Bool) → AreLawful (filter test xs) → AreLawful (if b then x ∷ filter test xs else filter test xs)
-  go true rest = (all.0, rest)
-  go false rest = rest
+widens : (n : ℕ) → n < 2 ^ 32 → n < 2 ^ 64
+widens n fits = omega arith
 
 -- What a session's record says.
 
@@ -75,16 +53,28 @@ module _ (r : Registry) (router : Router) where
     go None f h = absurd (let bad : ⊥ = cc in bad)
     go (Some i) f h = (i, f, h)
 
-  pub session_lawful : IsValid r → (n : ℕ) (s : Session) → session r router n ≡ Some s → AreLawful s.rules
+  rules_lawful : Valid r → (member : ℕ) → AreLawful (rules_of r member)
+  rules_lawful valid member = go (find rules_key (member ∷ []) r.rules) refl where
+    go : (o : Option RuleList) → find rules_key (member ∷ []) r.rules ≡ o → AreLawful (if_there o [] (λ l. l.rules))
+    go None e = tt
+    go (Some l) e = let list : ValidRuleList l = all_found rules_key ValidRuleList (member ∷ []) l r.rules valid.rules.each e in list.lawful
+
+  pub session_lawful : Valid r → (n : ℕ) (s : Session) → session r router n ≡ Some s → AreLawful s.rules
   session_lawful valid n s e =
       let at : (i : Interface) × (find interface_key (n ∷ []) r.interfaces ≡ Some i) × (session_at r router i ≡ Some s) = found_at n s e in
-      subst AreLawful (sym (told at.0 s at.2).1) (some_lawful (λ x. x.member == at.0.member) r.rules (rules_lawful r valid))
+      subst AreLawful (sym (told at.0 s at.2).1) (rules_lawful valid at.0.member)
 
   pub session_number : (n : ℕ) (s : Session) → session r router n ≡ Some s → s.interface.number ≡ n
   session_number n s e =
       let at : (i : Interface) × (find interface_key (n ∷ []) r.interfaces ≡ Some i) × (session_at r router i ≡ Some s) = found_at n s e in
       ap (λ (i : Interface). i.number) (told at.0 s at.2).0
       ∙ head_same at.0.number n [] [] (find-key interface_key (n ∷ []) at.0 r.interfaces at.1)
+
+  pub session_small : Valid r → (n : ℕ) (s : Session) → session r router n ≡ Some s → s.interface.number < 2 ^ 64
+  session_small valid n s e =
+      let at : (i : Interface) × (find interface_key (n ∷ []) r.interfaces ≡ Some i) × (session_at r router i ≡ Some s) = found_at n s e in
+      let kept : ValidInterface at.0 = all_found interface_key ValidInterface (n ∷ []) at.0 r.interfaces valid.interfaces.each at.1 in
+      subst (λ (j : Interface). j.number < 2 ^ 64) (sym (told at.0 s at.2).0) (widens at.0.number kept.fits.0)
 
   -- Where it stands among the router's sessions.
 
@@ -129,19 +119,17 @@ module _ (r : Registry) (router : Router) where
     go (Some t) e rest =
         (ap (λ (i : Interface). n == i.number) (told j t e).0 ∙ ne_eqb n j.number (differ (key_up n j.number [] [] all.0)), rest)
 
-  numbered_from : (is : List Interface) → Ascends interface_key is → AllByRecursion (λ i. i.number < 2 ^ 32) is → Numbered (filter_map (session_at r router) is)
+  numbered_from : (is : List Interface) → Ascends interface_key is → AllByRecursion ValidInterface is → Numbered (filter_map (session_at r router) is)
   numbered_from [] up small = tt
   numbered_from (i ∷ is) up small = go (session_at r router i) refl (numbered_from is up.1 small.1) where
     go : (o : Option Session) → session_at r router i ≡ o → Numbered (filter_map (session_at r router) is) → Numbered (cons_option o (filter_map (session_at r router) is))
     go None e rest = rest
     go (Some s) e rest =
-        let same : s.interface ≡ i = (told i s e).0 in
-        let fits : i.number < 2 ^ 32 = small.0 in
-        let wide : i.number < 2 ^ 64 = omega arith in (
-          subst (λ (j : Interface). j.number < 2 ^ 64) (sym same) wide,
+        let same : s.interface ≡ i = (told i s e).0 in (
+          subst (λ (j : Interface). j.number < 2 ^ 64) (sym same) (widens i.number small.0.fits.0),
           subst (λ (j : Interface). AllByRecursion (λ t. (j.number == t.interface.number) ≡ false) (filter_map (session_at r router) is)) (sym same) (all_apart i.number is up.0),
           rest,
         )
 
-  pub sessions_numbered : IsNumbered r → Numbered (router_sessions r router)
-  sessions_numbered n = numbered_from r.interfaces n.ascend n.small
+  pub sessions_numbered : Valid r → Numbered (router_sessions r router)
+  sessions_numbered valid = numbered_from r.interfaces valid.interfaces.order valid.interfaces.each

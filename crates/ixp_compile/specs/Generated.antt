@@ -11,7 +11,7 @@ use Rattle.ixp_registry.specs.declared.network.IfAddr.{IfAddr}
 use Rattle.ixp_registry.specs.declared.network.Interface.{Interface}
 use Rattle.ixp_registry.specs.declared.registry.Registry.{Registry}
 use Rattle.ixp_registry.specs.declared.router.Router.{Router}
-use Rattle.ixp_registry.specs.Rules.{addr_numbers}
+use Rattle.ixp_registry.specs.Words.{addr_numbers}
 use Rattle.ixp_registry.specs.Sessions.{Session, address_of, session_at}
 use Rattle.ixp_pfxset.specs.BlockList.{blocks}
 use Rattle.ixp_pfxset.specs.declared.mode.Mode.{Mode}

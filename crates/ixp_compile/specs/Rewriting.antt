@@ -8,8 +8,8 @@ use Rattle.ixp_lang.specs.Attributes.{fits_part}
 use Rattle.ixp_registry.specs.declared.rules.Action.{Action}
 use Rattle.ixp_registry.specs.declared.rules.Action.TheVariants.{AsIs, Prepend, Stop}
 use Rattle.ixp_registry.specs.declared.rules.MemberRule.{MemberRule}
-use Rattle.ixp_registry.specs.Lookups.{if_there}
-use Rattle.ixp_registry.specs.Rules.{is_action_of}
+use Rattle.ixp_tables.specs.Tables.{if_there}
+use Rattle.ixp_registry.specs.Words.{is_lawful}
 use Rattle.ixp_registry.specs.Sessions.{is_about, is_advertise}
 use Rattle.ixp_compile.specs.MemberRules.{any_number, number_or_0, steering_actions}
 
@@ -55,7 +55,7 @@ rewritten rs rules route =
 
 -- the rule's action is one of its way, and its peer's number at least 1
 abbrev pub IsLawful : MemberRule → Type 0
-IsLawful rule = (is_action_of rule.way rule.action && if_there rule.peer true (λ p. nat_le 1 p.0)) ≡ true
+IsLawful rule = is_lawful rule ≡ true
 
 abbrev pub AreLawful : List MemberRule → Type 0
 AreLawful rules = AllByRecursion IsLawful rules

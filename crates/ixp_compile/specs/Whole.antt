@@ -1,20 +1,12 @@
 -- What the laws on whole texts rest on.
-use Rattle.std.specs.Prelude.{◌<◌, ◌^◌, [], Some}
-use Rattle.std.specs.List.{AllByRecursion}
-use Rattle.ixp_tables.specs.Tables.{Ascends}
+use Rattle.std.specs.Prelude.{[], Some}
 use Rattle.ixp_lang.specs.declared.fate.Fate.{Fate}
 use Rattle.ixp_lang.specs.declared.route.Route.{Route}
 use Rattle.ixp_registry.specs.declared.registry.Registry.{Registry}
 use Rattle.ixp_registry.specs.declared.router.Router.{Router}
-use Rattle.ixp_registry.specs.Keys.{interface_key}
 use Rattle.ixp_registry.specs.Sessions.{Session}
 use Rattle.ixp_policy.specs.Fates.{passes}
 use Rattle.ixp_policy.specs.Tags.{tagged}
-
--- What a table of interfaces is, beside the rules on rows: each number once, ascending, of 32 bits.
-pub record IsNumbered (r : Registry) : Type 0 where
-  pub ascend : Ascends interface_key r.interfaces
-  pub small : AllByRecursion (λ i. i.number < 2 ^ 32) r.interfaces
 
 -- what a session's own text does with a route: it has no other session
 abbrev pub own_fate : Registry → Router → Session → Route → Fate

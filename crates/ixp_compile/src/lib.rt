@@ -7,7 +7,6 @@
 mod example_laws;
 mod import_laws;
 mod inputs;
-mod numbered;
 mod pipe_laws;
 mod shared_laws;
 mod walk_laws;
@@ -15,7 +14,6 @@ mod walk_laws;
 pub use example_laws::{example_is_printed, plain_example_is_printed};
 pub use import_laws::import_tags;
 pub use inputs::{HeaderInputs, Inputs};
-pub use numbered::interfaces_are_numbered;
 pub use pipe_laws::{down_passes_on, receive_is_receives, rules_decide, up_passes};
 pub use shared_laws::{
     blackhole_is_blackhole, bogon_as_refuses, count_is_prepends, drop_refuses, head_is_shared,

@@ -10,21 +10,21 @@ ghost use Rattle.ixp_lang.specs.Walks.{walk};
 ghost use Rattle.ixp_registry.specs.declared.registry.Registry.{Registry};
 ghost use Rattle.ixp_registry.specs.declared.router.Router.{Router};
 ghost use Rattle.ixp_registry.specs.Keys.{router_key};
-ghost use Rattle.ixp_registry.specs.Registries.{IsValid};
 ghost use Rattle.ixp_registry.specs.Sessions.{Session, session};
 ghost use Rattle.ixp_policy.specs.Export.{wish};
 ghost use Rattle.ixp_policy.specs.Fates.{fate_of, passes};
 ghost use Rattle.ixp_policy.specs.Tags.{tagged};
+ghost use Rattle.ixp_registry.specs.Valid.{Valid};
 ghost use Rattle.ixp_compile.specs.Fragment.{bgp_name, up_name};
 ghost use Rattle.ixp_compile.specs.Generated.{generated, own_part, roa_tables};
 ghost use Rattle.ixp_compile.specs.Rewriting.{rewritten};
-ghost use Rattle.ixp_compile.specs.Whole.{IsNumbered, own_fate};
+ghost use Rattle.ixp_compile.specs.Whole.{own_fate};
 
 /// The walk of a router's text from a session is the route's fate, for every session of every router of a valid registry and
 /// every route of the router's family, and never a fault.
 pub fn walk_is_fate()
     ensures { (r : Registry) (handle : List ℕ) (router : Router) (n : ℕ) (s : Session) (route : Route) →
-        IsValid r → IsNumbered r → find router_key handle r.routers ≡ Some router → session r router n ≡ Some s →
+        Valid r → find router_key handle r.routers ≡ Some router → session r router n ≡ Some s →
         route.net.family ≡ router.family →
         walk (generated r router) (roa_tables r) (bgp_name n) route ≡ Ok (fate_of r router route s) }
 {}
@@ -33,20 +33,20 @@ pub fn walk_is_fate()
 /// table's route as one of which `ixp_sends` and `ixp_count` give the wish for every receiver.
 pub fn own_part_tells()
     ensures walk { (r : Registry) (handle : List ℕ) (router : Router) (n : ℕ) (s : Session) (route : Route) →
-        IsValid r → n < 2 ^ 64 → find router_key handle r.routers ≡ Some router → session r router n ≡ Some s →
+        Valid r → find router_key handle r.routers ≡ Some router → session r router n ≡ Some s →
         route.net.family ≡ router.family →
         walk (own_part r router s) (roa_tables r) (bgp_name n) route ≡ Ok (own_fate r router s route) }
     ensures up { (r : Registry) (handle : List ℕ) (router : Router) (n : ℕ) (s : Session) (env : Environment) (route : Route) →
-        IsValid r → find router_key handle r.routers ≡ Some router → session r router n ≡ Some s →
+        Valid r → find router_key handle r.routers ≡ Some router → session r router n ≡ Some s →
         route.net.family ≡ router.family → passes r router s route ≡ true →
         filter_end env (reverse (own_part r router s)) (up_name n) (tagged r router s route)
         ≡ Ok (Accept (rewritten router.asn.0 s.rules (tagged r router s route))) }
     ensures sends { (r : Registry) (handle : List ℕ) (router : Router) (n : ℕ) (s : Session) (env : Environment) (t : Route) (to : ℕ) →
-        IsValid r → find router_key handle r.routers ≡ Some router → session r router n ≡ Some s →
+        Valid r → find router_key handle r.routers ≡ Some router → session r router n ≡ Some s →
         function_end env (reverse (own_part r router s)) (codes "ixp_sends") to (rewritten router.asn.0 s.rules t)
         ≡ Ok (Bool (is_some (wish router s t to))) }
     ensures counts { (r : Registry) (handle : List ℕ) (router : Router) (n : ℕ) (s : Session) (env : Environment) (t : Route) (to times : ℕ) →
-        IsValid r → find router_key handle r.routers ≡ Some router → session r router n ≡ Some s →
+        Valid r → find router_key handle r.routers ≡ Some router → session r router n ≡ Some s →
         wish router s t to ≡ Some times →
         function_end env (reverse (own_part r router s)) (codes "ixp_count") to (rewritten router.asn.0 s.rules t)
         ≡ Ok (Int times) }

@@ -14,14 +14,16 @@ use Rattle.ixp_registry.specs.declared.network.IfAddr.{IfAddr}
 use Rattle.ixp_registry.specs.declared.network.Interface.{Interface}
 use Rattle.ixp_registry.specs.declared.network.AddressRow.{AddressRow}
 use Rattle.ixp_registry.specs.Keys.{interface_key}
-use Rattle.ixp_registry.specs.Lookups.{same_addr}
-use Rattle.ixp_registry.specs.Places.{times, same}
-use Rattle.ixp_registry.specs.Registries.{bare, address_rows, addresses_of, IsIn}
-use Rattle.ixp_registry.specs.Rules.{addr_numbers}
-use Rattle.ixp_plan.specs.Holders.{has_addr}
+use Rattle.ixp_registry.specs.Lookups.{same_addr, has_addr}
+use Rattle.ixp_registry.specs.Places.{times}
+use Rattle.ixp_tables.specs.Tables.{same}
+use Rattle.ixp_registry.specs.Registries.{bare, address_rows, addresses_of}
+use Rattle.ixp_registry.specs.Words.{addr_numbers}
+use Rattle.ixp_registry.specs.Valid.{IsIn}
+use Rattle.ixp_tables.proofs.Counts.{same_is}
 use Rattle.ixp_plan.specs.Setting.{addressed}
 use Rattle.ixp_plan.proofs.Takings.{by_interfaces}
-use Rattle.ixp_plan.proofs.Times.{times_both, never, same_is}
+use Rattle.ixp_plan.proofs.Times.{times_both, never}
 
 abbrev pub new_row : IfAddr → Interface → AddressRow
 new_row x i = record { interface = i.number; address = x }

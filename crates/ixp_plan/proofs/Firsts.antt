@@ -4,7 +4,7 @@ use Rattle.std.specs.List.{list_any, AllByRecursion}
 use Rattle.std.proofs.lemmas.Bool.{or_parts}
 use Rattle.ixp_registry.specs.Places.{first, first_with_earlier_from, earliest}
 use Rattle.ixp_registry.specs.Registries.{first_rule}
-use Rattle.ixp_places.proofs.Placing.{first_here, first_on}
+use Rattle.ixp_registry.proofs.Placing.{first_here, first_on}
 
 pub none_of_first : {R : Type 0} (at : ℕ) (test : R → Bool) (rs : List R) → first at test rs ≡ None → list_any test rs ≡ false
 none_of_first at test [] e = refl

@@ -15,7 +15,7 @@ use Rattle.ixp_tables.specs.Tables.{order, put}
 use Rattle.ixp_tables.proofs.Orders.{order_same, head_same, tail_same}
 use Rattle.ixp_tables.proofs.TableLaws.{find-put-same-key, find-put-other}
 use Rattle.ixp_registry.specs.Lookups.{same_addr}
-use Rattle.ixp_registry.specs.Rules.{addr_numbers}
+use Rattle.ixp_registry.specs.Words.{addr_numbers}
 use Rattle.ixp_plan.specs.declared.uses.UsedAddr.{UsedAddr}
 use Rattle.ixp_plan.specs.Uses.{used_key, is_in}
 use Rattle.ixp_plan.proofs.Prefixes.{one_family}

@@ -1,9 +1,7 @@
 -- The registry with an accepted address keeps the rules on addresses.
 use Rattle.std.proofs.Common.{◌≡◌, ℕ, ◌+◌, ◌≤◌, Bool, true, false, ◌&&◌, ◌==◌, nat_le, not, List, [], ◌∷◌, ◌++◌, map, flat_map, Option, Some, None, option_map, Result, Ok, Err, refl, sym, ap, ◌∙◌, subst, arith, if◌then◌else◌}
 use Rattle.std.specs.List.{list_any, AllByRecursion}
-use Rattle.std.specs.declared.cmp.Ordering.{Ordering}
-use Rattle.std.specs.declared.cmp.Ordering.TheVariants.{Less, Equal, Greater}
-use Rattle.std.specs.Ordering.{match_ordering}
+use Rattle.std.specs.declared.cmp.Ordering.TheVariants.{Equal}
 use Rattle.std.specs.Option.{is_some}
 use Rattle.std.proofs.lemmas.Bool.{and_parts, or_parts, not-true}
 use Rattle.std.proofs.lemmas.List.Folds.{list_any-append}
@@ -11,8 +9,8 @@ use Rattle.ixp_num.specs.declared.family.Family.{Family}
 use Rattle.ixp_num.specs.declared.family.Family.TheVariants.{V4, V6}
 use Rattle.ixp_num.specs.declared.addr.Addr.{Addr}
 use Rattle.ixp_num.specs.Families.{same_family}
-use Rattle.ixp_tables.specs.Tables.{order, Ascends, find, put}
-use Rattle.ixp_tables.proofs.Orders.{head_same}
+use Rattle.ixp_tables.specs.Tables.{order, Ascends, find, put, if_there}
+use Rattle.ixp_tables.proofs.Orders.{head_same, all_weaker}
 use Rattle.ixp_tables.proofs.TableLaws.{find-key}
 use Rattle.ixp_registry.specs.declared.kind.Kind.TheVariants.{Interfaces}
 use Rattle.ixp_registry.specs.declared.network.IfAddr.{IfAddr}
@@ -25,12 +23,17 @@ use Rattle.ixp_registry.specs.declared.refusal.RowKey.TheVariants.{Number}
 use Rattle.ixp_registry.specs.declared.refusal.Refusal.{Refusal}
 use Rattle.ixp_registry.specs.declared.refusal.Refusal.TheVariants.{Unknown, Family as OtherFamily, Outside}
 use Rattle.ixp_registry.specs.Keys.{interface_key, interface_row_key}
-use Rattle.ixp_registry.specs.Lookups.{if_there, is_host_in, is_host_at, same_addr}
+use Rattle.ixp_registry.specs.Lookups.{is_host_in, is_host_at, same_addr, has_blackhole, prefix_in, has_addr}
 use Rattle.ixp_registry.specs.Lines.{addresses_at, routers_at}
 use Rattle.ixp_registry.specs.Places.{times}
-use Rattle.ixp_registry.specs.Registries.{bare, addresses_of, rows_of, IsIn, IsValid}
-use Rattle.ixp_registry.specs.Rules.{addr_numbers, has_address, has_blackhole, is_blackhole, blackholes_meet, rules, rule_6, rule_7, rule_15, addresses_are_hosts, routers_are_hosts, secrets_differ, addresses_differ, blackholes_lie_apart, routers_have_blackholes}
-use Rattle.ixp_plan.specs.Holders.{prefix_in, has_addr, answers_at, uses}
+use Rattle.ixp_registry.specs.Registries.{bare, addresses_of, rows_of}
+use Rattle.ixp_registry.specs.Rules.{is_assigned, may_be_blackhole, blackholes_meet, rules, rule_6, rule_7, rule_15, addresses_are_hosts, routers_are_hosts, secrets_differ, addresses_differ, blackholes_lie_apart, routers_have_blackholes}
+use Rattle.ixp_registry.specs.Words.{addr_numbers}
+use Rattle.ixp_registry.specs.Valid.{IsIn, Valid, ValidInterface}
+use Rattle.ixp_validity.proofs.Bare.{find_bare}
+use Rattle.ixp_validity.proofs.Sentences.{unbroken}
+use Rattle.ixp_validity.proofs.ToRules.{all_kept}
+use Rattle.ixp_plan.specs.Holders.{answers_at, uses}
 use Rattle.ixp_plan.specs.Checks.{other_interface, router_with, unless_taken, fits_family, checked, address_check}
 use Rattle.ixp_plan.specs.Setting.{addressed, with_address, KeepsAddressRules}
 use Rattle.ixp_plan.proofs.Prefixes.{one_family}
@@ -53,25 +56,16 @@ all_at : (P : Interface → Type 0) (before : List Interface) (i : Interface) (b
 all_at P [] i behind all = all.0
 all_at P (j ∷ before) i behind all = all_at P before i behind all.1
 
-pub find_bare : (k : List ℕ) (is : List Interface) → find interface_row_key k (map bare is) ≡ option_map bare (find interface_key k is)
-find_bare k [] = refl
-find_bare k (i ∷ is) = by_order (find_bare k is) (order (interface_key i) k) where
-  by_order : find interface_row_key k (map bare is) ≡ option_map bare (find interface_key k is) → (o : Ordering)
-      → match_ordering o (find interface_row_key k (map bare is)) (Some (bare i)) (find interface_row_key k (map bare is)) ≡ option_map bare (match_ordering o (find interface_key k is) (Some i) (find interface_key k is))
-  by_order again Less = again
-  by_order again Equal = refl
-  by_order again Greater = again
-
 -- the address lies elsewhere than in the VLAN of the interface's row
 abbrev pub stray : Registry → List InterfaceRow → AddressRow → Bool
-stray r rows y = not (if_there (find interface_row_key (y.interface ∷ []) rows) false (λ j. is_host_in (rows_of r) j.vlan y.address.addr.family y.address.addr))
+stray r rows y = not (if_there (find interface_row_key (y.interface ∷ []) rows) false (λ j. is_host_in r.vlans j.vlan y.address.addr.family y.address.addr))
 
 -- an accepted address of the interface i, which has the number n
 record Accepted (r : Registry) (n : ℕ) (i : Interface) (f : Family) (x : IfAddr) : Type 0 where
   there : find interface_key (n ∷ []) r.interfaces ≡ Some i
   number : i.number ≡ n
   family : x.addr.family ≡ f
-  host : is_host_in (rows_of r) i.vlan f x.addr ≡ true
+  host : is_host_in r.vlans i.vlan f x.addr ≡ true
   split : Split r.interfaces (n ∷ []) i
   changed : put interface_key (addressed f x i) r.interfaces ≡ split.before ++ addressed f x i ∷ split.behind
   none_before : list_any (has_addr x.addr) split.before ≡ false
@@ -81,7 +75,7 @@ record Accepted (r : Registry) (n : ℕ) (i : Interface) (f : Family) (x : IfAdd
 accepted : (r : Registry) (n : ℕ) (i : Interface) (f : Family) (x : IfAddr) → Ascends interface_key r.interfaces → find interface_key (n ∷ []) r.interfaces ≡ Some i → checked r f x.addr i ≡ Ok tt → Accepted r n i f x
 accepted r n i f x up there ok =
     let a = x.addr in
-    let parts = ok_parts (fits_family r i.vlan f a) (is_host_in (rows_of r) i.vlan f a) (OtherFamily f) (Outside i.vlan) (unless_taken (other_interface r i.number a) (router_with r a)) ok in
+    let parts = ok_parts (fits_family r i.vlan f a) (is_host_in r.vlans i.vlan f a) (OtherFamily f) (Outside i.vlan) (unless_taken (other_interface r i.number a) (router_with r a)) ok in
     let free = nobody (other_interface r i.number a) (router_with r a) parts.2 in
     let s : Split r.interfaces (n ∷ []) i = splits r.interfaces (n ∷ []) i up there in
     let key : order (interface_key i) (n ∷ []) ≡ Equal = find-key interface_key (n ∷ []) i r.interfaces there in
@@ -94,7 +88,7 @@ accepted r n i f x up there ok =
     record {
       there = there;
       number = number;
-      family = one_family a.family f (and_parts (same_family a.family f) (is_some (prefix_in r i.vlan f)) parts.0).0;
+      family = one_family a.family f (and_parts (same_family a.family f) (is_some (prefix_in r.vlans i.vlan f)) parts.0).0;
       host = parts.1;
       split = s;
       changed = s.replaced (addressed f x i) (subst (λ (k : List ℕ). order k (n ∷ []) ≡ Equal) (sym (key_kept f x i)) key);
@@ -124,8 +118,8 @@ placed : (r : Registry) (n : ℕ) (i : Interface) (f : Family) (x : IfAddr) → 
 placed r n i f x c =
     let row : find interface_row_key (i.number ∷ []) (map bare r.interfaces) ≡ Some (bare i) =
     find_bare (i.number ∷ []) r.interfaces ∙ ap (option_map bare) (ap (λ m. find interface_key (m ∷ []) r.interfaces) c.number ∙ c.there) in
-    ap (λ o. not (if_there o false (λ j. is_host_in (rows_of r) j.vlan x.addr.family x.addr))) row
-    ∙ ap not (ap (λ g. is_host_in (rows_of r) i.vlan g x.addr) c.family ∙ c.host)
+    ap (λ o. not (if_there o false (λ j. is_host_in r.vlans j.vlan x.addr.family x.addr))) row
+    ∙ ap not (ap (λ g. is_host_in r.vlans i.vlan g x.addr) c.family ∙ c.host)
 
 keeps_6 : (r : Registry) (n : ℕ) (i : Interface) (f : Family) (x : IfAddr) → Accepted r n i f x → rule_6 (rows_of r) ≡ None → rule_6 (rows_of (changed_to r f x i)) ≡ None
 keeps_6 r n i f x c old =
@@ -133,14 +127,14 @@ keeps_6 r n i f x c old =
     let v = rows_of (changed_to r f x i) in
     let parts = both_none (addresses_are_hosts w) (routers_are_hosts w) old in
     let before : list_any (stray r (map bare r.interfaces)) (flat_map addresses_of r.interfaces) ≡ false =
-    none_of_first (addresses_at w) (λ y. not (is_host_at w y.interface y.address.addr)) w.addresses parts.0 in
+    none_of_first (addresses_at w) (λ y. not (is_host_at w.vlans w.interfaces y.interface y.address.addr)) w.addresses parts.0 in
     let after : list_any (stray r v.interfaces) v.addresses ≡ false =
     ap (λ rows. list_any (stray r rows) v.addresses) (bares_same r n i f x c) ∙ none_after r n i f x c (stray r (map bare r.interfaces)) before (placed r n i f x c) in
-    let routers : list_any (λ q. not (is_host_in w q.vlan q.family q.addr)) r.routers ≡ false =
-    none_of_first (routers_at w) (λ q. not (is_host_in w q.vlan q.family q.addr)) w.routers parts.1 in
+    let routers : list_any (λ q. not (is_host_in w.vlans q.vlan q.family q.addr)) r.routers ≡ false =
+    none_of_first (routers_at w) (λ q. not (is_host_in w.vlans q.vlan q.family q.addr)) w.routers parts.1 in
     none_both (addresses_are_hosts v) (routers_are_hosts v)
-    (first_of_none (addresses_at v) (λ y. not (is_host_at v y.interface y.address.addr)) v.addresses after)
-    (first_of_none (routers_at v) (λ q. not (is_host_in v q.vlan q.family q.addr)) v.routers routers)
+    (first_of_none (addresses_at v) (λ y. not (is_host_at v.vlans v.interfaces y.interface y.address.addr)) v.addresses after)
+    (first_of_none (routers_at v) (λ q. not (is_host_in v.vlans q.vlan q.family q.addr)) v.routers routers)
 
 own_none : (a : Addr) (qs : List Router) → list_any (uses a) qs ≡ false → list_any (answers_at a) qs ≡ false
 own_none a qs e = any_weaker (uses a) (uses a) (answers_at a) (λ q x y. (or_parts (answers_at a q) (has_blackhole q a) x).0) qs e e
@@ -175,39 +169,42 @@ not_false false e = absurd (let bad : ⊥ = cc in bad)
 keeps_15 : (r : Registry) (n : ℕ) (i : Interface) (f : Family) (x : IfAddr) → Accepted r n i f x → rule_15 (rows_of r) ≡ None → rule_15 (rows_of (changed_to r f x i)) ≡ None
 keeps_15 r n i f x c old =
     none_both (blackholes_lie_apart (rows_of (changed_to r f x i))) (routers_have_blackholes (rows_of (changed_to r f x i))) (moved blackholes_meet [] (routers_at (rows_of r)) (routers_at (rows_of (changed_to r f x i))) r.routers parts.0)
-    (first_of_none (routers_at (rows_of (changed_to r f x i))) (λ q. not (if_there q.blackhole true (is_blackhole (rows_of (changed_to r f x i)) q) && nat_le q.max_comms 1000)) r.routers
-    (any_weaker (λ q. not (if_there q.blackhole true (is_blackhole (rows_of r) q) && nat_le q.max_comms 1000)) (uses x.addr)
-    (λ q. not (if_there q.blackhole true (is_blackhole (rows_of (changed_to r f x i)) q) && nat_le q.max_comms 1000)) (λ q was free. by_hole q q.blackhole was (or_parts (answers_at x.addr q) (has_blackhole q x.addr) free).1) r.routers
-    (none_of_first (routers_at (rows_of r)) (λ q. not (if_there q.blackhole true (is_blackhole (rows_of r) q) && nat_le q.max_comms 1000)) r.routers parts.1) c.no_router))
+    (first_of_none (routers_at (rows_of (changed_to r f x i))) (λ q. not (if_there q.blackhole true (may_be_blackhole (rows_of (changed_to r f x i)) q) && nat_le q.max_comms 1000)) r.routers
+    (any_weaker (λ q. not (if_there q.blackhole true (may_be_blackhole (rows_of r) q) && nat_le q.max_comms 1000)) (uses x.addr)
+    (λ q. not (if_there q.blackhole true (may_be_blackhole (rows_of (changed_to r f x i)) q) && nat_le q.max_comms 1000)) (λ q was free. by_hole q q.blackhole was (or_parts (answers_at x.addr q) (has_blackhole q x.addr) free).1) r.routers
+    (none_of_first (routers_at (rows_of r)) (λ q. not (if_there q.blackhole true (may_be_blackhole (rows_of r) q) && nat_le q.max_comms 1000)) r.routers parts.1) c.no_router))
   where
     parts : (blackholes_lie_apart (rows_of r) ≡ None) × (routers_have_blackholes (rows_of r) ≡ None)
     parts = both_none (blackholes_lie_apart (rows_of r)) (routers_have_blackholes (rows_of r)) old
 
-    by_hole : (q : Router) (o : Option Addr) → not (if_there o true (is_blackhole (rows_of r) q) && nat_le q.max_comms 1000) ≡ false → if_there o false (λ b. same_addr b x.addr) ≡ false
-        → not (if_there o true (is_blackhole (rows_of (changed_to r f x i)) q) && nat_le q.max_comms 1000) ≡ false
+    by_hole : (q : Router) (o : Option Addr) → not (if_there o true (may_be_blackhole (rows_of r) q) && nat_le q.max_comms 1000) ≡ false → if_there o false (λ b. same_addr b x.addr) ≡ false
+        → not (if_there o true (may_be_blackhole (rows_of (changed_to r f x i)) q) && nat_le q.max_comms 1000) ≡ false
     by_hole q None was free = was
     by_hole q (Some b) was free =
         let bound = nat_le q.max_comms 1000 in
-        let lawful = same_family b.family q.family && is_host_in (rows_of r) q.vlan q.family b in
+        let lawful = same_family b.family q.family && is_host_in r.vlans q.vlan q.family b in
         let routable = not (q.asn.0 == 65535) in
-        let all : (is_blackhole (rows_of r) q b && bound) ≡ true = not_false (is_blackhole (rows_of r) q b && bound) was in
-        let first = and_parts (is_blackhole (rows_of r) q b) bound all in
-        let second = and_parts (lawful && not (has_address (rows_of r) b)) routable first.0 in
-        let nobody : has_address (rows_of r) b ≡ false = not-true (has_address (rows_of r) b) (and_parts lawful (not (has_address (rows_of r) b)) second.0).1 in
-        let still : has_address (rows_of (changed_to r f x i)) b ≡ false = none_after r n i f x c (λ y. same_addr y.address.addr b) nobody (swapped x.addr b ∙ free) in
+        let all : (may_be_blackhole (rows_of r) q b && bound) ≡ true = not_false (may_be_blackhole (rows_of r) q b && bound) was in
+        let first = and_parts (may_be_blackhole (rows_of r) q b) bound all in
+        let second = and_parts (lawful && not (is_assigned (rows_of r).addresses b)) routable first.0 in
+        let nobody : is_assigned (rows_of r).addresses b ≡ false = not-true (is_assigned (rows_of r).addresses b) (and_parts lawful (not (is_assigned (rows_of r).addresses b)) second.0).1 in
+        let still : is_assigned (rows_of (changed_to r f x i)).addresses b ≡ false = none_after r n i f x c (λ y. same_addr y.address.addr b) nobody (swapped x.addr b ∙ free) in
         ap (λ h. not ((lawful && not h && routable) && bound)) (still ∙ sym nobody) ∙ was
 
-pub kept : (r : Registry) (n : ℕ) (f : Family) (x : IfAddr) → Ascends interface_key r.interfaces → IsValid r → address_check r n f x.addr ≡ Ok tt → KeepsAddressRules (with_address r n f x)
-kept r n f x up valid ok = by_found (find interface_key (n ∷ []) r.interfaces) refl ok where
+pub kept : (r : Registry) (n : ℕ) (f : Family) (x : IfAddr) → Valid r → address_check r n f x.addr ≡ Ok tt → KeepsAddressRules (with_address r n f x)
+kept r n f x valid ok = by_found (find interface_key (n ∷ []) r.interfaces) refl ok where
   all : AllByRecursion (λ (p : Option ℕ). p ≡ None) (rules (rows_of r))
-  all = no_rule 1 (rules (rows_of r)) valid.1
+  all = no_rule 1 (rules (rows_of r)) (unbroken (rows_of r) (all_kept r valid))
+
+  columned : AllByRecursion (λ (j : Interface). IsIn V4 j.v4 × IsIn V6 j.v6) r.interfaces
+  columned = all_weaker ValidInterface (λ j. IsIn V4 j.v4 × IsIn V6 j.v6) (λ j v. v.columns) r.interfaces valid.interfaces.each
 
   set : (i : Interface) → find interface_key (n ∷ []) r.interfaces ≡ Some i → checked r f x.addr i ≡ Ok tt → KeepsAddressRules (changed_to r f x i)
   set i there e =
-      let c : Accepted r n i f x = accepted r n i f x up there e in
+      let c : Accepted r n i f x = accepted r n i f x valid.interfaces.order there e in
       let s = c.split in
       let columns : IsIn V4 i.v4 × IsIn V6 i.v6 =
-      all_at (λ j. IsIn V4 j.v4 × IsIn V6 j.v6) s.before i s.behind (subst (λ (is : List Interface). AllByRecursion (λ j. IsIn V4 j.v4 × IsIn V6 j.v6) is) s.parted valid.0.interfaces) in
+      all_at (λ j. IsIn V4 j.v4 × IsIn V6 j.v6) s.before i s.behind (subst (λ (is : List Interface). AllByRecursion (λ j. IsIn V4 j.v4 × IsIn V6 j.v6) is) s.parted columned) in
       (keeps_6 r n i f x c all.1.1.1.1.1.0, keeps_7 r n i f x c columns all.1.1.1.1.1.1.0, keeps_15 r n i f x c all.1.1.1.1.1.1.1.1.1.1.1.1.1.1.0)
 
   by_found : (o : Option Interface) → find interface_key (n ∷ []) r.interfaces ≡ o → if_there o (Err (Unknown Interfaces (Number n))) (checked r f x.addr) ≡ Ok tt

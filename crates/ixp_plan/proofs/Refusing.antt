@@ -11,7 +11,7 @@ use Rattle.ixp_num.specs.declared.family.Family.TheVariants.{V4, V6}
 use Rattle.ixp_num.specs.declared.addr.Addr.{Addr}
 use Rattle.ixp_num.specs.declared.prefix.Prefix.{Prefix}
 use Rattle.ixp_num.specs.Families.{same_family}
-use Rattle.ixp_tables.specs.Tables.{order, Ascends, find, put}
+use Rattle.ixp_tables.specs.Tables.{order, Ascends, find, put, if_there, same}
 use Rattle.ixp_tables.proofs.Orders.{head_same}
 use Rattle.ixp_tables.proofs.TableLaws.{find-key}
 use Rattle.ixp_registry.specs.declared.kind.Kind.TheVariants.{Interfaces}
@@ -23,12 +23,16 @@ use Rattle.ixp_registry.specs.declared.registry.Registry.{Registry}
 use Rattle.ixp_registry.specs.declared.refusal.RowKey.TheVariants.{Number}
 use Rattle.ixp_registry.specs.declared.refusal.Refusal.TheVariants.{Unknown, Family as OtherFamily, Outside}
 use Rattle.ixp_registry.specs.Keys.{vlan_key, interface_key, interface_row_key}
-use Rattle.ixp_registry.specs.Lookups.{if_there, is_host, is_host_in, is_host_at, same_addr}
+use Rattle.ixp_registry.specs.Lookups.{is_host, is_host_in, is_host_at, same_addr, has_blackhole, prefix_in, has_addr}
 use Rattle.ixp_registry.specs.Lines.{addresses_at, routers_at}
-use Rattle.ixp_registry.specs.Places.{times, same}
+use Rattle.ixp_registry.specs.Places.{times}
 use Rattle.ixp_registry.specs.Registries.{bare, address_rows, addresses_of, rows_of}
-use Rattle.ixp_registry.specs.Rules.{addr_numbers, has_address, has_blackhole, is_blackhole, rule_6, rule_7, rule_15, addresses_are_hosts, routers_are_hosts, secrets_differ, addresses_differ, blackholes_lie_apart, routers_have_blackholes}
-use Rattle.ixp_plan.specs.Holders.{prefix_in, has_addr, answers_at, uses}
+use Rattle.ixp_registry.specs.Rules.{is_assigned, may_be_blackhole, rule_6, rule_7, rule_15, addresses_are_hosts, routers_are_hosts, secrets_differ, addresses_differ, blackholes_lie_apart, routers_have_blackholes}
+use Rattle.ixp_registry.specs.Words.{addr_numbers}
+use Rattle.ixp_validity.proofs.Bare.{find_bare}
+use Rattle.ixp_tables.proofs.Counts.{same_itself}
+use Rattle.ixp_registry.specs.Valid.{Valid}
+use Rattle.ixp_plan.specs.Holders.{answers_at, uses}
 use Rattle.ixp_plan.specs.Free.{IsFree}
 use Rattle.ixp_plan.specs.Checks.{other_interface, router_with, unless_taken, fits_family, checked, address_check}
 use Rattle.ixp_plan.specs.Setting.{addressed, with_address, KeepsAddressRules}
@@ -37,9 +41,9 @@ use Rattle.ixp_plan.proofs.Search.{by_prefix}
 use Rattle.ixp_plan.proofs.Takings.{by_interfaces}
 use Rattle.ixp_plan.proofs.Firsts.{none_of_first, both_none, any_weaker}
 use Rattle.ixp_plan.proofs.Splits.{Split, splits}
-use Rattle.ixp_plan.proofs.Times.{numbers_same, same_itself, swapped, times_both, few}
+use Rattle.ixp_plan.proofs.Times.{numbers_same, swapped, times_both, few}
 use Rattle.ixp_plan.proofs.Accepting.{new_row, any_parts, none_of_both, bares_kept, key_kept, row_numbers, met, met_parts, met_own, one_if, other_column}
-use Rattle.ixp_plan.proofs.Keeping.{changed_to, router_keys, stray, find_bare, not_false}
+use Rattle.ixp_plan.proofs.Keeping.{changed_to, router_keys, stray, not_false}
 
 found_none : {R : Type 0} (p : R → Bool) (rs : List R) → list_any p rs ≡ false → found p rs ≡ None
 found_none p [] e = refl
@@ -89,23 +93,23 @@ new_none r n i f x c p e =
     let parts = or_parts (list_any p (flat_map addresses_of s.before)) (list_any p (addresses_of (addressed f x i)) || list_any p (flat_map addresses_of s.behind)) (sym (any_parts p s.before (addressed f x i) s.behind) ∙ e') in
     own_none p f x i (or_parts (list_any p (addresses_of (addressed f x i))) (list_any p (flat_map addresses_of s.behind)) parts.1).0
 
-is_placed : (r : Registry) (n : ℕ) (i : Interface) (f : Family) (x : IfAddr) → Changed r n i f x → x.addr.family ≡ f → rule_6 (rows_of (changed_to r f x i)) ≡ None → is_host_in (rows_of r) i.vlan f x.addr ≡ true
+is_placed : (r : Registry) (n : ℕ) (i : Interface) (f : Family) (x : IfAddr) → Changed r n i f x → x.addr.family ≡ f → rule_6 (rows_of (changed_to r f x i)) ≡ None → is_host_in r.vlans i.vlan f x.addr ≡ true
 is_placed r n i f x c family kept =
     let s = c.split in
     let parts = both_none (addresses_are_hosts (rows_of (changed_to r f x i))) (routers_are_hosts (rows_of (changed_to r f x i))) kept in
     let none : list_any (stray r (map bare (put interface_key (addressed f x i) r.interfaces))) (flat_map addresses_of (put interface_key (addressed f x i) r.interfaces)) ≡ false =
-    none_of_first (addresses_at (rows_of (changed_to r f x i))) (λ y. not (is_host_at (rows_of (changed_to r f x i)) y.interface y.address.addr)) (rows_of (changed_to r f x i)).addresses parts.0 in
+    none_of_first (addresses_at (rows_of (changed_to r f x i))) (λ y. not (is_host_at (rows_of (changed_to r f x i)).vlans (rows_of (changed_to r f x i)).interfaces y.interface y.address.addr)) (rows_of (changed_to r f x i)).addresses parts.0 in
     let bares : map bare (put interface_key (addressed f x i) r.interfaces) ≡ map bare r.interfaces = ap (map bare) c.changed ∙ (bares_kept f x s.before i s.behind ∙ sym (ap (map bare) s.parted)) in
     let here : stray r (map bare r.interfaces) (new_row x i) ≡ false =
     sym (ap (λ rows. stray r rows (new_row x i)) bares) ∙ new_none r n i f x c (stray r (map bare (put interface_key (addressed f x i) r.interfaces))) none in
     let row : find interface_row_key (i.number ∷ []) (map bare r.interfaces) ≡ Some (bare i) =
     find_bare (i.number ∷ []) r.interfaces ∙ ap (option_map bare) (ap (λ m. find interface_key (m ∷ []) r.interfaces) c.number ∙ c.there) in
-    let host : not (is_host_in (rows_of r) i.vlan x.addr.family x.addr) ≡ false =
-    sym (ap (λ o. not (if_there o false (λ j. is_host_in (rows_of r) j.vlan x.addr.family x.addr))) row) ∙ here in
-    sym (ap (λ g. is_host_in (rows_of r) i.vlan g x.addr) family) ∙ not_false (is_host_in (rows_of r) i.vlan x.addr.family x.addr) host
+    let host : not (is_host_in r.vlans i.vlan x.addr.family x.addr) ≡ false =
+    sym (ap (λ o. not (if_there o false (λ j. is_host_in r.vlans j.vlan x.addr.family x.addr))) row) ∙ here in
+    sym (ap (λ g. is_host_in r.vlans i.vlan g x.addr) family) ∙ not_false (is_host_in r.vlans i.vlan x.addr.family x.addr) host
 
-has_prefix : (r : Registry) (vlan : ℕ) (f : Family) (a : Addr) → is_host_in (rows_of r) vlan f a ≡ true → is_some (prefix_in r vlan f) ≡ true
-has_prefix r vlan f a host = by_found (prefix_in r vlan f) (sym (by_prefix (find vlan_key (vlan ∷ []) r.vlans) f (λ q. is_host q a)) ∙ host) where
+has_prefix : (r : Registry) (vlan : ℕ) (f : Family) (a : Addr) → is_host_in r.vlans vlan f a ≡ true → is_some (prefix_in r.vlans vlan f) ≡ true
+has_prefix r vlan f a host = by_found (prefix_in r.vlans vlan f) (sym (by_prefix (find vlan_key (vlan ∷ []) r.vlans) f (λ q. is_host q a)) ∙ host) where
   by_found : (o : Option Prefix) → if_there o false (λ q. is_host q a) ≡ true → is_some o ≡ true
   by_found None e = absurd (let bad : ⊥ = cc in bad)
   by_found (Some p) e = refl
@@ -141,24 +145,24 @@ is_alone r n i f x c kept =
 
 no_blackhole : (r : Registry) (n : ℕ) (i : Interface) (f : Family) (x : IfAddr) → Changed r n i f x → rule_15 (rows_of (changed_to r f x i)) ≡ None → list_any (λ q. has_blackhole q x.addr) r.routers ≡ false
 no_blackhole r n i f x c kept =
-    any_weaker (λ q. not (if_there q.blackhole true (is_blackhole (rows_of (changed_to r f x i)) q) && nat_le q.max_comms 1000))
-    (λ q. not (if_there q.blackhole true (is_blackhole (rows_of (changed_to r f x i)) q) && nat_le q.max_comms 1000)) (λ q. has_blackhole q x.addr) (λ q is again. by_hole q q.blackhole is) r.routers none none
+    any_weaker (λ q. not (if_there q.blackhole true (may_be_blackhole (rows_of (changed_to r f x i)) q) && nat_le q.max_comms 1000))
+    (λ q. not (if_there q.blackhole true (may_be_blackhole (rows_of (changed_to r f x i)) q) && nat_le q.max_comms 1000)) (λ q. has_blackhole q x.addr) (λ q is again. by_hole q q.blackhole is) r.routers none none
   where
-    none : list_any (λ q. not (if_there q.blackhole true (is_blackhole (rows_of (changed_to r f x i)) q) && nat_le q.max_comms 1000)) r.routers ≡ false
+    none : list_any (λ q. not (if_there q.blackhole true (may_be_blackhole (rows_of (changed_to r f x i)) q) && nat_le q.max_comms 1000)) r.routers ≡ false
     none =
         let parts = both_none (blackholes_lie_apart (rows_of (changed_to r f x i))) (routers_have_blackholes (rows_of (changed_to r f x i))) kept in
-        none_of_first (routers_at (rows_of (changed_to r f x i))) (λ q. not (if_there q.blackhole true (is_blackhole (rows_of (changed_to r f x i)) q) && nat_le q.max_comms 1000)) r.routers parts.1
+        none_of_first (routers_at (rows_of (changed_to r f x i))) (λ q. not (if_there q.blackhole true (may_be_blackhole (rows_of (changed_to r f x i)) q) && nat_le q.max_comms 1000)) r.routers parts.1
 
-    by_hole : (q : Router) (o : Option Addr) → not (if_there o true (is_blackhole (rows_of (changed_to r f x i)) q) && nat_le q.max_comms 1000) ≡ false → if_there o false (λ b. same_addr b x.addr) ≡ false
+    by_hole : (q : Router) (o : Option Addr) → not (if_there o true (may_be_blackhole (rows_of (changed_to r f x i)) q) && nat_le q.max_comms 1000) ≡ false → if_there o false (λ b. same_addr b x.addr) ≡ false
     by_hole q None is = refl
     by_hole q (Some b) is =
         let bound = nat_le q.max_comms 1000 in
-        let lawful = same_family b.family q.family && is_host_in (rows_of r) q.vlan q.family b in
+        let lawful = same_family b.family q.family && is_host_in r.vlans q.vlan q.family b in
         let routable = not (q.asn.0 == 65535) in
-        let hole = is_blackhole (rows_of (changed_to r f x i)) q b in
+        let hole = may_be_blackhole (rows_of (changed_to r f x i)) q b in
         let first = and_parts hole bound (not_false (hole && bound) is) in
-        let second = and_parts (lawful && not (has_address (rows_of (changed_to r f x i)) b)) routable first.0 in
-        let nobody : has_address (rows_of (changed_to r f x i)) b ≡ false = not-true (has_address (rows_of (changed_to r f x i)) b) (and_parts lawful (not (has_address (rows_of (changed_to r f x i)) b)) second.0).1 in
+        let second = and_parts (lawful && not (is_assigned (rows_of (changed_to r f x i)).addresses b)) routable first.0 in
+        let nobody : is_assigned (rows_of (changed_to r f x i)).addresses b ≡ false = not-true (is_assigned (rows_of (changed_to r f x i)).addresses b) (and_parts lawful (not (is_assigned (rows_of (changed_to r f x i)).addresses b)) second.0).1 in
         swapped b x.addr ∙ new_none r n i f x c (λ y. same_addr y.address.addr b) nobody
 
 others_none : (a : Addr) (m : ℕ) (is : List Interface) → list_any (has_addr a) is ≡ false → list_any (λ j. not (j.number == m) && has_addr a j) is ≡ false
@@ -182,12 +186,12 @@ no_user a qs own hole =
     found_none (uses a) qs (any_weaker (answers_at a) (λ q. has_blackhole q a) (uses a) (λ q x y. none_of_both (answers_at a q) (has_blackhole q a) x y) qs own hole)
 
 -- an address of the family that may be had, and that nobody else has, passes all tests
-all_pass : (r : Registry) (i : Interface) (f : Family) (a : Addr) → a.family ≡ f → is_host_in (rows_of r) i.vlan f a ≡ true → other_interface r i.number a ≡ None → router_with r a ≡ None → checked r f a i ≡ Ok tt
+all_pass : (r : Registry) (i : Interface) (f : Family) (a : Addr) → a.family ≡ f → is_host_in r.vlans i.vlan f a ≡ true → other_interface r i.number a ≡ None → router_with r a ≡ None → checked r f a i ≡ Ok tt
 all_pass r i f a family host other router =
     let fits : fits_family r i.vlan f a ≡ true =
-    and_from (same_family a.family f) (is_some (prefix_in r i.vlan f)) (ap (λ g. same_family g f) family ∙ family_itself f) (has_prefix r i.vlan f a host) in
+    and_from (same_family a.family f) (is_some (prefix_in r.vlans i.vlan f)) (ap (λ g. same_family g f) family ∙ family_itself f) (has_prefix r i.vlan f a host) in
     let rest : unless_taken (other_interface r i.number a) (router_with r a) ≡ Ok tt = ap (λ o. unless_taken o (router_with r a)) other ∙ ap (unless_taken None) router in
-    ap (λ b. if not b then Err (OtherFamily f) else (if not (is_host_in (rows_of r) i.vlan f a) then Err (Outside i.vlan) else unless_taken (other_interface r i.number a) (router_with r a))) fits
+    ap (λ b. if not b then Err (OtherFamily f) else (if not (is_host_in r.vlans i.vlan f a) then Err (Outside i.vlan) else unless_taken (other_interface r i.number a) (router_with r a))) fits
     ∙ (ap (λ b. if not b then Err (Outside i.vlan) else unless_taken (other_interface r i.number a) (router_with r a)) host ∙ rest)
 
 passes : (r : Registry) (n : ℕ) (i : Interface) (f : Family) (x : IfAddr) → Changed r n i f x → x.addr.family ≡ f → KeepsAddressRules (changed_to r f x i) → checked r f x.addr i ≡ Ok tt
@@ -204,8 +208,8 @@ welcome r n i f a there free family =
     ap (λ o. if_there o (Err (Unknown Interfaces (Number n))) (checked r f a)) there
     ∙ all_pass r i f a family free.0 (found_none other r.interfaces (others_none a i.number r.interfaces parts.0)) (found_none (uses a) r.routers parts.1)
 
-pub admitted : (r : Registry) (n : ℕ) (f : Family) (x : IfAddr) → Ascends interface_key r.interfaces → is_some (find interface_key (n ∷ []) r.interfaces) ≡ true → x.addr.family ≡ f → KeepsAddressRules (with_address r n f x) → address_check r n f x.addr ≡ Ok tt
-admitted r n f x up there family kept = by_found (find interface_key (n ∷ []) r.interfaces) refl there kept where
+pub admitted : (r : Registry) (n : ℕ) (f : Family) (x : IfAddr) → Valid r → is_some (find interface_key (n ∷ []) r.interfaces) ≡ true → x.addr.family ≡ f → KeepsAddressRules (with_address r n f x) → address_check r n f x.addr ≡ Ok tt
+admitted r n f x valid there family kept = by_found (find interface_key (n ∷ []) r.interfaces) refl there kept where
   by_found : (o : Option Interface) → find interface_key (n ∷ []) r.interfaces ≡ o → is_some o ≡ true → KeepsAddressRules (if_there o r (λ i. changed_to r f x i)) → if_there o (Err (Unknown Interfaces (Number n))) (checked r f x.addr) ≡ Ok tt
   by_found None at there kept = absurd (let bad : ⊥ = cc in bad)
-  by_found (Some i) at there kept = passes r n i f x (changes r n i f x up at) family kept
+  by_found (Some i) at there kept = passes r n i f x (changes r n i f x valid.interfaces.order at) family kept

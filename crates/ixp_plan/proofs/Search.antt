@@ -7,13 +7,12 @@ use Rattle.ixp_num.specs.declared.addr.Addr.{Addr}
 use Rattle.ixp_num.specs.declared.prefix.Prefix.{Prefix}
 use Rattle.ixp_num.specs.Families.{bits_of}
 use Rattle.ixp_num.specs.Prefixes.{contains}
-use Rattle.ixp_tables.specs.Tables.{find}
+use Rattle.ixp_tables.specs.Tables.{find, if_there}
 use Rattle.ixp_registry.specs.declared.network.Vlan.{Vlan}
 use Rattle.ixp_registry.specs.declared.registry.Registry.{Registry}
 use Rattle.ixp_registry.specs.Keys.{vlan_key}
-use Rattle.ixp_registry.specs.Lookups.{if_there, column, is_host, is_edge, is_host_in}
-use Rattle.ixp_registry.specs.Registries.{rows_of}
-use Rattle.ixp_plan.specs.Holders.{prefix_in, is_taken}
+use Rattle.ixp_registry.specs.Lookups.{column, is_host, is_edge, is_host_in, prefix_in}
+use Rattle.ixp_plan.specs.Holders.{is_taken}
 use Rattle.ixp_plan.specs.Free.{IsFree}
 use Rattle.ixp_plan.proofs.Prefixes.{one_family, parts_of}
 
@@ -32,9 +31,9 @@ by_prefix None f h = refl
 by_prefix (Some v) f h = refl
 
 -- an address that may be had lies in the VLAN's prefix
-pub host_inside : (r : Registry) (vlan : ℕ) (f : Family) (p : Prefix) (a : Addr) → prefix_in r vlan f ≡ Some p → is_host_in (rows_of r) vlan f a ≡ true → contains p a ≡ true
+pub host_inside : (r : Registry) (vlan : ℕ) (f : Family) (p : Prefix) (a : Addr) → prefix_in r.vlans vlan f ≡ Some p → is_host_in r.vlans vlan f a ≡ true → contains p a ≡ true
 host_inside r vlan f p a there host =
-    let at : if_there (prefix_in r vlan f) false (λ q. is_host q a) ≡ true = sym (by_prefix (find vlan_key (vlan ∷ []) r.vlans) f (λ q. is_host q a)) ∙ host in
+    let at : if_there (prefix_in r.vlans vlan f) false (λ q. is_host q a) ≡ true = sym (by_prefix (find vlan_key (vlan ∷ []) r.vlans) f (λ q. is_host q a)) ∙ host in
     let here : is_host p a ≡ true = subst (λ (o : Option Prefix). if_there o false (λ q. is_host q a) ≡ true) there at in
     (and_parts (contains p a) (not (is_edge p a)) here).0
 
@@ -54,21 +53,21 @@ one_addr p a b at bt value =
     addr_same a.family a.value a.fits b.family family b.value value b.fits
 
 -- a free address stands behind one that isn't free and before which there is none
-behind : (r : Registry) (vlan : ℕ) (f : Family) (p : Prefix) (a b : Addr) → prefix_in r vlan f ≡ Some p → IsLeft r vlan f p (Some a) → (is_host_in (rows_of r) vlan f a && not (is_taken r a)) ≡ false → IsFree r vlan f b → a.value < b.value
+behind : (r : Registry) (vlan : ℕ) (f : Family) (p : Prefix) (a b : Addr) → prefix_in r.vlans vlan f ≡ Some p → IsLeft r vlan f p (Some a) → (is_host_in r.vlans vlan f a && not (is_taken r a)) ≡ false → IsFree r vlan f b → a.value < b.value
 behind r vlan f p a b there left busy free = by_order (cases_lt a.value b.value) where
   by_order : (a.value < b.value) ⊎ (b.value ≤ a.value) → a.value < b.value
   by_order (inl above) = above
   by_order (inr below) =
       let low : a.value ≤ b.value = left.1 b free in
       let same : b ≡ a = one_addr p b a (host_inside r vlan f p b there free.0) left.0 (omega arith) in
-      let host : is_host_in (rows_of r) vlan f a ≡ true = subst (λ (x : Addr). is_host_in (rows_of r) vlan f x ≡ true) same free.0 in
+      let host : is_host_in r.vlans vlan f a ≡ true = subst (λ (x : Addr). is_host_in r.vlans vlan f x ≡ true) same free.0 in
       let open_ : is_taken r a ≡ false = subst (λ (x : Addr). is_taken r x ≡ false) same free.1 in
-      let is : (is_host_in (rows_of r) vlan f a && not (is_taken r a)) ≡ true = ap (λ b. b && not (is_taken r a)) host ∙ ap not open_ in
+      let is : (is_host_in r.vlans vlan f a && not (is_taken r a)) ≡ true = ap (λ b. b && not (is_taken r a)) host ∙ ap not open_ in
       absurd (let h : ⊥ = cc in h)
 
 -- one address further
-pub next_left : (r : Registry) (vlan : ℕ) (f : Family) (p : Prefix) (a : Addr) (o : Option Addr) → prefix_in r vlan f ≡ Some p → IsLeft r vlan f p (Some a)
-    → (is_host_in (rows_of r) vlan f a && not (is_taken r a)) ≡ false → IfSome o (λ n. (contains p n ≡ true) × (n.value ≡ a.value + 1))
+pub next_left : (r : Registry) (vlan : ℕ) (f : Family) (p : Prefix) (a : Addr) (o : Option Addr) → prefix_in r.vlans vlan f ≡ Some p → IsLeft r vlan f p (Some a)
+    → (is_host_in r.vlans vlan f a && not (is_taken r a)) ≡ false → IfSome o (λ n. (contains p n ≡ true) × (n.value ≡ a.value + 1))
     → IfNone o ((b : Addr) → contains p b ≡ true → b.value ≤ a.value) → IsLeft r vlan f p o
 next_left r vlan f p a (Some n) there left busy some none =
     (some.0, λ b free. let above : a.value < b.value = behind r vlan f p a b there left busy free in let value : n.value ≡ a.value + 1 = some.1 in omega arith)

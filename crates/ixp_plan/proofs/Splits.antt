@@ -11,7 +11,7 @@ use Rattle.ixp_tables.proofs.Orders.{order_same, as_equal_right}
 use Rattle.ixp_tables.proofs.Places.{above_equal, above_greater, find_above}
 use Rattle.ixp_registry.specs.declared.network.Interface.{Interface}
 use Rattle.ixp_registry.specs.Keys.{interface_key}
-use Rattle.ixp_plan.specs.Holders.{has_addr}
+use Rattle.ixp_registry.specs.Lookups.{has_addr}
 
 pub record Split (rs : List Interface) (k : List ℕ) (i : Interface) : Type 0 where
   pub before : List Interface

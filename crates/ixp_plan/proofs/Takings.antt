@@ -7,9 +7,8 @@ use Rattle.ixp_num.specs.declared.addr.Addr.{Addr}
 use Rattle.ixp_registry.specs.declared.network.IfAddr.{IfAddr}
 use Rattle.ixp_registry.specs.declared.network.Interface.{Interface}
 use Rattle.ixp_registry.specs.declared.network.AddressRow.{AddressRow}
-use Rattle.ixp_registry.specs.Lookups.{same_addr}
+use Rattle.ixp_registry.specs.Lookups.{same_addr, is_at, has_addr}
 use Rattle.ixp_registry.specs.Registries.{address_rows, addresses_of}
-use Rattle.ixp_plan.specs.Holders.{is_at, has_addr}
 
 abbrev pub is_of : Addr → AddressRow → Bool
 is_of a x = same_addr x.address.addr a

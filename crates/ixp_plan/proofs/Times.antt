@@ -1,26 +1,18 @@
 -- No key stands twice in a list where none is met again.
 use Rattle.std.proofs.Common.{◌≡◌, ℕ, suc, ◌+◌, ◌<◌, ◌≤◌, Bool, true, false, ◌&&◌, ◌==◌, nat_le, List, [], ◌∷◌, ◌++◌, map, Some, None, refl, sym, ap, ◌∙◌, subst, arith, if◌then◌else◌}
 use Rattle.std.specs.List.{list_any}
-use Rattle.std.specs.Cmp.Lexicographic.{told_text}
 use Rattle.std.proofs.Math.Bool.{and-true}
 use Rattle.std.proofs.lemmas.Bool.{or_parts, leb-true, leb-false, eqb-true, eqb-false}
-use Rattle.std.specs.Ordering.{is_eq}
-use Rattle.std.proofs.lemmas.Map.Text.{is_eq-slice_cmp}
 use Rattle.ixp_num.specs.declared.family.Family.{Family}
 use Rattle.ixp_num.specs.declared.family.Family.TheVariants.{V4, V6}
 use Rattle.ixp_num.specs.declared.addr.Addr.{Addr}
 use Rattle.ixp_num.specs.AddressForms.{version_of}
 use Rattle.ixp_num.specs.Families.{same_family}
-use Rattle.ixp_tables.proofs.Orders.{order_same}
 use Rattle.ixp_registry.specs.Lookups.{same_addr}
-use Rattle.ixp_registry.specs.Places.{same, times, first_beyond_from}
-use Rattle.ixp_registry.specs.Rules.{addr_numbers}
-
-pub same_is : (q k : List ℕ) → same q k ≡ true → q ≡ k
-same_is q k e = told_text q k true (sym e)
-
-pub same_itself : (q : List ℕ) → same q q ≡ true
-same_itself q = sym (is_eq-slice_cmp q q) ∙ ap is_eq (order_same q)
+use Rattle.ixp_registry.specs.Places.{times, first_beyond_from}
+use Rattle.ixp_tables.specs.Tables.{same}
+use Rattle.ixp_registry.specs.Words.{addr_numbers}
+use Rattle.ixp_tables.proofs.Counts.{same_is, same_itself}
 
 -- addresses are the same where their numbers are
 pub numbers_same : (a b : Addr) → same (addr_numbers a) (addr_numbers b) ≡ same_addr a b

@@ -4,7 +4,7 @@ use Rattle.std.specs.Option.{is_some}
 use Rattle.ixp_num.specs.declared.family.Family.{Family}
 use Rattle.ixp_num.specs.declared.addr.Addr.{Addr}
 use Rattle.ixp_num.specs.Families.{same_family}
-use Rattle.ixp_tables.specs.Tables.{find as row_of}
+use Rattle.ixp_tables.specs.Tables.{find as row_of, if_there}
 use Rattle.ixp_registry.specs.declared.kind.Kind.TheVariants.{Interfaces, Routers}
 use Rattle.ixp_registry.specs.declared.network.Interface.{Interface}
 use Rattle.ixp_registry.specs.declared.router.Router.{Router}
@@ -13,9 +13,8 @@ use Rattle.ixp_registry.specs.declared.refusal.RowKey.TheVariants.{Number, Handl
 use Rattle.ixp_registry.specs.declared.refusal.Refusal.{Refusal}
 use Rattle.ixp_registry.specs.declared.refusal.Refusal.TheVariants.{Unknown, Family as OtherFamily, Outside, Taken}
 use Rattle.ixp_registry.specs.Keys.{interface_key}
-use Rattle.ixp_registry.specs.Lookups.{if_there, is_host_in}
-use Rattle.ixp_registry.specs.Registries.{rows_of}
-use Rattle.ixp_plan.specs.Holders.{prefix_in, has_addr, uses}
+use Rattle.ixp_registry.specs.Lookups.{is_host_in, prefix_in, has_addr}
+use Rattle.ixp_plan.specs.Holders.{uses}
 
 -- another interface than this one that has the address
 abbrev pub other_interface : Registry → ℕ → Addr → Option Interface
@@ -33,13 +32,13 @@ unless_taken None None = Ok tt
 
 -- the address is of the family, and the VLAN has a prefix of it
 abbrev pub fits_family : Registry → ℕ → Family → Addr → Bool
-fits_family r vlan f a = same_family a.family f && is_some (prefix_in r vlan f)
+fits_family r vlan f a = same_family a.family f && is_some (prefix_in r.vlans vlan f)
 
 -- X7, X8 and X9 of an interface that is there
 abbrev pub checked : Registry → Family → Addr → Interface → Result Unit Refusal
 checked r f a i =
     if not (fits_family r i.vlan f a) then Err (OtherFamily f)
-    else (if not (is_host_in (rows_of r) i.vlan f a) then Err (Outside i.vlan)
+    else (if not (is_host_in r.vlans i.vlan f a) then Err (Outside i.vlan)
     else unless_taken (other_interface r i.number a) (router_with r a))
 
 -- The lowest refusal that stands against the address as the interface's one of the family: X4 where there is no such interface,

@@ -5,19 +5,19 @@ use Rattle.ixp_num.specs.declared.family.Family.{Family}
 use Rattle.ixp_num.specs.declared.addr.Addr.{Addr}
 use Rattle.ixp_num.specs.Prefixes.{contains}
 use Rattle.ixp_num.specs.Printing.{addr_text}
-use Rattle.ixp_tables.specs.Tables.{Ascends, find as row_of}
+use Rattle.ixp_tables.specs.Tables.{Ascends, find as row_of, if_there}
 use Rattle.ixp_registry.specs.declared.network.Interface.{Interface}
 use Rattle.ixp_registry.specs.declared.router.Router.{Router}
 use Rattle.ixp_registry.specs.declared.registry.Registry.{Registry}
-use Rattle.ixp_registry.specs.Lookups.{if_there}
-use Rattle.ixp_registry.specs.Rules.{addr_numbers, has_blackhole}
+use Rattle.ixp_registry.specs.Lookups.{has_blackhole, prefix_in, has_addr}
+use Rattle.ixp_registry.specs.Words.{addr_numbers}
 use Rattle.ixp_plan.specs.declared.uses.UsedAddr.{UsedAddr}
-use Rattle.ixp_plan.specs.Holders.{prefix_in, has_addr, answers_at, is_taken}
+use Rattle.ixp_plan.specs.Holders.{answers_at, is_taken}
 use Rattle.ixp_plan.specs.Free.{IsFirstFree}
 
 -- the address is taken, and lies in the VLAN's prefix of the family
 abbrev pub is_used : Registry → ℕ → Family → Addr → Bool
-is_used r vlan f a = if_there (prefix_in r vlan f) false (λ p. contains p a) && is_taken r a
+is_used r vlan f a = if_there (prefix_in r.vlans vlan f) false (λ p. contains p a) && is_taken r a
 
 abbrev pub used_key : UsedAddr → List ℕ
 used_key u = addr_numbers u.addr

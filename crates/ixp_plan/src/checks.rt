@@ -2,8 +2,9 @@
 ghost use Rattle.std.specs.Prelude.{◌≡◌, option_map};
 ghost use Rattle.ixp_plan.specs.Checks.{other_interface, router_with, unless_taken, fits_family, checked, address_check};
 
-use crate::holders::{has_addr, is_host_in, prefix_in, uses};
+use crate::holders::uses;
 use ixp_num::{Addr, Family};
+use ixp_places::{has_addr, is_host_in, prefix_in};
 use ixp_registry::{Handle, Interface, Kind, Refusal, Registry, Router, RowKey};
 
 fn other_interface<'a>(registry: &'a Registry, interface: u32, addr: &Addr) -> Option<&'a Interface>
@@ -42,7 +43,7 @@ fn unless_taken(other: Option<&Interface>, router: Option<&Router>) -> Result<()
 fn fits_family(registry: &Registry, vlan: u32, family: Family, addr: &Addr) -> bool
     ensures { result ≡ fits_family registry.now vlan family addr.now }
 {
-    addr.family == family && prefix_in(registry, vlan, family).is_some()
+    addr.family == family && prefix_in(&registry.vlans, vlan, family).is_some()
 }
 
 fn checked(
@@ -56,7 +57,7 @@ fn checked(
     if !fits_family(registry, interface.vlan, family, addr) {
         return Err(Refusal::Family { family });
     }
-    if !is_host_in(registry, interface.vlan, family, addr) {
+    if !is_host_in(&registry.vlans, interface.vlan, family, addr) {
         return Err(Refusal::Outside {
             vlan: interface.vlan,
         });

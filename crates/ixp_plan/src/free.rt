@@ -6,8 +6,9 @@ ghost use Rattle.ixp_registry.specs.Registries.{rows_of};
 ghost use Rattle.ixp_plan.specs.Free.{IsFirstFree};
 ghost use Rattle.ixp_plan.specs.Holders.{is_taken};
 
-use crate::holders::{is_host_in, is_taken, prefix_in};
+use crate::holders::is_taken;
 use ixp_num::{Addr, Family, Prefix};
+use ixp_places::{is_host_in, prefix_in};
 use ixp_registry::Registry;
 
 /// The first address of the prefix.
@@ -37,9 +38,9 @@ fn next_in(prefix: &Prefix, addr: &Addr) -> Option<Addr>
 }
 
 fn is_free(registry: &Registry, vlan: u32, family: Family, addr: &Addr) -> bool
-    ensures { result ≡ (is_host_in (rows_of registry.now) vlan family addr.now && not (is_taken registry.now addr.now)) }
+    ensures { result ≡ (is_host_in registry.now.vlans vlan family addr.now && not (is_taken registry.now addr.now)) }
 {
-    is_host_in(registry, vlan, family, addr) && !is_taken(registry, addr)
+    is_host_in(&registry.vlans, vlan, family, addr) && !is_taken(registry, addr)
 }
 
 /// The least address that an interface or a router in the VLAN may have and that nobody has, neither as its own nor
@@ -47,7 +48,7 @@ fn is_free(registry: &Registry, vlan: u32, family: Family, addr: &Addr) -> bool
 pub fn first_free(registry: &Registry, vlan: u32, family: Family) -> Option<Addr>
     ensures { IsFirstFree registry.now vlan family result }
 {
-    let prefix = prefix_in(registry, vlan, family)?;
+    let prefix = prefix_in(&registry.vlans, vlan, family)?;
     let mut left = Some(first_in(&prefix));
     'each: while let Some(addr) = left {
         if is_free(registry, vlan, family, &addr) {

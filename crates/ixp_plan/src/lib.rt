@@ -21,8 +21,3 @@ pub use laws::{
 };
 pub use report::use_report;
 pub use uses::UsedAddr;
-
-#[cfg(test)]
-mod sample;
-#[cfg(test)]
-mod tests;

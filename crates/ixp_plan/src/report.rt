@@ -1,13 +1,14 @@
 //! The report on who has which addresses.
 ghost use Rattle.std.specs.Prelude.{◌≡◌, ◌++◌, ℕ, List, OnOk, option_map, find, flat_map};
-ghost use Rattle.ixp_registry.specs.Rules.{has_blackhole};
-ghost use Rattle.ixp_plan.specs.Holders.{has_addr, answers_at};
+ghost use Rattle.ixp_registry.specs.Lookups.{has_blackhole, has_addr};
+ghost use Rattle.ixp_plan.specs.Holders.{answers_at};
 ghost use Rattle.ixp_plan.specs.Uses.{interface_text, holder_text, use_line, free_line, addr_or_none, IsReport};
 
 use crate::first_free;
-use crate::holders::{answers_at, has_addr, has_blackhole};
+use crate::holders::answers_at;
 use crate::uses::{UsedAddr, used_addresses};
 use ixp_num::{Addr, Family, print_addr};
+use ixp_places::{has_addr, has_blackhole};
 use ixp_registry::{Interface, Registry, Router};
 use ixp_text::{put, put_number};
 use std::alloc::{AllocError, Global};

@@ -3,13 +3,12 @@ ghost use Rattle.std.specs.Prelude.{◌≡◌, ◌&&◌, ◌||◌, OnOk, IfOk};
 ghost use Rattle.std.specs.List.{list_any};
 ghost use Rattle.ixp_num.specs.declared.addr.Addr.{Addr};
 ghost use Rattle.ixp_num.specs.Prefixes.{contains};
-ghost use Rattle.ixp_registry.specs.Lookups.{same_addr};
-ghost use Rattle.ixp_registry.specs.Rules.{has_blackhole};
-ghost use Rattle.ixp_plan.specs.Holders.{is_at, has_addr, uses, is_taken};
+ghost use Rattle.ixp_registry.specs.Lookups.{same_addr, has_blackhole, is_at, has_addr};
+ghost use Rattle.ixp_plan.specs.Holders.{uses, is_taken};
 ghost use Rattle.ixp_plan.specs.Uses.{is_in, is_used};
 
-use crate::holders::prefix_in;
 use ixp_num::{Addr, Family, Prefix};
+use ixp_places::prefix_in;
 use ixp_registry::{IfAddr, Interface, Registry, Router};
 use ixp_tables::{Row, Table};
 use std::alloc::{AllocError, Global};
@@ -22,7 +21,7 @@ pub struct UsedAddr {
 }
 
 impl Row for UsedAddr {
-    ghost use Rattle.ixp_registry.specs.Rules.{addr_numbers};
+    ghost use Rattle.ixp_registry.specs.Words.{addr_numbers};
 
     type Key = Addr;
 
@@ -151,7 +150,7 @@ pub(crate) fn used_addresses(
 ) -> Result<Table<UsedAddr>, AllocError>
     ensures { IfOk result (λ us. (a : Addr) → is_in a us ≡ is_used registry.now vlan family a) }
 {
-    match prefix_in(registry, vlan, family) {
+    match prefix_in(&registry.vlans, vlan, family) {
         Some(prefix) => used_in(alloc, registry, &prefix),
         None => Ok(Table::new(alloc)),
     }

@@ -1,13 +1,12 @@
 -- What becomes of a route that a session of a route server brings (RFC 7947).
-use Rattle.std.specs.Prelude.{ℕ, Bool, ◌==◌, not, List, [], ◌∷◌, ◌++◌, map, filter, codes, decimal, Option, Some, None, is_none, option_map, if◌then◌else◌}
-use Rattle.ixp_tables.specs.Tables.{find}
+use Rattle.std.specs.Prelude.{ℕ, Bool, ◌==◌, not, List, [], ◌++◌, map, filter, codes, decimal, Option, Some, None, is_none, option_map, if◌then◌else◌}
+use Rattle.ixp_tables.specs.Tables.{find, if_there}
 use Rattle.ixp_lang.specs.declared.route.Route.{Route}
 use Rattle.ixp_lang.specs.declared.fate.Fate.{Fate}
 use Rattle.ixp_registry.specs.declared.network.Interface.{Interface}
 use Rattle.ixp_registry.specs.declared.registry.Registry.{Registry}
 use Rattle.ixp_registry.specs.declared.router.Router.{Router}
 use Rattle.ixp_registry.specs.Keys.{router_key}
-use Rattle.ixp_registry.specs.Lookups.{if_there}
 use Rattle.ixp_registry.specs.Sessions.{Session, session, session_at, sessions_of}
 use Rattle.ixp_policy.specs.Import.{refusal, number_in}
 use Rattle.ixp_policy.specs.Tags.{tagged}

@@ -1,12 +1,12 @@
 -- What a route server refuses (RFC 7947 section 4.2, RFC 7454 sections 6 and 9). Each sentence is about rows, and about the
 -- route as it came; a route is refused by the first one of the table that holds.
-use Rattle.std.specs.Prelude.{ℕ, Bool, true, false, ◌&&◌, ◌||◌, ◌==◌, not, nat_le, nat_lt, List, [], ◌∷◌, length, filter, find, Option, Some, None, option_map, if◌then◌else◌}
+use Rattle.std.specs.Prelude.{ℕ, Bool, true, false, ◌&&◌, ◌||◌, ◌==◌, not, nat_le, nat_lt, List, [], ◌∷◌, length, filter, find, Option, option_map, if◌then◌else◌}
 use Rattle.std.specs.List.{list_any}
 use Rattle.ixp_num.specs.declared.addr.Addr.{Addr}
 use Rattle.ixp_num.specs.declared.asn.Asn.{Asn}
 use Rattle.ixp_num.specs.declared.prefix.Prefix.{Prefix}
 use Rattle.ixp_num.specs.declared.roa.Validity.{Validity}
-use Rattle.ixp_num.specs.declared.roa.Validity.TheVariants.{Valid, Invalid, Unknown}
+use Rattle.ixp_num.specs.declared.roa.Validity.TheVariants.{Valid, Invalid}
 use Rattle.ixp_num.specs.Prefixes.{covers, is_in_set}
 use Rattle.ixp_num.specs.Roas.{validity}
 use Rattle.ixp_lang.specs.declared.route.Route.{Route}
@@ -15,7 +15,8 @@ use Rattle.ixp_registry.specs.declared.network.IfAddr.{IfAddr}
 use Rattle.ixp_registry.specs.declared.network.Interface.{Interface}
 use Rattle.ixp_registry.specs.declared.registry.Registry.{Registry}
 use Rattle.ixp_registry.specs.declared.router.Router.{Router}
-use Rattle.ixp_registry.specs.Lookups.{if_there, same_addr}
+use Rattle.ixp_registry.specs.Lookups.{same_addr}
+use Rattle.ixp_tables.specs.Tables.{if_there}
 use Rattle.ixp_registry.specs.Sessions.{Session, address_of}
 use Rattle.ixp_policy.specs.declared.line.Line.{Line}
 use Rattle.ixp_policy.specs.Blackholes.{is_blackhole}

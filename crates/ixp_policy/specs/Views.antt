@@ -1,5 +1,5 @@
 -- The session that the program's references are to.
-use Rattle.ixp_registry.specs.Sessions.{Session, rules_of}
+use Rattle.ixp_registry.specs.Sessions.{Session}
 use Rattle.ixp_policy.specs.declared.session_rows.SessionRows.{SessionRows}
 
 abbrev pub session_of : SessionRows → Session
@@ -9,5 +9,5 @@ session_of s = record {
   member = s.member.now;
   prefixes = s.prefixes.now;
   origins = s.origins.now;
-  rules = rules_of s.registry.now s.interface.now.member;
+  rules = s.rules.now;
 }

@@ -4,7 +4,7 @@ ghost use Rattle.ixp_policy.specs.Blackholes.{is_blackhole, is_host_net};
 
 use ixp_lang::Route;
 use ixp_num::Prefix;
-use ixp_rows::Router;
+use ixp_registry::Router;
 use ixp_steer::has_pair;
 
 fn is_host_net(net: &Prefix) -> bool

@@ -1,8 +1,8 @@
 //! What a receiver gets of a route.
 ghost use Rattle.std.specs.Prelude.{◌≡◌, ◌++◌, ◌==◌, IfOk, filter, not, replicate};
 ghost use Rattle.ixp_policy.specs.Export.{hop_of, is_for_server, is_of_server, lets_in, received, sent_route, server_actions, steered, times_of, wish};
-ghost use Rattle.ixp_registry.specs.Lookups.{if_there};
-ghost use Rattle.ixp_registry.specs.Sessions.{asked, rules_of};
+ghost use Rattle.ixp_tables.specs.Tables.{if_there};
+ghost use Rattle.ixp_registry.specs.Sessions.{asked};
 ghost use Rattle.std.specs.List.{list_any};
 ghost use Rattle.ixp_policy.specs.Views.{session_of};
 
@@ -10,24 +10,12 @@ use crate::blackholes::is_blackhole;
 use crate::session_rows::SessionRows;
 use ixp_lang::Route;
 use ixp_num::{Addr, Asn, Items};
-use ixp_rows::{Action, MemberRule, Registry, Router};
+use ixp_registry::{Action, MemberRule, Router};
 use ixp_steer::{asked, prepends, receives, sends};
 use std::alloc::{AllocError, Global};
 
 /// The second parts of a server's own large communities.
 const SERVER_ACTIONS: [u32; 8] = [0, 1, 101, 102, 103, 1000, 1001, 1101];
-
-/// The rules of a member.
-fn rules_of(alloc: Global, registry: &Registry, member: u32) -> Result<Vec<MemberRule>, AllocError>
-    ensures { IfOk result (λ v. v.items ≡ rules_of registry.now member) }
-{
-    let rules = registry.rules.as_slice();
-    rules
-        .iter()
-        .copied()
-        .filter(|rule| rule.member == member)
-        .collect(alloc)
-}
 
 fn times_of(action: Action) -> Option<u8>
     ensures { result ≡ times_of action }
@@ -59,29 +47,16 @@ fn wish_by(rules: &[MemberRule], rs: Asn, route: &Route, to: Asn) -> Option<u8>
 }
 
 /// How often the sender's number is put in front for the receiver `to`, None where the route isn't to be sent.
-pub(crate) fn wish(
-    alloc: Global,
-    router: &Router,
-    sender: &SessionRows<'_>,
-    route: &Route,
-    to: Asn,
-) -> Result<Option<u8>, AllocError>
-    ensures { IfOk result (λ w. w ≡ wish router.now (session_of sender.now) route.now to.0) }
+pub(crate) fn wish(router: &Router, sender: &SessionRows<'_>, route: &Route, to: Asn) -> Option<u8>
+    ensures { result ≡ wish router.now (session_of sender.now) route.now to.0 }
 {
-    let rules = rules_of(alloc, sender.registry, sender.interface.member)?;
-    Ok(wish_by(rules.as_slice(), router.asn, route, to))
+    wish_by(sender.rules, router.asn, route, to)
 }
 
-fn lets_in(
-    alloc: Global,
-    receiver: &SessionRows<'_>,
-    sender: &SessionRows<'_>,
-    route: &Route,
-) -> Result<bool, AllocError>
-    ensures { IfOk result (λ b. b ≡ lets_in (session_of receiver.now) (session_of sender.now) route.now) }
+fn lets_in(receiver: &SessionRows<'_>, sender: &SessionRows<'_>, route: &Route) -> bool
+    ensures { result ≡ lets_in (session_of receiver.now) (session_of sender.now) route.now }
 {
-    let rules = rules_of(alloc, receiver.registry, receiver.interface.member)?;
-    Ok(receives(rules.as_slice(), &route.net, sender.member.asn))
+    receives(receiver.rules, &route.net, sender.member.asn)
 }
 
 fn hop_of(router: &Router, route: &Route) -> Addr
@@ -177,10 +152,10 @@ pub(crate) fn received(
 ) -> Result<Option<Route>, AllocError>
     ensures { IfOk result (λ x. x ≡ received router.now (session_of sender.now) route.now (session_of receiver.now)) }
 {
-    if !lets_in(alloc, receiver, sender, route)? {
+    if !lets_in(receiver, sender, route) {
         return Ok(None);
     }
-    match wish(alloc, router, sender, route, receiver.member.asn)? {
+    match wish(router, sender, route, receiver.member.asn) {
         Some(times) => Ok(Some(sent_route(alloc, router, sender, route, times)?)),
         None => Ok(None),
     }

@@ -1,6 +1,6 @@
 //! The fate of a route.
 ghost use Rattle.std.specs.Prelude.{◌≡◌, ◌&&◌, IfOk, None, option_map};
-ghost use Rattle.ixp_registry.specs.Lookups.{if_there};
+ghost use Rattle.ixp_tables.specs.Tables.{if_there};
 ghost use Rattle.ixp_registry.specs.Sessions.{is_session};
 ghost use Rattle.ixp_policy.specs.Export.{received, wish};
 ghost use Rattle.ixp_policy.specs.Fates.{ask, fate, fate_of, is_other, number, sent_to, sent_to_others};
@@ -13,7 +13,7 @@ use crate::session_rows::{SessionRows, is_session, session, session_at};
 use crate::table::{number_in, refusal};
 use ixp_lang::{Fate, Route, numbered};
 use ixp_num::{Asn, Items, Name};
-use ixp_rows::{Interface, Registry, Router};
+use ixp_registry::{Interface, Registry, Router};
 use std::alloc::{AllocError, Global};
 
 fn received_at(
@@ -147,7 +147,7 @@ fn ask_of(
     ensures { IfOk result (λ w. w ≡ wish router.now (session_of sender.now) (tagged registry.now router.now (session_of sender.now) route.now) to.0) }
 {
     let own = tagged(alloc, registry, router, sender, route)?;
-    wish(alloc, router, sender, &own, to)
+    Ok(wish(router, sender, &own, to))
 }
 
 /// How often the sender's number is put in front of the route for a receiver with the number `to`, None inside where it isn't to

@@ -12,7 +12,7 @@ use crate::session_rows::SessionRows;
 use crate::table::{is_got_past, is_reached, refusal};
 use ixp_lang::Route;
 use ixp_num::{Asn, Items, Validity};
-use ixp_rows::{Registry, Router};
+use ixp_registry::{Registry, Router};
 use std::alloc::{AllocError, Global};
 
 /// A large community (RFC 8092).

@@ -16,6 +16,3 @@ mod session_rows;
 mod table;
 
 pub use fates::{ask_plain, fate_plain, number_plain};
-
-#[cfg(test)]
-mod tests;

@@ -12,7 +12,7 @@ use crate::session_rows::{SessionRows, address_of};
 use ixp_lang::Route;
 use ixp_num::{Addr, Asn, Pattern, Prefix};
 use ixp_places::same_addr;
-use ixp_rows::{IfAddr, Interface, Registry, Router};
+use ixp_registry::{IfAddr, Interface, Registry, Router};
 
 /// The most numbers of a path.
 const LONGEST_PATH: usize = 64;

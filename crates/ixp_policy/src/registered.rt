@@ -9,8 +9,8 @@ use crate::places::{is_listed, last_of};
 use crate::session_rows::SessionRows;
 use ixp_lang::Route;
 use ixp_num::{Asn, Prefix, Validity};
+use ixp_registry::{Registry, Router};
 use ixp_roa::validity;
-use ixp_rows::{Registry, Router};
 
 pub(crate) fn has_other_origin(session: &SessionRows<'_>, route: &Route) -> bool
     ensures { result ≡ has_other_origin (session_of session.now) route.now }

@@ -1,22 +1,22 @@
 //! The sessions of a router.
 ghost use Rattle.std.specs.Prelude.{◌≡◌, false, option_map};
-ghost use Rattle.ixp_registry.specs.Lookups.{if_there};
-ghost use Rattle.ixp_registry.specs.Sessions.{address_of, is_member_connected, is_session, origins_in, prefixes_in, session, session_at};
+ghost use Rattle.ixp_tables.specs.Tables.{if_there};
+ghost use Rattle.ixp_registry.specs.Sessions.{address_of, is_session, origins_in, prefixes_in, rules_of, session, session_at};
 ghost use Rattle.ixp_policy.specs.Views.{session_of};
 
 use ixp_num::{Asn, Family, Prefix};
-use ixp_places::is_connected;
-use ixp_rows::{IfAddr, Interface, Member, Registry, Router};
+use ixp_places::is_member_connected;
+use ixp_registry::{IfAddr, Interface, Member, MemberRule, Registry, Router};
 
-/// The rows of a session. Its member's rules are those of the registry that name the member.
+/// The rows of a session.
 #[derive(Clone, Copy)]
 pub struct SessionRows<'a> {
-    pub registry: &'a Registry,
     pub interface: &'a Interface,
     pub address: &'a IfAddr,
     pub member: &'a Member,
     pub prefixes: &'a [Prefix],
     pub origins: &'a [Asn],
+    pub rules: &'a [MemberRule],
 }
 
 /// The interface's address of the family.
@@ -38,22 +38,13 @@ fn has_server(family: Family, interface: &Interface) -> bool
     }
 }
 
-fn is_member_connected(registry: &Registry, member: u32) -> bool
-    ensures { result ≡ is_member_connected registry.now member }
-{
-    match registry.members.find(&member) {
-        Some(member) => is_connected(member.status),
-        None => false,
-    }
-}
-
 /// Whether the interface has a session with the router.
 pub(crate) fn is_session(registry: &Registry, router: &Router, interface: &Interface) -> bool
     ensures { result ≡ is_session registry.now router.now interface.now }
 {
     interface.vlan == router.vlan
         && has_server(router.family, interface)
-        && is_member_connected(registry, interface.member)
+        && is_member_connected(&registry.members, interface.member)
 }
 
 fn prefixes_in(registry: &Registry, member: u32, family: Family) -> &[Prefix]
@@ -74,6 +65,15 @@ fn origins_in(registry: &Registry, member: u32, family: Family) -> &[Asn]
     }
 }
 
+fn rules_of(registry: &Registry, member: u32) -> &[MemberRule]
+    ensures { result.now ≡ rules_of registry.entry.now member }
+{
+    match registry.rules.find(&member) {
+        Some(list) => list.rules.as_slice(),
+        None => &[],
+    }
+}
+
 /// The interface's session with the router, where it has one.
 pub(crate) fn session_at<'a>(
     registry: &'a Registry,
@@ -88,12 +88,12 @@ pub(crate) fn session_at<'a>(
     let address = address_of(router.family, interface)?;
     let member = registry.members.find(&interface.member)?;
     Some(SessionRows {
-        registry,
         interface,
         address,
         member,
         prefixes: prefixes_in(registry, interface.member, router.family),
         origins: origins_in(registry, interface.member, router.family),
+        rules: rules_of(registry, interface.member),
     })
 }
 

@@ -11,7 +11,7 @@ use crate::places::{
 use crate::registered::{has_other_origin, is_invalid, is_unregistered};
 use crate::session_rows::SessionRows;
 use ixp_lang::Route;
-use ixp_rows::{Registry, Router};
+use ixp_registry::{Registry, Router};
 
 fn line(place: u32, number: u32, holds: bool) -> Line
     ensures { result ≡ line place number holds }

@@ -1,3 +1,2 @@
 pub mod CsvFields
 pub mod CsvRows
-pub mod SameRoas

@@ -1,9 +1,6 @@
 -- Which ROAs a CSV text lists: in its first three columns an AS number, a prefix, and a max length or nothing.
 use Rattle.std.specs.Prelude.{◌≡◌, ℕ, ◌+◌, ◌<◌, ◌≤◌, Bool, false, ◌&&◌, ◌==◌, List, [], ◌∷◌, ◌++◌, length, Result, Ok, Err, codes, if◌then◌else◌}
-use Rattle.std.specs.declared.cmp.Ordering.{Ordering}
 use Rattle.std.specs.Global.{Vec}
-use Rattle.std.specs.List.{Contains}
-use Rattle.std.specs.List.Sorted.{IsStrictlySortedBy}
 use Rattle.std.specs.Str.{bytes_eq}
 use Rattle.csv.specs.Reading.{AreRecords, default_config, strip_bom}
 use Rattle.csv.specs.declared.parser.State.TheVariants as state
@@ -13,6 +10,8 @@ use Rattle.ixp_num.specs.declared.roa.Roa.{Roa}
 use Rattle.ixp_num.specs.Families.{bits_of}
 use Rattle.ixp_num.specs.Forms.{IsDecimal}
 use Rattle.ixp_num.specs.Answers.{AsnAnswer, PrefixAnswer}
+use Rattle.ixp_sorted.specs.Keys.{roa_key}
+use Rattle.ixp_sorted.specs.Sorted.{IsInOrder}
 use Rattle.ixp_roa.specs.declared.fault.Misfit.{Misfit}
 use Rattle.ixp_roa.specs.declared.fault.Misfit.TheVariants as misfit
 use Rattle.ixp_roa.specs.declared.fault.RoaFault.{RoaFault}
@@ -87,30 +86,26 @@ header_rows (row ∷ rows) = if is_header row then 1 else 0
 abbrev pub FirstMisfit : List (List (List ℕ)) → Misfit → ℕ → Type 0
 FirstMisfit rows why n = MisfitIn (under_header rows) (header_rows rows) why n
 
--- the same ROAs, in ascending order and each once
-abbrev pub IsOrdered : (Roa → Roa → Ordering) → List Roa → List Roa → Type 0
-IsOrdered order all rs = IsStrictlySortedBy order rs × ((r : Roa) → Contains all r → Contains rs r) × ((r : Roa) → Contains rs r → Contains all r)
-
--- a list of ROAs in order, if there are at most so many
-abbrev pub OrderedAnswer : ℕ → (Roa → Roa → Ordering) → List Roa → Result (List Roa) RoaFault → Type 0
-OrderedAnswer most order all (Ok rs) = IsOrdered order all rs × (length rs ≤ most)
-OrderedAnswer most order all (Err (fault.TooMany have)) = (rs : List Roa) × IsOrdered order all rs × (have ≡ length rs) × (most < have)
-OrderedAnswer most order all (Err (fault.Row n)) = ⊥
-OrderedAnswer most order all (Err (fault.MaxLength n)) = ⊥
-OrderedAnswer most order all (Err fault.NoMemory) = ⊥
+-- the same ROAs in the order of their keys and each once, if there are at most so many
+abbrev pub OrderedAnswer : ℕ → List Roa → Result (List Roa) RoaFault → Type 0
+OrderedAnswer most all (Ok rs) = IsInOrder roa_key all rs × (length rs ≤ most)
+OrderedAnswer most all (Err (fault.TooMany have)) = (rs : List Roa) × IsInOrder roa_key all rs × (have ≡ length rs) × (most < have)
+OrderedAnswer most all (Err (fault.Row n)) = ⊥
+OrderedAnswer most all (Err (fault.MaxLength n)) = ⊥
+OrderedAnswer most all (Err fault.NoMemory) = ⊥
 
 -- what rows are: a list of ROAs, a misfit at the first row that is none, or too many
-abbrev pub RowsAnswer : ℕ → (Roa → Roa → Ordering) → List (List (List ℕ)) → Result (List Roa) RoaFault → Type 0
-RowsAnswer most order rows (Ok rs) = (all : List Roa) × AreRoas (under_header rows) all × OrderedAnswer most order all (Ok rs)
-RowsAnswer most order rows (Err (fault.Row n)) = FirstMisfit rows misfit.Form n
-RowsAnswer most order rows (Err (fault.MaxLength n)) = FirstMisfit rows misfit.MaxLength n
-RowsAnswer most order rows (Err (fault.TooMany have)) = (all : List Roa) × AreRoas (under_header rows) all × OrderedAnswer most order all (Err (fault.TooMany have))
-RowsAnswer most order rows (Err fault.NoMemory) = Unit {0}
+abbrev pub RowsAnswer : ℕ → List (List (List ℕ)) → Result (List Roa) RoaFault → Type 0
+RowsAnswer most rows (Ok rs) = (all : List Roa) × AreRoas (under_header rows) all × OrderedAnswer most all (Ok rs)
+RowsAnswer most rows (Err (fault.Row n)) = FirstMisfit rows misfit.Form n
+RowsAnswer most rows (Err (fault.MaxLength n)) = FirstMisfit rows misfit.MaxLength n
+RowsAnswer most rows (Err (fault.TooMany have)) = (all : List Roa) × AreRoas (under_header rows) all × OrderedAnswer most all (Err (fault.TooMany have))
+RowsAnswer most rows (Err fault.NoMemory) = Unit {0}
 
--- The rows of the text are such (RFC 4180, as the csv crate reads it), with at most a million ROAs. `order` is the one of the answer.
-abbrev pub CsvAnswer : (Roa → Roa → Ordering) → List ℕ → Result (List Roa) RoaFault → Type 0
-CsvAnswer order t (Err fault.NoMemory) = Unit {0}
-CsvAnswer order t (Ok rs) = (rows : List (List (List ℕ))) × AreRecords default_config state.StartRecord (strip_bom t) rows × RowsAnswer 1000000 order rows (Ok rs)
-CsvAnswer order t (Err (fault.Row n)) = (rows : List (List (List ℕ))) × AreRecords default_config state.StartRecord (strip_bom t) rows × RowsAnswer 1000000 order rows (Err (fault.Row n))
-CsvAnswer order t (Err (fault.MaxLength n)) = (rows : List (List (List ℕ))) × AreRecords default_config state.StartRecord (strip_bom t) rows × RowsAnswer 1000000 order rows (Err (fault.MaxLength n))
-CsvAnswer order t (Err (fault.TooMany n)) = (rows : List (List (List ℕ))) × AreRecords default_config state.StartRecord (strip_bom t) rows × RowsAnswer 1000000 order rows (Err (fault.TooMany n))
+-- The rows of the text are such (RFC 4180, as the csv crate reads it), with at most a million ROAs.
+abbrev pub CsvAnswer : List ℕ → Result (List Roa) RoaFault → Type 0
+CsvAnswer t (Err fault.NoMemory) = Unit {0}
+CsvAnswer t (Ok rs) = (rows : List (List (List ℕ))) × AreRecords default_config state.StartRecord (strip_bom t) rows × RowsAnswer 1000000 rows (Ok rs)
+CsvAnswer t (Err (fault.Row n)) = (rows : List (List (List ℕ))) × AreRecords default_config state.StartRecord (strip_bom t) rows × RowsAnswer 1000000 rows (Err (fault.Row n))
+CsvAnswer t (Err (fault.MaxLength n)) = (rows : List (List (List ℕ))) × AreRecords default_config state.StartRecord (strip_bom t) rows × RowsAnswer 1000000 rows (Err (fault.MaxLength n))
+CsvAnswer t (Err (fault.TooMany n)) = (rows : List (List (List ℕ))) × AreRecords default_config state.StartRecord (strip_bom t) rows × RowsAnswer 1000000 rows (Err (fault.TooMany n))

@@ -1,7 +1,5 @@
 //! CSV texts of ROAs.
-ghost use Rattle.std.specs.Prelude.{◌≡◌, ◌≤◌, true, IfOk, map};
-ghost use Rattle.ixp_num.specs.declared.roa.Roa.{Roa};
-ghost use Rattle.ixp_num.specs.declared.family.Family.{Family};
+ghost use Rattle.std.specs.Prelude.{◌≡◌, ◌≤◌, IfOk, map};
 ghost use Rattle.csv.specs.Reading.{AreRecords, default_config, strip_bom};
 ghost use Rattle.csv.specs.Records.{fields_of};
 ghost use Rattle.csv.specs.declared.parser.State.TheVariants as st;
@@ -9,9 +7,9 @@ ghost use Rattle.ixp_roa.specs.CsvRoas.{RowAnswer, is_header, under_header, head
 
 use crate::csv_rows::roa_in;
 use crate::fault::{Misfit, RoaFault};
-use crate::ordered::put_in_order;
 use csv::{ByteRecord, Error, ReaderBuilder};
-use ixp_num::{Family, Items, Roa};
+use ixp_num::Roa;
+use ixp_sorted::Sorted;
 use std::alloc::Global;
 
 /// The rows of a text, which may differ in their number of fields. It fails for want of memory alone.
@@ -103,28 +101,15 @@ fn under_header(rows: &[ByteRecord]) -> (&[ByteRecord], usize)
     }
 }
 
-/// Equal families are the same.
-fn equal_families()
-    ensures { (x y : Family) → ⟦<Family as PartialEq>⟧.eq x y ≡ true → x ≡ y }
-{}
-
-/// Equal ROAs are the same.
-fn equal_is_same()
-    ensures { (x y : Roa) → ⟦<Roa as PartialEq>⟧.eq x y ≡ true → x ≡ y }
-{
-    equal_families();
-}
-
 /// The ROAs in order, if they aren't too many.
-fn in_order(mut roas: Vec<Roa>, most: usize) -> Result<Items<Roa>, RoaFault>
-    ensures { OrderedAnswer most ⟦<Roa as Ord>⟧.cmp roas.items result }
+fn in_order(roas: Vec<Roa>, most: usize) -> Result<Sorted<Roa>, RoaFault>
+    ensures { OrderedAnswer most roas.items result }
 {
-    equal_is_same();
-    put_in_order(&mut roas);
-    if most < roas.len() {
-        return Err(RoaFault::TooMany { have: roas.len() });
+    let sorted = Sorted::from_items(roas);
+    if most < sorted.len() {
+        return Err(RoaFault::TooMany { have: sorted.len() });
     }
-    Ok(Items::from_vec(roas))
+    Ok(sorted)
 }
 
 /// The ROAs of rows, in order, of which at most so many may be distinct.
@@ -132,8 +117,8 @@ pub(crate) fn listed(
     alloc: Global,
     rows: &[ByteRecord],
     most: usize,
-) -> Result<Items<Roa>, RoaFault>
-    ensures { RowsAnswer most ⟦<Roa as Ord>⟧.cmp (map fields_of rows.now) result }
+) -> Result<Sorted<Roa>, RoaFault>
+    ensures { RowsAnswer most (map fields_of rows.now) result }
 {
     let (rows, before) = under_header(rows);
     match roas_of(alloc, rows, before) {

@@ -6,11 +6,8 @@
 #![tactic(auto)]
 
 mod csv_rows;
-#[cfg(test)]
-mod csv_tests;
 mod csv_text;
 mod fault;
-mod ordered;
 mod rows;
 mod table;
 

@@ -1,6 +1,6 @@
 //! What members' rules say.
 ghost use Rattle.std.specs.Prelude.{◌≡◌, ◌&&◌, ◌==◌, not, true};
-ghost use Rattle.ixp_registry.specs.Lookups.{if_there};
+ghost use Rattle.ixp_tables.specs.Tables.{if_there};
 ghost use Rattle.ixp_registry.specs.Sessions.{asked, is_about, is_advertise, is_for, is_from, is_stop, receives};
 
 use ixp_num::{Asn, Prefix};

@@ -3,8 +3,8 @@ use Rattle.ixp_compile.proofs.walk_laws.own_part_tells.Goals as goal
 
 pub returns : goal.returns
 returns c = record {
-  walk = λ r handle router n s route valid small there its family.
-      own_right r valid handle router there n s its small route family;
+  walk = λ r handle router n s route valid there its family.
+      own_right r valid handle router there n s its route family;
   up = λ r handle router n s env route valid there its family pass.
       own_up r valid handle router there n s its env route family pass;
   sends = λ r handle router n s env t to valid there its.

@@ -1,7 +1,7 @@
 use Rattle.std.proofs.Common.{◌&&◌, ◌||◌, sym, ap, ◌∙◌}
 use Rattle.std.specs.List.{list_any}
 use Rattle.ixp_num.specs.Prefixes.{contains}
-use Rattle.ixp_plan.specs.Holders.{has_addr}
+use Rattle.ixp_registry.specs.Lookups.{has_addr}
 use Rattle.ixp_plan.specs.Uses.{is_in}
 use Rattle.ixp_plan.proofs.Gathering.{put_both}
 use Rattle.ixp_plan.proofs.uses.put_interfaces.Goals as goal

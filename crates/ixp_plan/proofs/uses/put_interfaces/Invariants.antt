@@ -2,7 +2,7 @@ use Rattle.std.proofs.Common.{◌≡◌, ◌&&◌, ◌||◌, length}
 use Rattle.std.specs.List.{list_any}
 use Rattle.ixp_num.specs.declared.addr.Addr.{Addr}
 use Rattle.ixp_num.specs.Prefixes.{contains}
-use Rattle.ixp_plan.specs.Holders.{has_addr}
+use Rattle.ixp_registry.specs.Lookups.{has_addr}
 use Rattle.ixp_plan.specs.Uses.{is_in}
 use Rattle.ixp_plan.proofs.uses.put_interfaces.Given as goal
 

@@ -1,6 +1,6 @@
 use Rattle.std.proofs.Common.{◌&&◌, ◌||◌, ap, ◌∙◌}
 use Rattle.ixp_num.specs.Prefixes.{contains}
-use Rattle.ixp_registry.specs.Rules.{has_blackhole}
+use Rattle.ixp_registry.specs.Lookups.{has_blackhole}
 use Rattle.ixp_plan.specs.Holders.{answers_at}
 use Rattle.ixp_plan.specs.Uses.{is_in}
 use Rattle.ixp_plan.proofs.Gathering.{put_both}
