@@ -1,13 +1,17 @@
--- How an evaluation ends.
-use Rattle.std.proofs.Common.{◌≡◌, ◌≢◌, ◌↔◌, ℕ, true, false, IsTrue, List, Option, Some, refl, sym, ap, ◌∙◌}
+-- Why an input of `eval` is refused.
+use Rattle.std.proofs.Common.{◌≡◌, ◌≢◌, ◌↔◌, ℕ, true, false, IsTrue, ◌⊎◌, subst, List, Option, Some, None, Ok, Err, inl, inr, refl, sym, ap, ◌∙◌}
 use Rattle.ixp_lang.specs.declared.item.Bgp.{Bgp}
 use Rattle.ixp_lang.specs.Trees.{ItemTree}
 use Rattle.ixp_lang.specs.Walks.{sessions_of, session_named}
 use Rattle.ixp_trial.specs.declared.trial.Trial.{Trial}
-use Rattle.ixp_cli.specs.declared.end.End.{End}
-use Rattle.ixp_cli.specs.declared.end.End.TheVariants.{Done, Usage, BadLine, BadDump, BadText, BadTrial, TooLong, ReadFault, WriteFault, NoMemory}
-use Rattle.ixp_cli.specs.Evals.{IsConfiguration, IsOfOtherFamily, IsTrialEnd, IsEvalEnd}
-use Rattle.ixp_cli.specs.Runs.{Streams, ReadsAll, EndsOutside, EvalEnds}
+use Rattle.ixp_causes.specs.declared.Cause.{Cause}
+use Rattle.ixp_trial.specs.declared.fault.TrialFault.{TrialFault}
+use Rattle.ixp_trial.specs.Causes.{cause_of}
+use Rattle.ixp_trial.specs.Trials.{TrialAnswer}
+use Rattle.ixp_cli.specs.declared.end.NoAnswer.{NoAnswer}
+use Rattle.ixp_cli.specs.declared.end.NoAnswer.TheVariants.{Bad, NoMemory}
+use Rattle.ixp_cli.specs.Evals.{IsConfiguration, IsOfOtherFamily, IsNoText, IsNoTrial, IsNoEval, IsRefused}
+use Rattle.ixp_cli.specs.Runs.{Refused, no_answer}
 
 same_session : (items : List ItemTree) (n : List ℕ) (b c : Bgp) → session_named (sessions_of items) n ≡ Some b → session_named (sessions_of items) n ≡ Some c → b ≡ c
 same_session items n b c here there = let one : ◌≡◌ {A = Option Bgp} (Some b) (Some c) = sym here ∙ there in cc
@@ -19,38 +23,25 @@ pub of_one_family : (items : List ItemTree) (t : Trial) (b : Bgp) → session_na
 of_one_family items t b named same =
     ((λ e. absurd (let h : ◌≡◌ false true = e in cc)), λ other. absurd (other.2 (ap (λ x. x.family) (same_session items t.session other.0 b other.1 named) ∙ same)))
 
-pub trial_ended : (input : List ℕ) (items : List ItemTree) (end : End) → IsConfiguration input items → IsTrialEnd items input end → IsEvalEnd input end
-trial_ended input items Done is e = absurd e
-trial_ended input items Usage is e = absurd e
-trial_ended input items (BadLine line) is e = absurd e
-trial_ended input items (BadDump fault) is e = absurd e
-trial_ended input items (BadText fault) is e = absurd e
-trial_ended input items (BadTrial fault) is e = (items, is, e)
-trial_ended input items TooLong is e = absurd e
-trial_ended input items ReadFault is e = absurd e
-trial_ended input items WriteFault is e = absurd e
-trial_ended input items NoMemory is e = tt
+told : (items : List ItemTree) (input : List ℕ) (fault : TrialFault) → (TrialAnswer input (Err fault)) ⊎ ((t : Trial) × TrialAnswer input (Ok t) × IsRefused items t fault)
+    → (o : Option Cause) → cause_of fault ≡ o → Refused (IsNoTrial items input) (no_answer o)
+told items input fault why (Some cause) e = (fault, e, why)
+told items input fault why None e = tt
 
-pub outside_eval : (before after : Streams) (end : End) → EndsOutside before after end → EvalEnds before after end
-outside_eval before after Done e = absurd e
-outside_eval before after Usage e = absurd e
-outside_eval before after (BadLine line) e = absurd e
-outside_eval before after (BadDump fault) e = absurd e
-outside_eval before after (BadText fault) e = absurd e
-outside_eval before after (BadTrial fault) e = absurd e
-outside_eval before after TooLong e = e
-outside_eval before after ReadFault e = e
-outside_eval before after WriteFault e = e
-outside_eval before after NoMemory e = e
+-- there is no trial
+pub no_trial : (items : List ItemTree) (input : List ℕ) (fault : TrialFault) (why : NoAnswer) → TrialAnswer input (Err fault) → why ≡ no_answer (cause_of fault)
+    → Refused (IsNoTrial items input) why
+no_trial items input fault why none e = subst (Refused (IsNoTrial items input)) (sym e) (told items input fault (inl none) (cause_of fault) refl)
 
-pub evaluated_eval : (before after : Streams) (t : List ℕ) (end : End) → ReadsAll before after t → IsEvalEnd t end → EvalEnds before after end
-evaluated_eval before after t Done reads e = absurd e
-evaluated_eval before after t Usage reads e = absurd e
-evaluated_eval before after t (BadLine line) reads e = absurd e
-evaluated_eval before after t (BadDump fault) reads e = absurd e
-evaluated_eval before after t (BadText fault) reads e = (t, reads, e)
-evaluated_eval before after t (BadTrial fault) reads e = (t, reads, e)
-evaluated_eval before after t TooLong reads e = absurd e
-evaluated_eval before after t ReadFault reads e = absurd e
-evaluated_eval before after t WriteFault reads e = absurd e
-evaluated_eval before after t NoMemory reads e = tt
+-- there is one that the configuration can't take
+pub not_taken : (items : List ItemTree) (input : List ℕ) (t : Trial) (fault : TrialFault) (why : NoAnswer) → TrialAnswer input (Ok t) → IsRefused items t fault
+    → why ≡ no_answer (cause_of fault) → Refused (IsNoTrial items input) why
+not_taken items input t fault why is refused e = subst (Refused (IsNoTrial items input)) (sym e) (told items input fault (inr (t, is, refused)) (cause_of fault) refl)
+
+pub bad_text : (input : List ℕ) (why : NoAnswer) → Refused (IsNoText input) why → Refused (IsNoEval input) why
+bad_text input (Bad cause) e = inl e
+bad_text input NoMemory e = tt
+
+pub bad_trial : (input : List ℕ) (items : List ItemTree) (why : NoAnswer) → IsConfiguration input items → Refused (IsNoTrial items input) why → Refused (IsNoEval input) why
+bad_trial input items (Bad cause) is e = inr (items, is, e)
+bad_trial input items NoMemory is e = tt

@@ -1,6 +1,9 @@
+pub mod Ending
 pub mod Evaluating
+pub mod Inputs
+pub mod LongInputs
 pub mod Members
 pub mod Numbering
-pub mod Words
+pub mod OneOutput
 pub mod Telling
-pub mod Inputs
+pub mod Words

@@ -1,24 +1,24 @@
 -- What `eval` makes of an input: a filter text, the line `%%`, lines of ROAs, and the line of a route.
 use Rattle.std.specs.Prelude.{◌≡◌, ◌≢◌, ◌⊎◌, ℕ, List, Option, Some, None, Result, Ok, Err, codes}
+use Rattle.ixp_causes.specs.declared.Cause.{Cause}
 use Rattle.ixp_num.specs.declared.roa.Roa.{Roa}
 use Rattle.ixp_lang.specs.declared.fate.Fate.{Fate}
 use Rattle.ixp_lang.specs.declared.item.Bgp.{Bgp}
-use Rattle.ixp_lang.specs.Faults.{Fault, pair_range, no_return, no_verdict, no_filter, ended}
+use Rattle.ixp_lang.specs.Faults.{Fault, pair_range, no_return, no_verdict, no_filter}
 use Rattle.ixp_lang.specs.Texts.{fate_text}
 use Rattle.ixp_lang.specs.Trees.{ItemTree}
 use Rattle.ixp_lang.specs.Walks.{sessions_of, session_named, walk}
 use Rattle.ixp_read.specs.declared.fault.ReadFault.{ReadFault}
-use Rattle.ixp_read.specs.declared.fault.ReadFault.TheVariants as text_fault
 use Rattle.ixp_read.specs.Answers.{SpellsText, ConfigAnswer}
+use Rattle.ixp_read.specs.Causes as text
 use Rattle.ixp_trial.specs.declared.fault.RouteCode.TheVariants as code
 use Rattle.ixp_trial.specs.declared.fault.TrialFault.{TrialFault}
 use Rattle.ixp_trial.specs.declared.fault.TrialFault.TheVariants as trial_fault
 use Rattle.ixp_trial.specs.declared.trial.Trial.{Trial}
+use Rattle.ixp_trial.specs.Causes as trial
 use Rattle.ixp_trial.specs.Lines.{IsFilterText}
 use Rattle.ixp_trial.specs.Tables.{AreTables}
 use Rattle.ixp_trial.specs.Trials.{TrialAnswer}
-use Rattle.ixp_cli.specs.declared.end.End.{End}
-use Rattle.ixp_cli.specs.declared.end.End.TheVariants.{Done, Usage, BadLine, BadDump, BadText, BadTrial, TooLong, ReadFault as ReadFails, WriteFault, NoMemory}
 
 -- the filter text in the input spells this configuration
 abbrev pub IsConfiguration : List ℕ → List ItemTree → Type 0
@@ -43,7 +43,6 @@ outcome_text (Err (pair_range value)) = codes "fault V1\n"
 outcome_text (Err (no_return name)) = codes "fault V2\n"
 outcome_text (Err (no_verdict name)) = codes "fault V3\n"
 outcome_text (Err (no_filter name)) = codes "fault V4\n"
-outcome_text (Err ended) = codes "fault V5\n"
 
 -- what the walk gives by these items, with tables of the trial's ROAs
 abbrev pub IsOutcome : List ItemTree → Trial → List ℕ → Type 0
@@ -64,21 +63,17 @@ IsRefused configuration t fault =
     (IsOfOtherFamily configuration t × (fault ≡ trial_fault.BadRoute t.line code.Family))
     ⊎ (¬ (IsOfOtherFamily configuration t) × (line : ℕ) × (t.more ≡ Some line) × (fault ≡ trial_fault.BadLine line))
 
+-- why the filter text in the input spells no configuration
+abbrev pub IsNoText : List ℕ → Cause → Type 0
+IsNoText input cause = (fault : ReadFault) × (text.cause_of fault ≡ Some cause) × (t : List ℕ) × IsFilterText input t × ConfigAnswer t (Err fault)
+
 -- why what is behind the filter text is no trial of the configuration: it is no trial, or one that the configuration can't take
-abbrev pub IsNoTrial : List ItemTree → List ℕ → TrialFault → Type 0
-IsNoTrial configuration input fault =
-    ((fault ≢ trial_fault.NoMemory) × TrialAnswer input (Err fault))
-    ⊎ ((t : Trial) × TrialAnswer input (Ok t) × IsRefused configuration t fault)
+abbrev pub IsNoTrial : List ItemTree → List ℕ → Cause → Type 0
+IsNoTrial configuration input cause =
+    (fault : TrialFault) × (trial.cause_of fault ≡ Some cause)
+    × (TrialAnswer input (Err fault) ⊎ ((t : Trial) × TrialAnswer input (Ok t) × IsRefused configuration t fault))
 
--- how the trial of a configuration may end a run
-abbrev pub IsTrialEnd : List ItemTree → List ℕ → End → Type 0
-IsTrialEnd configuration input (BadTrial fault) = IsNoTrial configuration input fault
-IsTrialEnd configuration input NoMemory = Unit {0}
-IsTrialEnd configuration input end = ⊥
-
--- how an evaluation may end between reading and writing
-abbrev pub IsEvalEnd : List ℕ → End → Type 0
-IsEvalEnd input (BadText fault) = (fault ≢ text_fault.NoMemory) × (text : List ℕ) × IsFilterText input text × ConfigAnswer text (Err fault)
-IsEvalEnd input (BadTrial fault) = (configuration : List ItemTree) × IsConfiguration input configuration × IsNoTrial configuration input fault
-IsEvalEnd input NoMemory = Unit {0}
-IsEvalEnd input end = ⊥
+-- why an input is refused: for its filter text, or else for what is behind that
+abbrev pub IsNoEval : List ℕ → Cause → Type 0
+IsNoEval input cause =
+    IsNoText input cause ⊎ ((configuration : List ItemTree) × IsConfiguration input configuration × IsNoTrial configuration input cause)

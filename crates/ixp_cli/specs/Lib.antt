@@ -1,4 +1,7 @@
+pub mod Checks
 pub mod Evals
+pub mod Inputs
 pub mod Runs
+pub mod SmallFates
 pub mod SmallGeneration
 pub mod SmallTexts

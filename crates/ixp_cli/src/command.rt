@@ -1,13 +1,17 @@
 //! The top calls: a command by its words, over the objects that the caller hands in.
-ghost use Rattle.std.specs.Prelude.{◌≡◌, ◌↔◌, ◌≤◌, List, ℕ, map, Some, None, IsSome, IsTrue};
-ghost use Rattle.ixp_cli.specs.Runs.{command_by, command_in, Runs, Streams, IsStatus};
+ghost use Rattle.std.specs.Prelude.{◌≡◌, ◌↔◌, ◌≤◌, List, ℕ, map, Some, None, Ok, Err, IsSome, IsTrue, IfOk, IfErr};
+ghost use Rattle.ixp_cli.specs.Runs.{Answers, CommandEnds, Ends, Flow, IsStatus, Outside, Refused, Runs, command_by, command_in, too_long};
 
 use crate::check::check;
-use crate::end::{End, report};
+use crate::end::{End, NoAnswer, report};
 use crate::eval::eval;
 use crate::fate::fate;
-use ixp_io::{Clock, Door, Gate, Keeper, Sink, Source};
+use ixp_causes::{Cause, Code, Place};
+use ixp_io::{Clock, Door, Gate, Keeper, Sink, Source, WholeFault, read_whole, write_all};
 use std::alloc::Global;
+
+/// The greatest number of bytes of an input that is read whole.
+pub const INPUT_LIMIT: usize = 268_435_456;
 
 /// A command of the program.
 #[derive(Clone, Copy, Debug, PartialEq, Eq)]
@@ -42,6 +46,77 @@ fn command_in(words: &[&str]) -> Option<Command>
     }
 }
 
+/// What a command writes for an input.
+fn answer(alloc: Global, command: Command, input: &[u8]) -> Result<Vec<u8>, NoAnswer>
+    ensures output { IfOk result (λ out. Answers command input.now (Ok out.items)) }
+    ensures cause { IfErr result (Refused (λ cause. Answers command input.now (Err cause))) }
+{
+    match command {
+        Command::Check => check(alloc, input),
+        Command::Eval => eval(alloc, input),
+        Command::Fate => fate(alloc, input),
+    }
+}
+
+/// The cause of an input that is longer than the limit.
+fn too_long() -> Cause
+    ensures { result ≡ too_long }
+{
+    Cause {
+        code: Code::U5,
+        place: Place::Byte {
+            at: INPUT_LIMIT as u64,
+        },
+    }
+}
+
+/// Reads all of the input, and writes what the command says of it.
+fn run_command<S: Source, K: Sink>(
+    alloc: Global,
+    command: Command,
+    input: &mut S,
+    output: &mut K,
+) -> End
+    ensures { CommandEnds command (record { bytes = S.left input.old; faults = S.read_faults input.old })
+        (record { bytes = S.left input.new; faults = S.read_faults input.new })
+        (record { bytes = K.written output.old; faults = K.write_faults output.old })
+        (record { bytes = K.written output.new; faults = K.write_faults output.new }) result }
+{
+    let bytes = match read_whole(alloc, input, INPUT_LIMIT) {
+        Ok(bytes) => bytes,
+        Err(WholeFault::Failed) => return End::ReadFault,
+        Err(WholeFault::TooLong) => return End::BadInput { cause: too_long() },
+        Err(WholeFault::NoMemory) => return End::NoMemory,
+    };
+    let text = match answer(alloc, command, bytes.as_slice()) {
+        Ok(text) => text,
+        Err(NoAnswer::Bad { cause }) => return End::BadInput { cause },
+        Err(NoAnswer::NoMemory) => return End::NoMemory,
+    };
+    match write_all(output, text.as_slice()) {
+        Ok(()) => End::Done,
+        Err(_) => End::WriteFault,
+    }
+}
+
+/// Runs the command that the words are, if they are one.
+fn run_words<S: Source, K: Sink>(
+    alloc: Global,
+    words: &[&str],
+    input: &mut S,
+    output: &mut K,
+) -> End
+    ensures { Ends (command_in (map (λ w. w.now) words.now)) (record { bytes = S.left input.old; faults = S.read_faults input.old })
+        (record { bytes = S.left input.new; faults = S.read_faults input.new })
+        (record { bytes = K.written output.old; faults = K.write_faults output.old })
+        (record { bytes = K.written output.new; faults = K.write_faults output.new }) result }
+{
+    match command_in(words) {
+        Some(command) => run_command(alloc, command, input, output),
+        None => End::Usage,
+    }
+}
+
 /// Runs the command that the words are, and tells its exit status: 0 where the work is done, 1 where the words are no
 /// command, 2 where the input isn't of the command's form or is longer than 268,435,456 bytes, 3 and 4 where a read
 /// or a write failed, 8 where memory ran out. A status other than 0 has a line on `errors`, as far as that takes it.
@@ -52,26 +127,36 @@ pub fn run_plain<S: Source, K: Sink, E: Sink, P: Keeper, C: Clock>(
     input: &mut S,
     output: &mut K,
     errors: &mut E,
-    _keeper: &mut P,
-    _clock: &mut C,
+    keeper: &mut P,
+    clock: &mut C,
 ) -> Option<u8>
     ensures answered { IsSome result }
 
     // The run ends in a way of the command's own, which its status says; a line on the errors tells of it.
-    ensures runs { Runs (command_in (map (λ w. w.now) words.now)) (record { input = S.left input.old; output = K.written output.old; input_faults = S.read_faults input.old; output_faults = K.write_faults output.old })
-        (record { input = S.left input.new; output = K.written output.new; input_faults = S.read_faults input.new; output_faults = K.write_faults output.new }) (E.written errors.old) (E.written errors.new) (E.write_faults errors.old) (E.write_faults errors.new) result }
+    ensures runs { Runs (command_in (map (λ w. w.now) words.now))
+        (record {
+          input = record { bytes = S.left input.old; faults = S.read_faults input.old };
+          output = record { bytes = K.written output.old; faults = K.write_faults output.old };
+          errors = record { bytes = E.written errors.old; faults = E.write_faults errors.old };
+          rows = P.table keeper.old;
+          keeper_faults = P.faults keeper.old;
+          second = C.given clock.old;
+        })
+        (record {
+          input = record { bytes = S.left input.new; faults = S.read_faults input.new };
+          output = record { bytes = K.written output.new; faults = K.write_faults output.new };
+          errors = record { bytes = E.written errors.new; faults = E.write_faults errors.new };
+          rows = P.table keeper.new;
+          keeper_faults = P.faults keeper.new;
+          second = C.given clock.new;
+        }) result }
 
     // The words are no command exactly where the status is 1.
     ensures usage { (result ≡ Some 1) ↔ (command_in (map (λ w. w.now) words.now) ≡ None) }
     ensures statuses { IsStatus result }
 {
-    let end = match command_in(words) {
-        Some(Command::Check) => check(alloc, input, output),
-        Some(Command::Eval) => eval(alloc, input, output),
-        Some(Command::Fate) => fate(alloc, input, output),
-        None => End::Usage,
-    };
-    let _ = report(errors, end);
+    let end = run_words(alloc, words, input, output);
+    report(errors, end);
     Some(end.status())
 }
 
@@ -85,13 +170,30 @@ pub fn run<R, S: Source, K: Sink, E: Sink, P: Keeper, C: Clock, D: Door, G: Gate
     errors: &mut E,
     keeper: &mut P,
     clock: &mut C,
-    _door: &mut D,
+    door: &mut D,
     _gate: &G,
 ) -> u8
-    ensures runs { Runs (command_in (map (λ w. w.now) words.now)) (record { input = S.left input.old; output = K.written output.old; input_faults = S.read_faults input.old; output_faults = K.write_faults output.old })
-        (record { input = S.left input.new; output = K.written output.new; input_faults = S.read_faults input.new; output_faults = K.write_faults output.new }) (E.written errors.old) (E.written errors.new) (E.write_faults errors.old) (E.write_faults errors.new) (Some result) }
+    ensures runs { Runs (command_in (map (λ w. w.now) words.now))
+        (record {
+          input = record { bytes = S.left input.old; faults = S.read_faults input.old };
+          output = record { bytes = K.written output.old; faults = K.write_faults output.old };
+          errors = record { bytes = E.written errors.old; faults = E.write_faults errors.old };
+          rows = P.table keeper.old;
+          keeper_faults = P.faults keeper.old;
+          second = C.given clock.old;
+        })
+        (record {
+          input = record { bytes = S.left input.new; faults = S.read_faults input.new };
+          output = record { bytes = K.written output.new; faults = K.write_faults output.new };
+          errors = record { bytes = E.written errors.new; faults = E.write_faults errors.new };
+          rows = P.table keeper.new;
+          keeper_faults = P.faults keeper.new;
+          second = C.given clock.new;
+        }) (Some result) }
     ensures usage { (result ≡ 1) ↔ (command_in (map (λ w. w.now) words.now) ≡ None) }
     ensures statuses { IsStatus (Some result) }
+    ensures links { D.links door.new ≡ D.links door.old }
+    ensures door_faults { D.faults door.new ≡ D.faults door.old }
 {
     run_plain(alloc, words, input, output, errors, keeper, clock).unwrap()
 }

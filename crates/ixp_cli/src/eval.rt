@@ -1,31 +1,33 @@
 //! The command `eval`: the fate of a route by the filter text that it is tried with.
-ghost use Rattle.std.specs.Prelude.{◌≡◌, ◌++◌, ◌↔◌, List, IfOk, IfErr, MatchOption, OnOk, Result, IsTrue};
+ghost use Rattle.std.specs.Prelude.{◌≡◌, ◌++◌, ◌↔◌, IfOk, IfErr, MatchOption, OnOk, Result, IsTrue};
 ghost use Rattle.ixp_lang.specs.declared.fate.Fate.{Fate as IsFate};
 ghost use Rattle.ixp_lang.specs.Faults.{Fault};
 ghost use Rattle.ixp_lang.specs.Views.{config_view};
 ghost use Rattle.ixp_eval.specs.Answers.{Gives};
-ghost use Rattle.ixp_cli.specs.Evals.{Evaluates, IsConfiguration, IsEvalEnd, IsOfOtherFamily, IsOutcome, IsRefused, IsTaken, IsTrial, IsTrialEnd, outcome_text};
-ghost use Rattle.ixp_cli.specs.Runs.{EvalEnds, Streams};
+ghost use Rattle.ixp_cli.specs.Evals.{Evaluates, IsConfiguration, IsNoEval, IsNoText, IsNoTrial, IsOfOtherFamily, IsOutcome, IsRefused, IsTaken, IsTrial, outcome_text};
+ghost use Rattle.ixp_cli.specs.Runs.{Refused, no_answer};
+ghost use Rattle.ixp_trial.specs.Causes.{cause_of};
 
-use crate::end::End;
-use crate::input::input_of;
+use crate::end::NoAnswer;
 use ixp_eval::{EvalFault, session_named, walk};
-use ixp_io::{Sink, Source, write_all};
 use ixp_lang::{Config, Fate, print_fate};
-use ixp_read::{ReadFault, read_config};
+use ixp_read::read_config;
 use ixp_text::put;
 use ixp_trial::{RouteCode, Trial, TrialFault, filter_text, read_trial, tables_of};
 use std::alloc::{AllocError, Global};
 
 /// The configuration that the filter text in an input spells.
-fn config_of(alloc: Global, input: &[u8]) -> Result<Config, End>
+fn config_of(alloc: Global, input: &[u8]) -> Result<Config, NoAnswer>
     ensures configuration { IfOk result (λ c. IsConfiguration input.now (config_view c)) }
-    ensures cause { IfErr result (IsEvalEnd input.now) }
+    ensures cause { IfErr result (Refused (IsNoText input.now)) }
 {
-    match read_config(alloc, filter_text(input)) {
-        Ok(config) => Ok(config),
-        Err(ReadFault::NoMemory) => Err(End::NoMemory),
-        Err(fault) => Err(End::BadText { fault }),
+    let fault = match read_config(alloc, filter_text(input)) {
+        Ok(config) => return Ok(config),
+        Err(fault) => fault,
+    };
+    match fault.cause() {
+        Some(cause) => Err(NoAnswer::Bad { cause }),
+        None => Err(NoAnswer::NoMemory),
     }
 }
 
@@ -62,18 +64,28 @@ fn refusal(config: &Config, trial: &Trial) -> Option<TrialFault>
     }
 }
 
+/// How the fault of a trial is told.
+fn refused(fault: TrialFault) -> NoAnswer
+    ensures { result ≡ no_answer (cause_of fault) }
+{
+    match fault.cause() {
+        Some(cause) => NoAnswer::Bad { cause },
+        None => NoAnswer::NoMemory,
+    }
+}
+
 /// The trial in an input, which the configuration can take.
-fn trial_of(alloc: Global, input: &[u8], config: &Config) -> Result<Trial, End>
+#[tactic(auto, using(crate::proofs::Evaluating::no_trial, crate::proofs::Evaluating::not_taken))]
+fn trial_of(alloc: Global, input: &[u8], config: &Config) -> Result<Trial, NoAnswer>
     ensures trial { IfOk result (IsTrial (config_view config.now) input.now) }
-    ensures cause { IfErr result (IsTrialEnd (config_view config.now) input.now) }
+    ensures cause { IfErr result (Refused (IsNoTrial (config_view config.now) input.now)) }
 {
     let trial = match read_trial(alloc, input) {
         Ok(trial) => trial,
-        Err(TrialFault::NoMemory) => return Err(End::NoMemory),
-        Err(fault) => return Err(End::BadTrial { fault }),
+        Err(fault) => return Err(refused(fault)),
     };
     match refusal(config, &trial) {
-        Some(fault) => Err(End::BadTrial { fault }),
+        Some(fault) => Err(refused(fault)),
         None => Ok(trial),
     }
 }
@@ -88,7 +100,6 @@ fn put_outcome(outcome: &Result<Fate, EvalFault>, out: &mut Vec<u8>) -> Result<(
         Err(EvalFault::NoReturn { .. }) => put(out, b"fault V2\n"),
         Err(EvalFault::NoVerdict { .. }) => put(out, b"fault V3\n"),
         Err(EvalFault::NoFilter { .. }) => put(out, b"fault V4\n"),
-        Err(EvalFault::Ended) => put(out, b"fault V5\n"),
         Err(EvalFault::NoMemory) => Err(AllocError),
     }
 }
@@ -110,40 +121,14 @@ fn outcome_of(alloc: Global, config: &Config, trial: &Trial) -> Result<Vec<u8>, 
     Ok(out)
 }
 
-/// What is written for an input.
-fn evaluated(alloc: Global, input: &[u8]) -> Result<Vec<u8>, End>
-    ensures text { IfOk result (λ out. Evaluates input.now out.items) }
-    ensures cause { IfErr result (IsEvalEnd input.now) }
+/// What `eval` writes for an input: what becomes of its route by its filter text.
+#[tactic(auto, using(crate::proofs::Evaluating::bad_text, crate::proofs::Evaluating::bad_trial))]
+pub(crate) fn eval(alloc: Global, input: &[u8]) -> Result<Vec<u8>, NoAnswer>
+    ensures output { IfOk result (λ out. Evaluates input.now out.items) }
+    ensures cause { IfErr result (Refused (IsNoEval input.now)) }
 {
-    let config = match config_of(alloc, input) {
-        Ok(config) => config,
-        Err(end) => return Err(end),
-    };
-    let trial = match trial_of(alloc, input, &config) {
-        Ok(trial) => trial,
-        Err(end) => return Err(end),
-    };
-    match outcome_of(alloc, &config, &trial) {
-        Ok(text) => Ok(text),
-        Err(_) => Err(End::NoMemory),
-    }
-}
-
-/// Reads the input whole, and writes what becomes of its route by its filter text.
-pub fn eval<S: Source, K: Sink>(alloc: Global, input: &mut S, output: &mut K) -> End
-    ensures { EvalEnds (record { input = S.left input.old; output = K.written output.old; input_faults = S.read_faults input.old; output_faults = K.write_faults output.old })
-        (record { input = S.left input.new; output = K.written output.new; input_faults = S.read_faults input.new; output_faults = K.write_faults output.new }) result }
-{
-    let bytes = match input_of(alloc, input) {
-        Ok(bytes) => bytes,
-        Err(end) => return end,
-    };
-    let text = match evaluated(alloc, bytes.as_slice()) {
-        Ok(text) => text,
-        Err(end) => return end,
-    };
-    match write_all(output, text.as_slice()) {
-        Ok(()) => End::Done,
-        Err(_) => End::WriteFault,
-    }
+    let config = config_of(alloc, input)?;
+    let trial = trial_of(alloc, input, &config)?;
+    let text = outcome_of(alloc, &config, &trial)?;
+    Ok(text)
 }

@@ -1,21 +1,23 @@
 //! The command `fate`: the configuration of a small registry, and the fate of one route by its text.
-ghost use Rattle.std.specs.Prelude.{◌≡◌, ◌≢◌, ◌++◌, ◌≤◌, List, ℕ, [], ◌∷◌, Some, IfOk, IfErr, OnOk, length};
-ghost use Rattle.ixp_num.specs.declared.asn.Asn.{Asn};
-ghost use Rattle.ixp_lang.specs.Texts.{fate_text};
-ghost use Rattle.ixp_lang.specs.Trees.{ItemTree};
-ghost use Rattle.ixp_lang.specs.Walks.{walk};
+ghost use Rattle.std.specs.Prelude.{◌≡◌, ◌++◌, ◌≤◌, [], Some, IfOk, IfErr, OnOk, length};
+ghost use Rattle.ixp_causes.specs.declared.Code.TheVariants.{U0};
+ghost use Rattle.ixp_causes.specs.declared.Place.TheVariants.{Line as AtLine};
 ghost use Rattle.ixp_print.specs.Texts.{config_text};
+ghost use Rattle.ixp_cli.specs.declared.end.NoAnswer.TheVariants.{Bad};
+ghost use Rattle.ixp_cli.specs.Checks.{IsDump, IsNoDump};
+ghost use Rattle.ixp_cli.specs.Inputs.{dump_part};
+ghost use Rattle.ixp_cli.specs.Runs.{Refused};
 ghost use Rattle.ixp_cli.specs.SmallGeneration.{small_config};
-ghost use Rattle.ixp_cli.specs.Runs.{Walked, AddsFate, Compiles, FateEnds, IsCompileEnd, Streams, route_of};
+ghost use Rattle.ixp_cli.specs.SmallFates.{Walked, AddsFate, Compiles, IsNoFate, route_of};
 
 use crate::check::registry_of;
-use crate::end::End;
+use crate::end::NoAnswer;
 use crate::generate::generate;
-use crate::input::{dump_part, input_of};
+use crate::input::dump_part;
 use crate::reading::{Stop, line_of, read_small};
 use crate::small::{RouteLine, Small};
+use ixp_causes::{Cause, Code, Place};
 use ixp_eval::{EvalFault, walk};
-use ixp_io::{Sink, Source, write_all};
 use ixp_lang::{Fate, Route, numbered, print_fate};
 use ixp_num::{Asn, Items};
 use ixp_print::print_config;
@@ -75,7 +77,7 @@ fn route_of(alloc: Global, line: &RouteLine) -> Result<Route, AllocError>
 
 /// The fate of the route by a text that is read.
 fn fate_by(alloc: Global, text: &[u8], line: &RouteLine) -> Result<Fate, NoFate>
-    ensures { IfOk result (Walked line.now) }
+    ensures { IfOk result (Walked text.now line.now) }
 {
     let config = read_config(alloc, text)?;
     let session = numbered(alloc, b"b_", line.member)?;
@@ -109,60 +111,45 @@ fn last_line(input: &[u8]) -> u64 {
     line_of(input, 1)
 }
 
-/// Whether the dump in the input is that of a valid registry.
-#[tactic(auto, using(crate::proofs::Inputs::dump_tested))]
-fn test_dump(alloc: Global, input: &[u8]) -> Result<(), End>
-    ensures { IfErr result (IsCompileEnd input.now) }
+/// An input that can't be read on at this line.
+fn unread(line: u64) -> NoAnswer
+    ensures { result ≡ Bad (record { code = U0; place = AtLine line }) }
 {
-    match registry_of(alloc, dump_part(input)) {
-        Ok(_) => Ok(()),
-        Err(end) => Err(end),
+    NoAnswer::Bad {
+        cause: Cause {
+            code: Code::U0,
+            place: Place::Line { line },
+        },
     }
 }
 
-/// What the input is compiled to: the configuration's text, and the route's fate.
-fn compile(alloc: Global, input: &[u8]) -> Result<Vec<u8>, End>
-    ensures text { IfOk result (λ out. Compiles input.now out.items) }
-    ensures cause { IfErr result (IsCompileEnd input.now) }
+/// Whether the dump in the input is that of a valid registry.
+fn test_dump(alloc: Global, input: &[u8]) -> Result<(), NoAnswer>
+    ensures valid { OnOk result (IsDump (dump_part input.now)) }
+    ensures cause { IfErr result (Refused (IsNoDump (dump_part input.now))) }
 {
-    match test_dump(alloc, input) {
-        Ok(()) => {}
-        Err(end) => return Err(end),
+    match registry_of(alloc, dump_part(input)) {
+        Ok(_) => Ok(()),
+        Err(why) => Err(why),
     }
+}
+
+/// What `fate` writes for an input: the configuration's text, and the route's fate by that text.
+#[tactic(auto, using(crate::proofs::Inputs::bad_dump))]
+pub(crate) fn fate(alloc: Global, input: &[u8]) -> Result<Vec<u8>, NoAnswer>
+    ensures output { IfOk result (λ out. Compiles input.now out.items) }
+    ensures cause { IfErr result (Refused (IsNoFate input.now)) }
+{
+    test_dump(alloc, input)?;
     let (small, line) = match read_small(alloc, input) {
         Ok(read) => read,
-        Err(Stop::Line { left }) => {
-            return Err(End::BadLine {
-                line: line_of(input, left),
-            });
-        }
-        Err(Stop::NoMemory) => return Err(End::NoMemory),
+        Err(Stop::Line { left }) => return Err(unread(line_of(input, left))),
+        Err(Stop::NoMemory) => return Err(NoAnswer::NoMemory),
     };
     let mut text = Vec::new(alloc);
     match add_all(alloc, &mut text, &small, &line) {
         Ok(()) => Ok(text),
-        Err(NoFate::NoMemory) => Err(End::NoMemory),
-        Err(NoFate::Broken) => Err(End::BadLine {
-            line: last_line(input),
-        }),
-    }
-}
-
-/// Reads the input whole, and writes what it is compiled to.
-pub fn fate<S: Source, K: Sink>(alloc: Global, input: &mut S, output: &mut K) -> End
-    ensures { FateEnds (record { input = S.left input.old; output = K.written output.old; input_faults = S.read_faults input.old; output_faults = K.write_faults output.old })
-        (record { input = S.left input.new; output = K.written output.new; input_faults = S.read_faults input.new; output_faults = K.write_faults output.new }) result }
-{
-    let bytes = match input_of(alloc, input) {
-        Ok(bytes) => bytes,
-        Err(end) => return end,
-    };
-    let text = match compile(alloc, bytes.as_slice()) {
-        Ok(text) => text,
-        Err(end) => return end,
-    };
-    match write_all(output, text.as_slice()) {
-        Ok(()) => End::Done,
-        Err(_) => End::WriteFault,
+        Err(NoFate::NoMemory) => Err(NoAnswer::NoMemory),
+        Err(NoFate::Broken) => Err(unread(last_line(input))),
     }
 }

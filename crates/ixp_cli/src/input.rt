@@ -1,31 +1,7 @@
-//! Inputs that a command reads whole.
-ghost use Rattle.std.specs.Prelude.{◌≡◌, ◌<◌, ◌≤◌, ◌==◌, ℕ, List, Option, OnOk, IfOk, IfErr, IfSome, length, take};
+//! The dump in an input of `fate`.
+ghost use Rattle.std.specs.Prelude.{◌≡◌, ◌<◌, ◌≤◌, ◌==◌, IfSome, length, take};
 ghost use Rattle.std.specs.List.{position};
-ghost use Rattle.ixp_io.specs.Told.{Moves, IsDone};
-ghost use Rattle.ixp_cli.specs.Runs.{EndsOutside, first_line, dump_part};
-
-use crate::end::End;
-use ixp_io::{Source, WholeFault, read_whole};
-use ixp_lists::Items;
-use std::alloc::Global;
-
-/// The greatest number of bytes of an input that is read whole.
-pub const INPUT_LIMIT: usize = 268_435_456;
-
-/// All of the input.
-pub fn input_of<S: Source>(alloc: Global, input: &mut S) -> Result<Items<u8>, End>
-    ensures bytes { IfOk result (λ t. Moves (S.left input.old) (S.left input.new) t) }
-    ensures done { OnOk result (IsDone (S.left input.new)) }
-    ensures cause { (written more : Option (List ℕ)) (faults others : ℕ) → IfErr result (EndsOutside (record { input = S.left input.old; output = written; input_faults = S.read_faults input.old; output_faults = faults })
-        (record { input = S.left input.new; output = more; input_faults = S.read_faults input.new; output_faults = others })) }
-{
-    match read_whole(alloc, input, INPUT_LIMIT) {
-        Ok(bytes) => Ok(bytes),
-        Err(WholeFault::Failed) => Err(End::ReadFault),
-        Err(WholeFault::TooLong) => Err(End::TooLong),
-        Err(WholeFault::NoMemory) => Err(End::NoMemory),
-    }
-}
+ghost use Rattle.ixp_cli.specs.Inputs.{first_line, dump_part};
 
 fn line_end(text: &[u8]) -> Option<usize>
     ensures place { result ≡ position (λ c. c == 10) text.now }

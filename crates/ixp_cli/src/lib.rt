@@ -8,11 +8,11 @@ mod eval;
 mod fate;
 mod generate;
 mod input;
+pub mod laws;
 mod reading;
 mod small;
 mod text;
 
-pub use command::{Command, run, run_plain};
+pub use command::{Command, INPUT_LIMIT, run, run_plain};
 pub use end::End;
-pub use input::INPUT_LIMIT;
 pub use small::{RouteLine, Small, Version};

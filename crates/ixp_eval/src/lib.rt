@@ -23,10 +23,7 @@ mod val;
 mod walks;
 
 pub use env::Env;
-pub use fault::EvalFault;
+pub use fault::{CallFault, EvalFault};
 pub use ixp_lang::Verdict;
 pub use run::{call_function, run_filter};
 pub use walks::{session_named, walk};
-
-#[cfg(test)]
-mod tests;

@@ -2,13 +2,13 @@
 ghost use Rattle.std.specs.Prelude.{◌≡◌, MatchResult, reverse};
 ghost use Rattle.ixp_lang.specs.Meaning.{fails, filter_end, function_end};
 ghost use Rattle.ixp_lang.specs.Views.{config_view};
-ghost use Rattle.ixp_eval.specs.Answers.{Fails, Gives};
+ghost use Rattle.ixp_eval.specs.Answers.{CallGives, Fails, Gives};
 ghost use Rattle.ixp_eval.specs.Outcomes.{body_out};
 ghost use Rattle.ixp_eval.specs.Views.{body_view, end_of, environment_of};
 
 use crate::changes::copied_route;
 use crate::env::Env;
-use crate::fault::EvalFault;
+use crate::fault::{CallFault, EvalFault};
 use crate::find::{filter_of, function_of};
 use crate::frames::{Frame, frame_of, step};
 use crate::tasks::How;
@@ -64,6 +64,7 @@ pub fn run_filter(
 
 /// What the function of the name gives for one number, where the route is this one. V1, V2 and V4 come as
 /// [`EvalFault`] says, and V5 where the function accepts or rejects.
+#[tactic(auto, using(crate::proofs::Passing::call_fails))]
 pub fn call_function(
     alloc: Global,
     c: &Config,
@@ -71,12 +72,13 @@ pub fn call_function(
     arg: u32,
     route: &Route,
     env: &Env<'_>,
-) -> Result<Value, EvalFault>
-    ensures { Gives result (function_end (environment_of env.now) (reverse (config_view c.now)) name.now arg route.now) }
+) -> Result<Value, CallFault>
+    ensures { CallGives result (function_end (environment_of env.now) (reverse (config_view c.now)) name.now arg route.now) }
 {
     let Some(found) = function_of(c.items.as_slice(), name) else {
-        return Err(EvalFault::NoFilter {
-            name: name.copied(alloc)?,
+        let name = name.copied(alloc)?;
+        return Err(CallFault::Failed {
+            fault: EvalFault::NoFilter { name },
         });
     };
     let mut args = Items::new(alloc);
@@ -84,10 +86,13 @@ pub fn call_function(
     let frame = frame_of(alloc, found.before, found.params, args, found.body)?;
     let (how, _) = run_body(alloc, env, frame, copied_route(alloc, route)?)?;
     match how {
-        How::Falls => Err(EvalFault::NoReturn {
-            name: name.copied(alloc)?,
-        }),
+        How::Falls => {
+            let name = name.copied(alloc)?;
+            Err(CallFault::Failed {
+                fault: EvalFault::NoReturn { name },
+            })
+        }
         How::Returns(value) => Ok(into_value(alloc, value)?),
-        How::Accepts | How::Rejects => Err(EvalFault::Ended),
+        How::Accepts | How::Rejects => Err(CallFault::Ended),
     }
 }

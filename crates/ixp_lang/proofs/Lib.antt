@@ -11,3 +11,4 @@ pub mod RouteItems
 pub mod RouteListTexts
 pub mod RouteLists
 pub mod RouteStops
+pub mod TableNames

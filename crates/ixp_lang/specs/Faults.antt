@@ -10,5 +10,10 @@ pub data Fault : Type 0 where
   no_verdict : List ℕ → Fault
   -- no filter, function or session has the name
   no_filter : List ℕ → Fault
-  -- a function that was asked for its value accepted or rejected the route
-  ended : Fault
+
+-- why a function that is called from outside gives no value
+pub data CallFault : Type 0 where
+  -- it fails
+  failed : Fault → CallFault
+  -- it accepts or rejects the route
+  ended : CallFault

@@ -14,7 +14,7 @@ use Rattle.ixp_lang.specs.declared.item.Ty.{Ty}
 use Rattle.ixp_lang.specs.declared.route.Verdict.{Verdict}
 use Rattle.ixp_lang.specs.declared.route.Verdict.TheVariants.{Accept, Reject}
 use Rattle.ixp_lang.specs.Attributes.{compares, truth, number, has_label, attribute_of, checked, with_next_hop, prepended, with_pair, with_triple, without_pairs, without_triples}
-use Rattle.ixp_lang.specs.Faults.{Fault, pair_range, no_return, no_verdict, no_filter, ended}
+use Rattle.ixp_lang.specs.Faults.{Fault, pair_range, no_return, no_verdict, no_filter, CallFault, failed, ended}
 use Rattle.ixp_lang.specs.Trees.{ExprTree, literal, named, attribute, call, roa_check, pair, triple, set_literal, negation, conjunction, disjunction, comparison, ExprTrees, exprs_end, exprs_more, StmtTree, block, if_then, case_of, return_value, accept, reject, call_statement, set_next_hop, prepend, add_pair, delete_pairs, add_triple, delete_triples, StmtTrees, stmts_end, stmts_more, ArmTrees, arms_end, arms_more, ItemTree, router_id_item, table_item, define_item, function_item, filter_item, device_item, pipe_item, bgp_item}
 
 -- two names are the same bytes
@@ -214,19 +214,19 @@ abbrev pub filter_end : Environment → List ItemTree → List ℕ → Route →
 filter_end env is n r = filter_found env n (filter_of is n) r
 
 -- a function that is asked for its value must return one
-abbrev pub must_return : List ℕ → End → Result Value Fault
-must_return n (falls r) = Err (no_return n)
+abbrev pub must_return : List ℕ → End → Result Value CallFault
+must_return n (falls r) = Err (failed (no_return n))
 must_return n (returns v r) = Ok v
 must_return n (accepts r) = Err ended
 must_return n rejects = Err ended
-must_return n (fails f) = Err f
+must_return n (fails f) = Err (failed f)
 
-abbrev pub function_found : Environment → List ℕ → Option (List ItemTree × List (Ty × List ℕ) × StmtTrees) → ℕ → Route → Result Value Fault
-function_found env n None m r = Err (no_filter n)
+abbrev pub function_found : Environment → List ℕ → Option (List ItemTree × List (Ty × List ℕ) × StmtTrees) → ℕ → Route → Result Value CallFault
+function_found env n None m r = Err (failed (no_filter n))
 function_found env n (Some f) m r = must_return n (body_of env (known env f.0) (bind f.1 (value.Int m ∷ [])) f.2 r)
 
 -- what the function of the name gives for one number; the items are the last one first
-abbrev pub function_end : Environment → List ItemTree → List ℕ → ℕ → Route → Result Value Fault
+abbrev pub function_end : Environment → List ItemTree → List ℕ → ℕ → Route → Result Value CallFault
 function_end env is n m r = function_found env n (function_of is n) m r
 
 -- For a reader who knows the guide: what an expression gives, and how statements go on, where these items stand before.

@@ -3,14 +3,16 @@ ghost use Rattle.std.specs.Prelude.{◌≡◌, ℕ, List, [], ◌∷◌, codes, 
 ghost use Rattle.ixp_lang.specs.declared.route.Route.{Route};
 ghost use Rattle.ixp_lang.specs.declared.route.Verdict.TheVariants.{Accept, Reject};
 ghost use Rattle.ixp_lang.specs.declared.value.Value.TheVariants.{Int, Bool};
-ghost use Rattle.ixp_lang.specs.Faults.{pair_range, no_return, no_verdict, no_filter, ended};
+ghost use Rattle.ixp_lang.specs.Faults.{pair_range, no_return, no_verdict, no_filter, failed, ended};
 ghost use Rattle.ixp_lang.specs.Trees.{ItemTree, conjunction, disjunction, pair, exprs, literal};
-ghost use Rattle.ixp_lang.specs.Meaning.{Environment, End, Means, filter_end, function_end, fails, returns};
+ghost use Rattle.ixp_lang.specs.Meaning.{Environment, End, Means, filter_end, function_end, fails, returns, roas_named};
+ghost use Rattle.ixp_num.specs.declared.roa.Roa.{Roa};
+ghost use Rattle.ixp_lang.specs.Walks.{walk};
 ghost use Rattle.ixp_lang.specs.Trials.{int, truth_value, tests_pair, returns_sometimes, asks_false, accepts_first, calls_h, never_ends};
 
 /// A pair's part above 65535 is a fault, also where it is a parameter.
 pub fn wide_parts_fault()
-    ensures { (env : Environment) (r : Route) → function_end env (tests_pair ∷ []) (codes "g") 4200000001 r ≡ Err (pair_range 4200000001) }
+    ensures { (env : Environment) (r : Route) → function_end env (tests_pair ∷ []) (codes "g") 4200000001 r ≡ Err (failed (pair_range 4200000001)) }
 {}
 
 /// A function that is asked for its value and ends without one is a fault.
@@ -36,4 +38,11 @@ pub fn logic_stops_early()
         Means env is [] (conjunction (exprs (truth_value false ∷ pair (int 0) (int 65536) ∷ []))) r ≡ returns (Bool false) r }
     ensures disjunction { (env : Environment) (is : List ItemTree) (r : Route) →
         Means env is [] (disjunction (exprs (truth_value true ∷ pair (int 0) (int 65536) ∷ []))) r ≡ returns (Bool true) r }
+{}
+
+/// A walk asks ROA tables by name alone: where two lists of tables have the same ROAs for each name, a route becomes the same.
+#[tactic(auto, using(crate::proofs::TableNames::walk_same))]
+pub fn walks_ask_tables_by_name()
+    ensures { (items : List ItemTree) (a b : List (List ℕ × List Roa)) (session : List ℕ) (r : Route) →
+        ((n : List ℕ) → roas_named a n ≡ roas_named b n) → walk items a session r ≡ walk items b session r }
 {}

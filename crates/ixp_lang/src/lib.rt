@@ -26,6 +26,3 @@ pub use route::{Route, Verdict};
 pub use stmt::{Label, Stmt};
 pub use text::{print_fate, print_route};
 pub use value::{SetLit, Value};
-
-#[cfg(test)]
-mod tests;

@@ -1,4 +1,5 @@
 pub mod Answers
+pub mod Causes
 pub mod Functions
 pub mod Items
 pub mod Stops

@@ -1,4 +1,6 @@
 //! Why a text isn't read.
+use ixp_causes::{Cause, Code, Place};
+
 /// Why bytes are no filter text. Each place is that of a token's first byte, counted from 0; where the text ends
 /// too early, it is the text's length.
 #[derive(Clone, Copy, Debug, PartialEq, Eq)]
@@ -23,4 +25,29 @@ pub enum ReadFault {
     OutOfProfile { at: usize },
     /// There wasn't enough memory.
     NoMemory,
+}
+
+impl ReadFault {
+    ghost use Rattle.std.specs.Prelude.{◌≡◌};
+    ghost use Rattle.ixp_read.specs.Causes.{cause_of};
+
+    /// How the fault is told; None of want of memory.
+    pub fn cause(self) -> Option<Cause>
+        ensures { result ≡ cause_of self }
+    {
+        let (code, at) = match self {
+            ReadFault::Byte { at } => (Code::L1, at),
+            ReadFault::Number { at } => (Code::L2, at),
+            ReadFault::Unexpected { at } => (Code::L3, at),
+            ReadFault::UnknownName { at } => (Code::L4, at),
+            ReadFault::NameTwice { at } => (Code::L5, at),
+            ReadFault::MixedLogic { at } => (Code::L6, at),
+            ReadFault::WrongType { at } => (Code::L7, at),
+            ReadFault::TooDeep { at } => (Code::L8, at),
+            ReadFault::OutOfProfile { at } => (Code::L9, at),
+            ReadFault::NoMemory => return None,
+        };
+        let place = Place::Byte { at: at as u64 };
+        Some(Cause { code, place })
+    }
 }

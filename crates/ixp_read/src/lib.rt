@@ -11,8 +11,6 @@ mod item;
 pub mod laws;
 mod params;
 mod read;
-#[cfg(test)]
-mod tests;
 mod ty;
 
 pub use fault::ReadFault;

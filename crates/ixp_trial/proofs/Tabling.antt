@@ -1,22 +1,16 @@
 -- The tables that lines of ROAs make.
-use Rattle.std.proofs.Common.{◌≡◌, ◌⊎◌, inl, inr, ℕ, Bool, true, false, ◌&&◌, ◌==◌, if◌then◌else◌, List, [], ◌∷◌, ◌++◌, Some, None, is_some, refl, sym, ap, ◌∙◌}
+use Rattle.std.proofs.Common.{◌≡◌, ◌⊎◌, inl, inr, ℕ, Bool, true, false, ◌&&◌, ◌==◌, if◌then◌else◌, List, [], ◌∷◌, ◌++◌, Option, Some, None, Bor, nat_cmp, bytes_eq, append_assoc, refl, sym, ap, ◌∙◌}
 use Rattle.std.proofs.lemmas.Bool.{cases_Bool, cond-true, cond-false}
 use Rattle.std.specs.Cmp.Lexicographic.{same_text}
 use lib.Pointwise.{pointwise}
 use Rattle.ixp_num.specs.declared.roa.Roa.{Roa}
 use Rattle.ixp_lang.specs.Meaning.{same_name, find_named, roas_named, roas_or_none}
-use Rattle.ixp_trial.specs.Tables.{rows_named, AreTables}
-
--- a name has its table already, or none, and then its lines are all among those that are left
-pub data HasTable (roas left : List (List ℕ × Roa)) (tables : List (List ℕ × List Roa)) (n : List ℕ) : Type 0 where
-  made : find_named tables n ≡ Some (rows_named n roas) → HasTable roas left tables n
-  missing : find_named tables n ≡ None → rows_named n left ≡ rows_named n roas → HasTable roas left tables n
-
-abbrev pub AreSoFar : List (List ℕ × Roa) → List (List ℕ × Roa) → List (List ℕ × List Roa) → Type 0
-AreSoFar roas left tables = (n : List ℕ) → HasTable roas left tables n
-
-pub none_so_far : (roas : List (List ℕ × Roa)) → AreSoFar roas roas []
-none_so_far roas n = missing refl refl
+use Rattle.std.specs.BTreeMap.{BTreeMap, UpdatesBy, get_by}
+use Rattle.std.specs.declared.cmp.Ordering.{Ordering}
+use Rattle.std.specs.Cmp.Lexicographic.{slice_cmp}
+use Rattle.std.specs.Global.{Vec}
+use Rattle.std.proofs.lemmas.Map.Text.{btree_map_updates_str}
+use Rattle.ixp_trial.specs.Tables.{rows_named, rows_in, rows_or_none, with_table, AreTables}
 
 -- `==` of two lists of bytes is equality of names
 and_if : (a b : Bool) → (a && b) ≡ (if a then b else false)
@@ -47,26 +41,86 @@ missing_more (t ∷ ts) x n e = by_case (cases_Bool (same_name t.0 n)) (missing_
   by_case (inl is) more = absurd (let some = sym (cond-true (same_name t.0 n) (Some t.1) (find_named ts n) is) ∙ e in cc)
   by_case (inr other) more = cond-false (same_name t.0 n) _ _ other ∙ more (sym (cond-false (same_name t.0 n) _ _ other) ∙ e)
 
--- a table more, of a name that had none
-module _ (roas : List (List ℕ × Roa)) (p : List ℕ × Roa) (left : List (List ℕ × Roa)) (tables : List (List ℕ × List Roa)) where
-  made_now : (n : List ℕ) → HasTable roas (p ∷ left) tables n → (same_name p.0 n ≡ true) ⊎ (same_name p.0 n ≡ false) → HasTable roas left (tables ++ (p.0, rows_named p.0 roas) ∷ []) n
-  made_now n (made is) case = made (found_more tables (p.0, rows_named p.0 roas) n (rows_named n roas) is)
-  made_now n (missing is all) (inl same) = made (missing_more tables (p.0, rows_named p.0 roas) n is ∙ cond-true (same_name p.0 n) _ _ same ∙ ap (λ m. Some (rows_named m roas)) (same_is p.0 n same))
-  made_now n (missing is all) (inr other) = missing (missing_more tables (p.0, rows_named p.0 roas) n is ∙ cond-false (same_name p.0 n) _ _ other) (sym (cond-false (same_name p.0 n) _ _ other) ∙ all)
+-- the ROAs of each name, after those of one name were set
+abbrev by_names : Bor (List ℕ) → Bor (List ℕ) → Ordering
+by_names x y = slice_cmp nat_cmp x.now y.now
 
-  pub table_more : AreSoFar roas (p ∷ left) tables → AreSoFar roas left (tables ++ (p.0, rows_named p.0 roas) ∷ [])
+pub rows_after : (m n : BTreeMap (Bor (List ℕ)) (Vec Roa)) (name : List ℕ) (rows : Option (Vec Roa)) → UpdatesBy by_names (λ key. slice_cmp nat_cmp name key.now) m n rows
+    → (q : List ℕ) → rows_in n q ≡ (if same_name name q then rows_or_none rows else rows_in m q)
+rows_after m n name rows h q = ap rows_or_none (btree_map_updates_str name m n rows h q) ∙ by_test (bytes_eq name q) ∙ ap (λ b. if b then rows_or_none rows else rows_in m q) (same_bytes name q) where
+  by_test : (b : Bool) → rows_or_none (if b then rows else get_by (λ key. slice_cmp nat_cmp q key.now) m) ≡ (if b then rows_or_none rows else rows_in m q)
+  by_test true = refl
+  by_test false = refl
+
+-- a ROA more at the end of those of one name
+pub row_added : (old less new : List ℕ → List Roa) (name : List ℕ) (rows more : List Roa) (roa : Roa) → rows ≡ old name → more ≡ rows ++ roa ∷ []
+    → ((q : List ℕ) → less q ≡ (if same_name name q then [] else old q)) → ((q : List ℕ) → new q ≡ (if same_name name q then more else less q))
+    → (q : List ℕ) → new q ≡ (if same_name name q then old q ++ roa ∷ [] else old q)
+row_added old less new name rows more roa had added taken put q = by_case (cases_Bool (same_name name q)) where
+  by_case : (same_name name q ≡ true) ⊎ (same_name name q ≡ false) → new q ≡ (if same_name name q then old q ++ roa ∷ [] else old q)
+  by_case (inl is) = put q ∙ cond-true (same_name name q) _ _ is ∙ added ∙ ap (λ r. r ++ roa ∷ []) (had ∙ ap old (same_is name q is)) ∙ sym (cond-true (same_name name q) _ _ is)
+  by_case (inr other) = put q ∙ cond-false (same_name name q) _ _ other ∙ taken q ∙ cond-false (same_name name q) _ _ other ∙ sym (cond-false (same_name name q) _ _ other)
+
+-- one line more is grouped
+pub line_grouped : (old new : List ℕ → List Roa) (p : List ℕ × Roa) (left roas : List (List ℕ × Roa)) → ((q : List ℕ) → old q ++ rows_named q (p ∷ left) ≡ rows_named q roas)
+    → ((q : List ℕ) → new q ≡ (if same_name p.0 q then old q ++ p.1 ∷ [] else old q)) → (q : List ℕ) → new q ++ rows_named q left ≡ rows_named q roas
+line_grouped old new p left roas before added q = by_case (cases_Bool (same_name p.0 q)) where
+  by_case : (same_name p.0 q ≡ true) ⊎ (same_name p.0 q ≡ false) → new q ++ rows_named q left ≡ rows_named q roas
+  by_case (inl is) =
+      ap (λ r. r ++ rows_named q left) (added q ∙ cond-true (same_name p.0 q) _ _ is) ∙ append_assoc (old q) (p.1 ∷ []) (rows_named q left)
+      ∙ ap (λ r. old q ++ r) (sym (cond-true (same_name p.0 q) (p.1 ∷ rows_named q left) (rows_named q left) is)) ∙ before q
+  by_case (inr other) =
+      ap (λ r. r ++ rows_named q left) (added q ∙ cond-false (same_name p.0 q) _ _ other)
+      ∙ ap (λ r. old q ++ r) (sym (cond-false (same_name p.0 q) (p.1 ∷ rows_named q left) (rows_named q left) other)) ∙ before q
+
+-- a name has its table already, or none, and then its lines are all among those that are left, and its ROAs are grouped
+pub data HasTable (roas left : List (List ℕ × Roa)) (tables : List (List ℕ × List Roa)) (groups : List ℕ → List Roa) (n : List ℕ) : Type 0 where
+  made : find_named tables n ≡ Some (rows_named n roas) → HasTable roas left tables groups n
+  missing : find_named tables n ≡ None → rows_named n left ≡ rows_named n roas → groups n ≡ rows_named n roas → HasTable roas left tables groups n
+
+abbrev pub AreSoFar : List (List ℕ × Roa) → List (List ℕ × Roa) → List (List ℕ × List Roa) → (List ℕ → List Roa) → Type 0
+AreSoFar roas left tables groups = (n : List ℕ) → HasTable roas left tables groups n
+
+pub none_so_far : (roas : List (List ℕ × Roa)) (groups : List ℕ → List Roa) → ((n : List ℕ) → groups n ≡ rows_named n roas) → AreSoFar roas roas [] groups
+none_so_far roas groups are n = missing refl refl (are n)
+
+-- the groups after those of one line's name were taken out
+module _ (roas : List (List ℕ × Roa)) (p : List ℕ × Roa) (left : List (List ℕ × Roa)) (tables : List (List ℕ × List Roa)) (groups less : List ℕ → List Roa) (rows : List Roa)
+    (had : rows ≡ groups p.0) (taken : (n : List ℕ) → less n ≡ (if same_name p.0 n then [] else groups n)) where
+  made_now : (n : List ℕ) → HasTable roas (p ∷ left) tables groups n → (same_name p.0 n ≡ true) ⊎ (same_name p.0 n ≡ false) → HasTable roas left (tables ++ (p.0, rows) ∷ []) less n
+  made_now n (made is) case = made (found_more tables (p.0, rows) n (rows_named n roas) is)
+  made_now n (missing is all of) (inl same) =
+      made (missing_more tables (p.0, rows) n is ∙ cond-true (same_name p.0 n) _ _ same ∙ ap Some (had ∙ ap groups (same_is p.0 n same) ∙ of))
+  made_now n (missing is all of) (inr other) =
+      missing (missing_more tables (p.0, rows) n is ∙ cond-false (same_name p.0 n) _ _ other) (sym (cond-false (same_name p.0 n) _ _ other) ∙ all)
+      (taken n ∙ cond-false (same_name p.0 n) _ _ other ∙ of)
+
+  -- a table more, of a name that had none
+  pub table_more : AreSoFar roas (p ∷ left) tables groups → AreSoFar roas left (tables ++ (p.0, rows) ∷ []) less
   table_more are n = made_now n (are n) (cases_Bool (same_name p.0 n))
 
-  kept_now : (n : List ℕ) → is_some (find_named tables p.0) ≡ true → HasTable roas (p ∷ left) tables n → (same_name p.0 n ≡ true) ⊎ (same_name p.0 n ≡ false) → HasTable roas left tables n
-  kept_now n there (made is) case = made is
-  kept_now n there (missing is all) (inl same) = absurd (let none = ap is_some (ap (find_named tables) (same_is p.0 n same) ∙ is) in let other : true ≡ false = sym there ∙ none in cc)
-  kept_now n there (missing is all) (inr other) = missing is (sym (cond-false (same_name p.0 n) _ _ other) ∙ all)
+  kept_now : (n : List ℕ) → rows ≡ [] → HasTable roas (p ∷ left) tables groups n → (same_name p.0 n ≡ true) ⊎ (same_name p.0 n ≡ false) → HasTable roas left tables less n
+  kept_now n none (made is) case = made is
+  kept_now n none (missing is all of) (inl same) =
+      absurd (
+      let here : p.1 ∷ rows_named n left ≡ [] =
+      sym (cond-true (same_name p.0 n) (p.1 ∷ rows_named n left) (rows_named n left) same) ∙ all ∙ sym of ∙ ap groups (sym (same_is p.0 n same)) ∙ sym had ∙ none in
+      cc)
+  kept_now n none (missing is all of) (inr other) =
+      missing is (sym (cond-false (same_name p.0 n) _ _ other) ∙ all) (taken n ∙ cond-false (same_name p.0 n) _ _ other ∙ of)
 
-  pub table_kept : is_some (find_named tables p.0) ≡ true → AreSoFar roas (p ∷ left) tables → AreSoFar roas left tables
-  table_kept there are n = kept_now n there (are n) (cases_Bool (same_name p.0 n))
+  -- the line's name has its table
+  pub table_kept : rows ≡ [] → AreSoFar roas (p ∷ left) tables groups → AreSoFar roas left tables less
+  table_kept none are n = kept_now n none (are n) (cases_Bool (same_name p.0 n))
 
-pub all_tables : (roas : List (List ℕ × Roa)) (tables : List (List ℕ × List Roa)) → AreSoFar roas [] tables → AreTables roas tables
-all_tables roas tables are n = told (are n) where
-  told : HasTable roas [] tables n → roas_named tables n ≡ rows_named n roas
+-- the next line's name gets its table, if it has none
+pub next_line : (roas : List (List ℕ × Roa)) (p : List ℕ × Roa) (left : List (List ℕ × Roa)) (tables : List (List ℕ × List Roa)) (groups less : List ℕ → List Roa) (rows : List Roa)
+    → rows ≡ groups p.0 → ((n : List ℕ) → less n ≡ (if same_name p.0 n then [] else groups n)) → AreSoFar roas (p ∷ left) tables groups → AreSoFar roas left (with_table tables p.0 rows) less
+next_line roas p left tables groups less [] had taken are = table_kept roas p left tables groups less [] had taken refl are
+next_line roas p left tables groups less (r ∷ rows) had taken are = table_more roas p left tables groups less (r ∷ rows) had taken are
+
+pub all_tables : (roas : List (List ℕ × Roa)) (tables : List (List ℕ × List Roa)) (groups : List ℕ → List Roa) → AreSoFar roas [] tables groups → AreTables roas tables
+all_tables roas tables groups are n = told (are n) where
+  told : HasTable roas [] tables groups n → roas_named tables n ≡ rows_named n roas
   told (made is) = ap roas_or_none is
-  told (missing is all) = ap roas_or_none is ∙ all
+  told (missing is all of) = ap roas_or_none is ∙ all

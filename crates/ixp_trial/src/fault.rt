@@ -1,4 +1,5 @@
 //! Why an input is no trial.
+use ixp_causes::{Cause, Code, Place};
 use std::alloc::AllocError;
 use thiserror::Error;
 
@@ -27,6 +28,41 @@ pub enum RouteCode {
     Set,
     /// E4: a list has more than 1,000 items.
     TooLong,
+}
+
+impl RouteCode {
+    ghost use Rattle.std.specs.Prelude.{◌≡◌};
+    ghost use Rattle.ixp_trial.specs.Causes.{code_of};
+
+    /// The code that is told.
+    fn code(self) -> Code
+        ensures { result ≡ code_of self }
+    {
+        match self {
+            RouteCode::Text => Code::E1,
+            RouteCode::Family => Code::E2,
+            RouteCode::Set => Code::E3,
+            RouteCode::TooLong => Code::E4,
+        }
+    }
+}
+
+impl TrialFault {
+    ghost use Rattle.std.specs.Prelude.{◌≡◌};
+    ghost use Rattle.ixp_trial.specs.Causes.{cause_of};
+
+    /// How the fault is told; None of want of memory.
+    pub fn cause(self) -> Option<Cause>
+        ensures { result ≡ cause_of self }
+    {
+        let (code, line) = match self {
+            TrialFault::BadLine { line } => (Code::U1, line),
+            TrialFault::BadRoute { line, code } => (code.code(), line),
+            TrialFault::NoMemory => return None,
+        };
+        let place = Place::Line { line };
+        Some(Cause { code, place })
+    }
 }
 
 /// Why a line of a ROA isn't read.

@@ -1,13 +1,6 @@
 //! The program `ixpm`: it makes the objects of the outside over the system, and runs the command that its words are.
 #![tactic(auto)]
 
-#[cfg(test)]
-mod eval_tests;
-#[cfg(test)]
-mod filter_tests;
-#[cfg(test)]
-mod tests;
-
 use ixp_cli::run;
 use ixp_io::{FreeGate, MemDoor, MemKeeper, Plan, ReadSource, SetClock, WriteSink};
 use std::collections::VecDeque;

@@ -1,5 +1,5 @@
 use Rattle.std.proofs.Common.{◌≡◌, ◌++◌, ◌+◌, take, drop, length}
-use Rattle.ixp_cli.specs.Runs.{dump_from, dump_part}
+use Rattle.ixp_cli.specs.Inputs.{dump_from, dump_part}
 use Rattle.ixp_cli.proofs.input.dump_part.Given as goal
 
 abbrev pub invariant-bytes : goal.invariant-bytes

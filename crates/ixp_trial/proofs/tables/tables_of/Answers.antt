@@ -1,19 +1,16 @@
-use Rattle.std.proofs.Common.{◌≡◌, ◌∙◌, ◌++◌, ◌∷◌, [], true, is_some, sym, subst, ap}
-use Rattle.ixp_lang.specs.Meaning.{find_named}
-use Rattle.ixp_trial.proofs.Tabling.{AreSoFar, table_more, table_kept}
+use Rattle.std.proofs.Common.{◌≡◌, ◌∙◌, ℕ, List, [], sym, subst, ap, if◌then◌else◌}
+use Rattle.ixp_lang.specs.Meaning.{same_name}
+use Rattle.ixp_trial.specs.Tables.{rows_in, with_table}
+use Rattle.ixp_trial.proofs.Tabling.{AreSoFar, next_line}
 use Rattle.ixp_trial.proofs.tables.tables_of.Goals as goal
-
-pub each-preserved-in_ok-push : goal.each-preserved-in_ok-push
-each-preserved-in_ok-push c =
-    let before = subst (λ l. AreSoFar c.args.roas.now l c.each.tables) c.in-Some.ensures.cases.0 c.each.invariant in
-    let named = ap (λ n. c.each.tables ++ (n, c.in_ok-table.table) ∷ []) c.in_ok-copied.ensures in
-    let filled = ap (λ t. c.each.tables ++ (c.in-Some.field-0-0.now.0, t) ∷ []) c.in_ok-table.ensures in
-    subst (AreSoFar c.args.roas.now c.in-Some.others.now) (sym (c.in_ok-push.ensures.ok ∙ named ∙ filled)) (table_more c.args.roas.now c.in-Some.field-0-0.now c.in-Some.others.now c.each.tables before)
 
 pub each-preserved : goal.each-preserved
 each-preserved c =
-    let there : is_some (find_named c.each.tables c.in-Some.field-0-0.now.0) ≡ true =
-    sym (ap (λ ts. is_some (find_named ts c.in-Some.field-0-0.now.0)) c.as_slice.ensures) ∙ sym c.has_table.ensures ∙ c.if-not-has_table.false
+    let before = subst (λ l. AreSoFar c.args.roas.now l c.each.tables (rows_in c.each.groups)) c.in-Some.ensures.cases.0 c.each.invariant in
+    let name = c.as_bytes.ensures.bytes in
+    let less : (n : List ℕ) → rows_in c.taken-rows.new.groups n ≡ (if same_name c.in-Some.field-0-0.now.0 n then [] else rows_in c.each.groups n) =
+    λ n. c.taken-rows.ensures.others n ∙ ap (λ m. if same_name m n then [] else rows_in c.each.groups n) name
     in
-    let before = subst (λ l. AreSoFar c.args.roas.now l c.each.tables) c.in-Some.ensures.cases.0 c.each.invariant in
-    table_kept c.args.roas.now c.in-Some.field-0-0.now c.in-Some.others.now c.each.tables there before
+    subst (λ ts. AreSoFar c.args.roas.now c.in-Some.others.now ts (rows_in c.taken-rows.new.groups)) (sym (c.in_ok-add_table.ensures ∙ ap (with_table c.each.tables c.in-Some.field-0-0.now.0) c.as_slice.ensures.value))
+    (next_line c.args.roas.now c.in-Some.field-0-0.now c.in-Some.others.now c.each.tables (rows_in c.each.groups) (rows_in c.taken-rows.new.groups) c.taken-rows.result.items
+    (c.taken-rows.ensures.rows ∙ ap (rows_in c.each.groups) name) less before)

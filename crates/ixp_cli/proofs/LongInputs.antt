@@ -1,0 +1,37 @@
+-- An input that is longer than the limit.
+use Rattle.std.proofs.Common.{◌≡◌, ◌<◌, ◌≤◌, ℕ, List, [], ◌++◌, length, length-append, Option, Some, None, inl, inr, subst, ap, sym, ◌∙◌, arith}
+use Rattle.ixp_causes.specs.declared.Cause.{Cause}
+use Rattle.ixp_cli.specs.declared.command.Command.{Command}
+use Rattle.ixp_cli.specs.declared.end.End.{End}
+use Rattle.ixp_cli.specs.declared.end.End.TheVariants.{Done, Usage, BadInput, ReadFault, WriteFault, NoMemory}
+use Rattle.ixp_cli.specs.Runs.{Flow, Outside, Answers, CommandEnds, IsLongEnd, IsRefused, IsTold, ReadsAll, Runs, input_limit, too_long}
+use Rattle.ixp_io.specs.Told.{Moves, IsDone}
+
+-- such an input isn't read to its end
+never_all : (left text : List ℕ) (before after : Option (List ℕ)) → before ≡ Some left → input_limit < length left → Moves before after text → IsDone after → length text ≤ input_limit → ⊥
+never_all left text None after e long moves done short = cc
+never_all left text (Some l) None e long moves done short = moves
+never_all left text (Some l) (Some rest) e long moves done short =
+    let same : ◌≡◌ {A = Option (List ℕ)} (Some l) (Some left) = e in
+    let whole : left ≡ text ++ [] = let here : l ≡ left = cc in sym here ∙ moves ∙ ap (λ r. text ++ r) done in
+    omega (arith, ap length whole, length-append text [])
+
+module _ (command : Command) (left : List ℕ) (input input' output output' : Flow) (is : input.bytes ≡ Some left) (long : input_limit < length left) where
+  never : (text : List ℕ) → ReadsAll input input' text → ⊥
+  never text (moves, done, short) = never_all left text input.bytes input'.bytes is long moves done short
+
+  pub long_end : (end : End) → CommandEnds command input input' output output' end → IsLongEnd end
+  long_end Done (read, written, all, answer, took) = absurd (never read all)
+  long_end Usage e = absurd e
+  long_end (BadInput cause) (why, same) = by_case why where
+    by_case : IsRefused command input input' cause → cause ≡ too_long
+    by_case (inl (is, more)) = is
+    by_case (inr (read, all, answer)) = absurd (never read all)
+  long_end ReadFault e = tt
+  long_end WriteFault (read, written, all, answer, took, rose) = absurd (never read all)
+  long_end NoMemory e = tt
+
+pub long_run : (command : Command) (before after : Outside) (status : Option ℕ) (left : List ℕ) → before.input.bytes ≡ Some left → input_limit < length left → Runs (Some command) before after status
+    → (end : End) × IsLongEnd end × IsTold end before.errors after.errors status
+long_run command before after status left is long runs =
+    (runs.end, long_end command left before.input after.input before.output after.output is long runs.end runs.ends, runs.told)

@@ -1,0 +1,25 @@
+use Rattle.std.proofs.Common.{sym, subst, OnOk, OnErr}
+use Rattle.ixp_io.specs.Told.{Takes, TakesPart}
+use Rattle.ixp_cli.specs.declared.end.End.{End}
+use Rattle.ixp_cli.specs.Runs.{error_text}
+use Rattle.ixp_cli.proofs.end.write_end.Goals as goal
+
+pub returns-in-Usage-clause-err : goal.returns-in-Usage-clause-err
+returns-in-Usage-clause-err g c =
+    subst (λ (e : End). OnErr c.write_all-in-Usage.result (TakesPart (g.E.Stream.written c.args.errors.now) (g.E.Stream.written c.write_all-in-Usage.new.sink) (error_text e))) (sym c.in-Usage.is) c.write_all-in-Usage.ensures.err
+
+pub returns-in-WriteFault-clause-ok : goal.returns-in-WriteFault-clause-ok
+returns-in-WriteFault-clause-ok g c =
+    subst (λ (e : End). OnOk c.write_all-in-WriteFault.result (Takes (g.E.Stream.written c.args.errors.now) (g.E.Stream.written c.write_all-in-WriteFault.new.sink) (error_text e))) (sym c.in-WriteFault.is) c.write_all-in-WriteFault.ensures.ok
+
+pub returns-in-WriteFault-clause-err : goal.returns-in-WriteFault-clause-err
+returns-in-WriteFault-clause-err g c =
+    subst (λ (e : End). OnErr c.write_all-in-WriteFault.result (TakesPart (g.E.Stream.written c.args.errors.now) (g.E.Stream.written c.write_all-in-WriteFault.new.sink) (error_text e))) (sym c.in-WriteFault.is) c.write_all-in-WriteFault.ensures.err
+
+pub returns-in-NoMemory-clause-ok : goal.returns-in-NoMemory-clause-ok
+returns-in-NoMemory-clause-ok g c =
+    subst (λ (e : End). OnOk c.write_all-in-NoMemory.result (Takes (g.E.Stream.written c.args.errors.now) (g.E.Stream.written c.write_all-in-NoMemory.new.sink) (error_text e))) (sym c.in-NoMemory.is) c.write_all-in-NoMemory.ensures.ok
+
+pub returns-in-NoMemory-clause-err : goal.returns-in-NoMemory-clause-err
+returns-in-NoMemory-clause-err g c =
+    subst (λ (e : End). OnErr c.write_all-in-NoMemory.result (TakesPart (g.E.Stream.written c.args.errors.now) (g.E.Stream.written c.write_all-in-NoMemory.new.sink) (error_text e))) (sym c.in-NoMemory.is) c.write_all-in-NoMemory.ensures.err

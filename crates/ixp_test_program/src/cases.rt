@@ -1,0 +1,145 @@
+//! The cases, a line each, with `@` between its fields and `^` for the end of a line in a field.
+//!
+//! The fields are the input's name, how many lines of it are taken, the number of the line that is written otherwise,
+//! what is written there, and what a run answers: status, output and errors. Of the output of `fate` that is what stands
+//! behind the configuration.
+
+/// Two members, one prefix of the first, and its route to it.
+pub const REGISTRY: &str = "ixp-registry 2
+site 1 0 DEMO
+member 1 65001 connected - m1
+member 2 65002 connected - m2
+switch 1 sw1
+port 1 1 10000 1 p1
+port 2 1 10000 2 p2
+vlan 1 100 10.1.0.0/24 - lan
+interface 1 1 1 1
+interface 2 2 2 1
+address 1 10.1.0.1 0 1 1 0 -
+address 2 10.1.0.2 0 1 1 0 -
+router rs1 1 4 10.1.0.254 65500 10.1.0.254 8 24 0 - 0
+prefix 1 203.0.113.0/24
+origin 1 4 65001
+origin 2 4 65002
+end 15
+route rs1 1 203.0.113.0/24 65001 10.1.0.1 - -
+";
+
+/// Two sessions, each with its table, and one table between them. Session `b` is sent no route that is invalid.
+pub const SESSIONS: &str = "ipv4 table m; ipv4 table ta; ipv4 table tb; roa4 table r;
+filter f {
+  if roa_check(r, net, bgp_path.last) = ROA_INVALID then reject;
+  bgp_path.prepend(bgp_path.first); accept; }
+protocol pipe pa { table m; peer table ta; import all; export all; }
+protocol pipe pb { table m; peer table tb; import all; export all; }
+protocol bgp a { local as 65500; neighbor 10.0.0.1 as 65001;
+  ipv4 { table ta; import all; export none; }; }
+protocol bgp b { local as 65500; neighbor 10.0.0.2 as 65002;
+  ipv4 { table tb; import all; export filter f; }; }
+%%
+";
+
+/// A filter, the session that imports by it, and a route.
+pub const IMPORT: &str = "filter f { accept; }
+ipv4 table t; ipv6 table t6;
+protocol bgp s { local as 65500; neighbor 10.1.0.1 as 65001; ipv4 { table t; import filter f; export none; }; }
+protocol bgp s6 { local as 65500; neighbor 10.1.0.1 as 65001; ipv6 { table t6; import filter f; export none; }; }
+%%
+roa valid 203.0.113.0/24 24 65002
+roa short 203.0.0.0/16 23 65002
+roa zero 203.0.113.0/24 24 0
+route s 203.0.113.0/24 65001,65002 10.1.0.1 0:1,2:3,2:4 65500:0:1,65500:0:2
+";
+
+/// Dumps.
+pub const DUMPS: &str = "registry@17@0@@0@ok 15^@
+first@11@0@@0@ok 9^@
+registry@0@0@@2@@ixpm: bad input U1 1^
+registry@17@1@ixp-registry 3^@2@@ixpm: bad input U1 1^
+registry@16@0@@2@@ixpm: bad input U1 17^
+registry@18@0@@2@@ixpm: bad input U1 18^
+registry@17@17@end 15@2@@ixpm: bad input U1 17^
+registry@17@12@address 1 ::1 0 1 1 0 -^@2@@ixpm: bad input U4 Q6 12^
+registry@17@4@member 1 65002 connected - m2^@2@@ixpm: bad input U3 4^
+registry@17@4@contact 1 1 - - x^@2@@ixpm: bad input U4 Q2 7^";
+
+/// A small registry and a route.
+pub const FATES: &str =
+    "registry@18@0@@0@tagged 65001 10.1.0.1 - 65500:1000:3,65500:1001:1^passed^to b_2 65001 10.1.0.1 - -^@
+registry@18@18@route rs1 1 203.0.113.0/25 65001 10.1.0.1 - -^@0@tagged 65001 10.1.0.1 - 65500:1101:1^stopped 1^@
+registry@18@18@route rs1 1 0.0.0.0/0 65001 10.1.0.1 - -^@0@tagged 65001 10.1.0.1 - 65500:1101:2^stopped 2^@
+registry@18@18@route rs1 1 203.0.113.0/24 65002 10.1.0.1 - -^@0@tagged 65002 10.1.0.1 - 65500:1101:7^stopped 7^@
+registry@18@18@route rs1 1 198.51.100.0/24 65001 10.1.0.1 - -^@0@tagged 65001 10.1.0.1 - 65500:1000:3,65500:1101:9^stopped 9^@
+registry@18@18@route rs1 2 203.0.113.0/24 65002 10.1.0.2 - -^@0@tagged 65002 10.1.0.2 - 65500:1000:3,65500:1101:9^stopped 9^@
+first@12@0@@0@tagged 65001 10.1.0.1 - 65500:1000:3,65500:1101:9^stopped 9^@
+registry@18@1@ixp-registry 1^@2@@ixpm: bad input U1 13^
+registry@0@0@@2@@ixpm: bad input U1 1^
+registry@9@0@@2@@ixpm: bad input U1 10^
+registry@17@0@@2@@ixpm: bad input U0 18^
+registry@18@18@route rs1 1 203.0.113.0/24 65001 10.1.0.1 - -@2@@ixpm: bad input U0 18^
+registry@18@18@route rs1 1 203.0.113.0/24 65001 10.1.0.1 - -^x^@2@@ixpm: bad input U0 19^
+registry@18@2@site 1 0 OTHER^@2@@ixpm: bad input U0 2^
+registry@18@3@member 1 65001 connected - m1\r^@2@@ixpm: bad input U1 3^
+registry@18@13@router rs1 1 4 10.1.0.254 65500 10.1.0.254 8 24 1 - 0^@2@@ixpm: bad input U0 13^
+registry@18@4@member 2 23456 connected - m2^@2@@ixpm: bad input U4 Q4 4^
+registry@18@14@prefix 1 2001:db8::/32^@2@@ixpm: bad input U0 14^
+registry@18@14@prefix 2 203.0.113.0/24^prefix 1 203.0.113.0/24^@2@@ixpm: bad input U2 15^
+registry@18@16@origin 2 4 65001^@2@@ixpm: bad input U0 16^
+registry@18@17@end 16^@2@@ixpm: bad input U1 17^
+registry@18@18@route rs1 1 203.0.113.0/24 65001,65001 10.1.0.1 - -^@2@@ixpm: bad input U0 18^
+registry@18@18@route rs1 1 203.0.113.0/24 65001 10.1.0.2 - -^@2@@ixpm: bad input U0 18^
+registry@18@18@route rs1 3 203.0.113.0/24 65001 10.1.0.3 - -^@2@@ixpm: bad input U0 18^
+registry@18@18@route rs2 1 203.0.113.0/24 65001 10.1.0.1 - -^@2@@ixpm: bad input U0 18^";
+
+/// Trials of the sessions.
+pub const TRIALS: &str =
+    "sessions@11@12@roa r 203.0.113.0/24 24 65001^route a 203.0.113.0/24 65001 10.0.0.1 - -^@0@tagged 65001 10.0.0.1 - -^passed^to b 65001,65001 10.0.0.1 - -^@
+sessions@11@12@roa r 203.0.113.0/24 24 65009^route a 203.0.113.0/24 65001 10.0.0.1 - -^@0@tagged 65001 10.0.0.1 - -^passed^to b no^@
+sessions@11@12@roa s 203.0.113.0/24 24 65009^route a 203.0.113.0/24 65001 10.0.0.1 - -@0@tagged 65001 10.0.0.1 - -^passed^to b 65001,65001 10.0.0.1 - -^@
+sessions@11@12@roa s 10.0.0.0/8 8 1^roa r 203.0.113.0/24 24 65009^roa s 10.0.0.0/8 255 2^roa r 2001:db8::/32 0 3^roa r 203.0.0.0/16 24 65001^route a 203.0.113.0/24 65001 10.0.0.1 - -@0@tagged 65001 10.0.0.1 - -^passed^to b 65001,65001 10.0.0.1 - -^@
+sessions@11@12@route b 198.51.100.0/24 65001,65002 10.0.0.9 1:2 1:2:3^@0@tagged 65001,65002 10.0.0.9 1:2 1:2:3^passed^to a no^@
+sessions@11@12@route c 2001:db8::/32 65001 2001:db8::1 - -@0@fault V4^@
+sessions@10@0@@2@@ixpm: bad input U1 11^
+sessions@11@0@@2@@ixpm: bad input E1 12^
+sessions@11@12@roa r  203.0.113.0/24 24 65001^@2@@ixpm: bad input U1 12^
+sessions@11@12@roa r+ 203.0.113.0/24 24 65001^@2@@ixpm: bad input U1 12^
+sessions@11@12@roa r 203.0.113.0/24 256 65001^@2@@ixpm: bad input U1 12^
+sessions@11@12@roa r 203.0.113.0/24 24 AS65001^@2@@ixpm: bad input U1 12^
+sessions@11@12@roa r 203.0.113.0/24 24 65001^roa r^route^@2@@ixpm: bad input U1 13^
+sessions@11@12@roa r 203.0.113.0/24 24 65001@2@@ixpm: bad input E1 13^
+sessions@11@12@route a+ 203.0.113.0/24 65001 10.0.0.1 - -^@2@@ixpm: bad input E1 12^
+sessions@11@12@route a 203.0.113.0/24 65001 10.0.0.1 -^@2@@ixpm: bad input E1 12^
+sessions@11@12@route a 203.0.113.0/24 65001 2001:db8::1 - -^x^@2@@ixpm: bad input E2 12^
+sessions@11@12@route a 203.0.113.0/24 65001,{65002} 10.0.0.1 - -^@2@@ixpm: bad input E3 12^
+sessions@11@12@roa r 203.0.113.0/24 24 65001^route a 2001:db8::/32 65001 2001:db8::1 - -^x^@2@@ixpm: bad input E2 13^
+sessions@11@12@route a 203.0.113.0/24 65001 10.0.0.1 - -^roa r 203.0.113.0/24 24 65001^@2@@ixpm: bad input U1 13^
+sessions@11@12@roa r 203.0.113.0/24 24 65001^route c 203.0.113.0/24 65001 10.0.0.1 - -^x@2@@ixpm: bad input U1 14^
+sessions@11@1@$^@2@@ixpm: bad input L1 0^
+sessions@11@11@ %%^@2@@ixpm: bad input L1 543^
+sessions@11@1@router id 1.2.3.256;^@2@@ixpm: bad input L2 10^
+sessions@1@2@ipv4 table m;^%%^@2@@ixpm: bad input L5 69^
+sessions@0@1@filter f { g(); }^%%^@2@@ixpm: bad input L4 11^
+sessions@0@1@filter f { if true && true || true then accept; }^%%^x^@2@@ixpm: bad input L6 27^
+sessions@0@1@filter f { if 1 then accept; }^%%@2@@ixpm: bad input L7 11^
+sessions@0@1@filter f { print 1; }^%%^@2@@ixpm: bad input L9 11^
+sessions@0@1@ipv4 table t^%%^roa^@2@@ixpm: bad input L3 13^";
+
+/// Imports by a filter that is written otherwise.
+pub const FILTERS: &str =
+    "import@9@0@@0@tagged 65001,65002 10.1.0.1 0:1,2:3,2:4 65500:0:1,65500:0:2^stopped^@
+import@9@1@filter f { reject; }^@0@dropped^@
+import@9@1@function g(int p) { if (0, p) ~ bgp_community then accept; } filter f { g(4200000001); reject; }^@0@fault V1^@
+import@9@1@function g(bool b) { if b then return true; } filter f { if g(false) then accept; reject; }^@0@fault V2^@
+import@9@1@filter f { if false then accept; }^@0@fault V3^@
+import@9@1@function g(bool b) { if b then return true; } filter f { if false && g(false) then accept; reject; }^@0@dropped^@
+import@9@1@filter f { bgp_community.delete([(2, *)]); bgp_community.add((0, 1)); bgp_community.add((9, 9)); accept; }^@0@tagged 65001,65002 10.1.0.1 0:1,9:9 65500:0:1,65500:0:2^stopped^@
+import@9@1@filter f { bgp_large_community.delete([(65500, 0, 2)]); bgp_large_community.add((1, 2, 3)); accept; }^@0@tagged 65001,65002 10.1.0.1 0:1,2:3,2:4 65500:0:1,1:2:3^stopped^@
+import@9@1@filter f { bgp_path.prepend(64999); bgp_next_hop = from; accept; }^@0@tagged 64999,65001,65002 10.1.0.1 0:1,2:3,2:4 65500:0:1,65500:0:2^stopped^@
+import@9@1@filter f { case net.len { 23: reject; 24: bgp_path.prepend(1); 25: reject; else: reject; } accept; }^@0@tagged 1,65001,65002 10.1.0.1 0:1,2:3,2:4 65500:0:1,65500:0:2^stopped^@
+import@9@1@filter f { if bgp_path ~ [65003..65004] then accept; if net ~ [203.0.0.0/16{16,23}] then accept; if net ~ [203.0.113.0/24-] then reject; accept; }^@0@dropped^@
+import@9@1@roa4 table valid; filter f { if roa_check(valid, net, bgp_path.last) = ROA_VALID then reject; accept; }^@0@dropped^@
+import@9@1@roa4 table short; filter f { if roa_check(short, net, bgp_path.last) = ROA_INVALID then reject; accept; }^@0@dropped^@
+import@9@1@roa4 table zero; filter f { if roa_check(zero, net, 0) = ROA_INVALID then reject; accept; }^@0@dropped^@
+import@9@1@roa4 table none_; filter f { if roa_check(none_, net, 65002) = ROA_UNKNOWN then reject; accept; }^@0@dropped^@
+import@9@1@define A = 65000 ; function g() { bgp_path.prepend(A); accept; } filter f { g(); reject; }^@0@tagged 65000,65001,65002 10.1.0.1 0:1,2:3,2:4 65500:0:1,65500:0:2^stopped^@
+import@9@1@function g(int p) { case p { 1..6: return 1; 7: return 2; 8: return 3; } return 4; } filter f { bgp_path.prepend(g(7)); accept; }^@0@tagged 2,65001,65002 10.1.0.1 0:1,2:3,2:4 65500:0:1,65500:0:2^stopped^@";

@@ -1,6 +1,0 @@
-use Rattle.std.proofs.Common.{◌∙◌}
-use Rattle.ixp_trial.proofs.Tabling.{same_bytes}
-use Rattle.ixp_trial.proofs.tables.same_name.Goals as goal
-
-pub returns : goal.returns
-returns c = c.eq.ensures ∙ rw (c.as_bytes.ensures.bytes, c.as_bytes-2.ensures.bytes) (same_bytes c.args.a.now c.args.b.now)
