@@ -17,8 +17,6 @@ mod mem_source;
 mod plan;
 mod standard;
 mod stream;
-#[cfg(test)]
-mod tests;
 mod whole;
 
 pub use clock::{Clock, LAST_SECOND, SetClock};

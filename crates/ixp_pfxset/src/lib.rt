@@ -13,8 +13,6 @@ mod ordered;
 mod plain;
 mod rows;
 mod sets;
-#[cfg(test)]
-mod tests;
 mod trie;
 
 pub use laws::{

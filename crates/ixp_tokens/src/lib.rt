@@ -16,8 +16,6 @@ mod lexer_laws;
 mod runs;
 mod shape;
 mod take;
-#[cfg(test)]
-mod tests;
 mod token;
 mod word;
 

@@ -1,0 +1,18 @@
+//! Tests of the lowest layer: lists, tables of rows, texts, the numbers of the trade, and the outside.
+//!
+//! They stand here and not in the crates that they test, so that each of those is proved once and not once more with its
+//! tests. Each calls what allocates on its happy path, compares with values from outside, or makes a read or a write fail.
+#![tactic(auto)]
+
+#[cfg(test)]
+mod keepers;
+#[cfg(test)]
+mod lists;
+#[cfg(test)]
+mod numbers;
+#[cfg(test)]
+mod outside;
+#[cfg(test)]
+mod streams;
+#[cfg(test)]
+mod tables;
