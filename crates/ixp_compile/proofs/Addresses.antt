@@ -16,12 +16,11 @@ use Rattle.ixp_registry.specs.declared.network.IfAddr.{IfAddr}
 use Rattle.ixp_registry.specs.declared.network.Interface.{Interface}
 use Rattle.ixp_registry.specs.declared.registry.Registry.{Registry}
 use Rattle.ixp_registry.specs.declared.router.Router.{Router}
-use Rattle.ixp_registry.specs.Lookups.{same_addr}
+use Rattle.ixp_num.specs.Prefixes.{same_addr}
 use Rattle.ixp_registry.specs.Words.{addr_numbers}
-use Rattle.ixp_registry.specs.Sessions.{Session, address_of}
+use Rattle.ixp_registry.specs.Sessions.{Session, address_of, ascending, listed_address, is_beside, member_addresses}
 use Rattle.ixp_policy.specs.Import.{has_address}
 use Rattle.ixp_compile.proofs.Communities.{or_false}
-use Rattle.ixp_compile.specs.Generated.{ascending, listed_address, is_beside, member_addresses}
 
 same_version : (f g h : Family) → version_of g ≡ version_of h → same_family f g ≡ same_family f h
 same_version f V4 V4 e = refl

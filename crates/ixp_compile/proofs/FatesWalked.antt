@@ -10,7 +10,7 @@ use Rattle.ixp_lang.specs.Faults.{Fault}
 use Rattle.ixp_lang.specs.Trees.{ItemTree}
 use Rattle.ixp_lang.specs.Attributes.{first_of}
 use Rattle.ixp_lang.specs.Meaning.{Environment, same_name, filter_end}
-use Rattle.ixp_lang.specs.Walks.{◌>>=◌, pipes_of, session_named, pipe_from, pipe_between, from_pipe, into_pipe, sent_out, in_primary, to_primary, in_table, walk_from, walk, received as walk_received, sent_to as walk_sent_to}
+use Rattle.ixp_lang.specs.Walks.{◌>>=◌, pipes_of, session_named, pipe_from, pipe_between, from_pipe, into_pipe, sent_out, in_primary, to_primary, in_table, walk_from, walk, sent_through as walk_received, sent_to as walk_sent_to}
 use Rattle.ixp_registry.specs.declared.registry.Registry.{Registry}
 use Rattle.ixp_registry.specs.declared.router.Router.{Router}
 use Rattle.ixp_registry.specs.Sessions.{Session, receives}

@@ -18,7 +18,7 @@ use Rattle.ixp_compile.specs.Fragment.{fragment, member_sets, if_blackholes, ses
 use Rattle.ixp_compile.specs.Generated.{inputs}
 use Rattle.ixp_compile.specs.Imports.{Names}
 use Rattle.ixp_compile.specs.MemberRules.{receive_body}
-use Rattle.ixp_compile.specs.Pieces.{in_order, defined, numbers, table_kind}
+use Rattle.ixp_compile.specs.Pieces.{in_turn, defined, numbers, table_kind}
 use Rattle.ixp_compile.specs.Shared.{Shared, IsNamed}
 use Rattle.ixp_compile.proofs.GoingDown.{receive_runs}
 use Rattle.ixp_compile.proofs.Laying.{laid, laid_append, all_append, same_refl, GivesNone, CallsNone, FiltersNone, FunctionsNone, named_kept, defined_named, defined_others, call_kept, filter_there}
@@ -50,7 +50,7 @@ module _ (P : ItemTree → Type 0) (of_set : (n : List ℕ) (e : ExprTree) → P
     drops true = tt
     drops false = defined_all (blackhole_name i.interface) set.Prefixes blackholes
 
-    held : (b : Bool) → AllByRecursion P (if b then in_order (defined (irr_name i.interface) set.Prefixes irr ∷ defined (origins_name i.interface) numbers i.origins ∷ if_blackholes i (defined (blackhole_name i.interface) set.Prefixes blackholes) ∷ []) else [])
+    held : (b : Bool) → AllByRecursion P (if b then in_turn (defined (irr_name i.interface) set.Prefixes irr ∷ defined (origins_name i.interface) numbers i.origins ∷ if_blackholes i (defined (blackhole_name i.interface) set.Prefixes blackholes) ∷ []) else [])
     held false = tt
     held true =
         all_append P (defined (irr_name i.interface) set.Prefixes irr) _ (defined_all (irr_name i.interface) set.Prefixes irr)
@@ -131,7 +131,7 @@ module _ (env : Environment) (r : Registry) (router : Router) (s : Session) (irr
 
   sets_laid : s.address.irr ≡ true → with_sets ≡ held_sets
   sets_laid held =
-      ap (λ b. laid (if b then in_order (irrs ∷ origins ∷ drops ∷ []) else []) with_table) held
+      ap (λ b. laid (if b then in_turn (irrs ∷ origins ∷ drops ∷ []) else []) with_table) held
       ∙ laid_append irrs (origins ++ (drops ++ [])) with_table ∙ laid_append origins (drops ++ []) (laid irrs with_table)
       ∙ laid_append drops [] (laid origins (laid irrs with_table))
 

@@ -16,9 +16,9 @@ use Rattle.ixp_registry.specs.declared.router.Router.{Router}
 use Rattle.ixp_policy.specs.Blackholes.{is_host_net}
 use Rattle.ixp_lang.specs.Steering.{has_pair, sends, prepends}
 use Rattle.ixp_compile.specs.declared.inputs.HeaderInputs.{HeaderInputs}
-use Rattle.ixp_compile.specs.Header.{header, tables, public_sets, shared_functions, blackhole_function, drop_body, net_body, bogon_as_body, transit_body, sends_body, count_body, pad_body, out_body, bogons_of, joined}
+use Rattle.ixp_compile.specs.Header.{header, tables, public_sets, shared_functions, blackhole_function, drop_body, net_body, bogon_as_body, transit_body, sends_body, count_body, pad_body, out_body, bogons_of, joined_ranges}
 use Rattle.ixp_compile.specs.Generated.{header_inputs}
-use Rattle.ixp_compile.specs.Pieces.{in_order, defined, numbers}
+use Rattle.ixp_compile.specs.Pieces.{in_turn, defined, numbers}
 use Rattle.ixp_compile.specs.Shared.{Shared, HeadStands, IsNamed, refused_with}
 use Rattle.ixp_compile.proofs.Laying.{laid, laid_append, GivesNone, CallsNone, named_kept, defined_named, defined_others, call_kept}
 use Rattle.ixp_compile.proofs.NetTests.{net_runs, bogon_as_runs, transit_runs, blackhole_runs}
@@ -32,7 +32,7 @@ module _ (env : Environment) (r : Registry) (router : Router) (stands : HeadStan
   bogons = defined (codes "ixp_bogons") set.Prefixes (bogons_of h)
 
   abbrev bogon_ases : List ItemTree
-  bogon_ases = defined (codes "ixp_bogon_as") set.Ints (joined h.bogon_as)
+  bogon_ases = defined (codes "ixp_bogon_as") set.Ints (joined_ranges h.bogon_as)
 
   abbrev transits : List ItemTree
   transits = defined (codes "ixp_transit_as") numbers h.transit
@@ -50,14 +50,14 @@ module _ (env : Environment) (r : Registry) (router : Router) (stands : HeadStan
         named_kept env (codes "ixp_bogons") set.Prefixes (bogons_of h) transits (laid bogon_ases (laid bogons behind))
         (defined_others (codes "ixp_bogons") (codes "ixp_transit_as") numbers h.transit refl)
         (named_kept env (codes "ixp_bogons") set.Prefixes (bogons_of h) bogon_ases (laid bogons behind)
-        (defined_others (codes "ixp_bogons") (codes "ixp_bogon_as") set.Ints (joined h.bogon_as) refl)
+        (defined_others (codes "ixp_bogons") (codes "ixp_bogon_as") set.Ints (joined_ranges h.bogon_as) refl)
         (defined_named env (codes "ixp_bogons") set.Prefixes (bogons_of h) behind))
 
-    bogon_as_named : IsNamed (known env sets) (codes "ixp_bogon_as") set.Ints (joined h.bogon_as)
+    bogon_as_named : IsNamed (known env sets) (codes "ixp_bogon_as") set.Ints (joined_ranges h.bogon_as)
     bogon_as_named =
-        named_kept env (codes "ixp_bogon_as") set.Ints (joined h.bogon_as) transits (laid bogon_ases (laid bogons behind))
+        named_kept env (codes "ixp_bogon_as") set.Ints (joined_ranges h.bogon_as) transits (laid bogon_ases (laid bogons behind))
         (defined_others (codes "ixp_bogon_as") (codes "ixp_transit_as") numbers h.transit refl)
-        (defined_named env (codes "ixp_bogon_as") set.Ints (joined h.bogon_as) (laid bogons behind))
+        (defined_named env (codes "ixp_bogon_as") set.Ints (joined_ranges h.bogon_as) (laid bogons behind))
 
     transit_named : IsNamed (known env sets) (codes "ixp_transit_as") numbers h.transit
     transit_named = defined_named env (codes "ixp_transit_as") numbers h.transit (laid bogon_ases (laid bogons behind))
@@ -122,7 +122,7 @@ module _ (env : Environment) (r : Registry) (router : Router) (stands : HeadStan
     functions_laid = laid_append (blackhole_function router.family router.blackhole) last_functions with_drop
 
     functions_shared : IsNamed (known env behind) (codes "ixp_bogons") set.Prefixes (bogons_of h)
-        → IsNamed (known env behind) (codes "ixp_bogon_as") set.Ints (joined h.bogon_as)
+        → IsNamed (known env behind) (codes "ixp_bogon_as") set.Ints (joined_ranges h.bogon_as)
         → IsNamed (known env behind) (codes "ixp_transit_as") numbers h.transit
         → Shared r router (known env (laid last_functions with_blackhole))
     functions_shared bogons ases transit = record {
@@ -134,7 +134,7 @@ module _ (env : Environment) (r : Registry) (router : Router) (stands : HeadStan
           (λ there. blackhole_called router.family router.blackhole there route same);
       bogon_as = λ route.
           bogon_as_runs env (known env with_net) router.asn.0 drops h r route refl stands.ascend
-          (named_there (codes "ixp_bogon_as") set.Ints (joined h.bogon_as) ases);
+          (named_there (codes "ixp_bogon_as") set.Ints (joined_ranges h.bogon_as) ases);
       transit = λ route.
           transit_runs env (known env with_bogon_as) router.asn.0 drops h r route refl
           (named_there (codes "ixp_transit_as") numbers h.transit transit);
@@ -147,7 +147,7 @@ module _ (env : Environment) (r : Registry) (router : Router) (stands : HeadStan
   pub head_shared : Shared r router (known env (laid (header h) []))
   head_shared =
       let is : laid (header h) [] ≡ laid (shared_functions h) (sets (laid (tables router) [])) =
-      laid_append (tables router) (in_order (public_sets h ∷ shared_functions h ∷ [])) [] ∙ laid_append (public_sets h) (in_order (shared_functions h ∷ [])) (laid (tables router) [])
+      laid_append (tables router) (in_turn (public_sets h ∷ shared_functions h ∷ [])) [] ∙ laid_append (public_sets h) (in_turn (shared_functions h ∷ [])) (laid (tables router) [])
       ∙ laid_append (shared_functions h) [] (laid (public_sets h) (laid (tables router) [])) ∙ ap (laid (shared_functions h)) (sets_laid (laid (tables router) [])) in
       rw (is, functions_laid (sets (laid (tables router) [])))
       (functions_shared (sets (laid (tables router) [])) (bogons_named (laid (tables router) [])) (bogon_as_named (laid (tables router) []))
@@ -162,7 +162,7 @@ module _ (env : Environment) (r : Registry) (router : Router) (stands : HeadStan
 
   pub head_laid : laid (header h) [] ≡ filter_item (codes "ixp_out") (stmts (out_body router.asn.0 router.blackhole)) ∷ before_out
   head_laid =
-      laid_append (tables router) (in_order (public_sets h ∷ shared_functions h ∷ [])) [] ∙ laid_append (public_sets h) (in_order (shared_functions h ∷ [])) (laid (tables router) [])
+      laid_append (tables router) (in_turn (public_sets h ∷ shared_functions h ∷ [])) [] ∙ laid_append (public_sets h) (in_turn (shared_functions h ∷ [])) (laid (tables router) [])
       ∙ laid_append (shared_functions h) [] (laid (public_sets h) (laid (tables router) [])) ∙ ap (laid (shared_functions h)) (sets_laid (laid (tables router) []))
       ∙ functions_laid (sets (laid (tables router) []))
 

@@ -21,13 +21,13 @@ use Rattle.ixp_registry.specs.declared.registry.Registry.{Registry}
 use Rattle.ixp_registry.specs.declared.router.Router.{Router}
 use Rattle.ixp_registry.specs.Sessions.{Session}
 use Rattle.ixp_policy.specs.Blackholes.{is_blackhole, is_host_net}
-use Rattle.ixp_policy.specs.Import.{state_of, is_allowed, is_covered_by, is_listed, has_bogon_as, has_transit_free, is_hop_at, is_own_hop, has_other_first, is_report, brought_triples, is_too_long, is_too_short, is_bogon, has_no_path, has_long_path, has_many_communities, import_table}
+use Rattle.ixp_policy.specs.Import.{state_of, is_registered, is_covered_by, is_listed, bogon_as_in_path, transit_free_as_in_path, is_hop_at, is_own_hop, first_as_not_peer_as, is_report, brought_triples, prefix_too_long, prefix_too_short, prefix_is_bogon, path_empty, path_too_long, too_many_communities, import_table}
 use Rattle.ixp_policy.specs.Tags.{is_empty, findings, tagged}
 use Rattle.ixp_compile.specs.declared.inputs.Inputs.{Inputs}
 use Rattle.ixp_compile.specs.Fragment.{irr_name, origins_name, blackhole_name, net_test, prefix_test, told_registered, state_test, blackhole_set, blackhole_test, registered_origin, origin_test, transit_test, next_hop_test, in_body}
 use Rattle.ixp_compile.specs.Generated.{inputs}
 use Rattle.ixp_compile.specs.Imports.{Sees, Allows, Names}
-use Rattle.ixp_compile.specs.Pieces.{int, compared, when, numbers, run, in_order, drop_with, tell as told_line}
+use Rattle.ixp_compile.specs.Pieces.{int, compared, when, numbers, run, in_turn, drop_with, tell as told_line}
 use Rattle.ixp_compile.specs.Shared.{Shared, IsNamed, stops, first_number, has_transit_as, net_refusal}
 use Rattle.ixp_compile.proofs.Addresses.{addresses_have}
 use Rattle.ixp_compile.proofs.Communities.{eq_swap, or_false, and_true, in_large, without_agree}
@@ -79,10 +79,10 @@ module _ (env : Environment) (k : Known) (r : Registry) (router : Router) (s : S
   in_set next name (t ∷ ts) own more b rest is e g = rw (is (at own more)) (unless e (dropped own more 9 _ g) refl)
 
   abbrev end_parts : List StmtTree
-  end_parts = in_order (prefix_test i irr ∷ told_registered i ∷ (accept ∷ []) ∷ [])
+  end_parts = in_turn (prefix_test i irr ∷ told_registered i ∷ (accept ∷ []) ∷ [])
 
   abbrev allowed : Bool
-  allowed = is_allowed s route
+  allowed = is_registered s route
 
   registered_runs : (own : Bool) (more : List (ℕ × ℕ)) → nat_le route.net.len router.high ≡ true → has_tag 1001 1 more ≡ false → has_tag 1101 9 more ≡ false
       → running end_parts (at own more) ≡ ends own (tags_registered s.address.irr allowed more)
@@ -97,7 +97,7 @@ module _ (env : Environment) (k : Known) (r : Registry) (router : Router) (s : S
 
   -- the state of the route's origin
   abbrev state_parts : List StmtTree
-  state_parts = in_order (state_test i ∷ prefix_test i irr ∷ told_registered i ∷ (accept ∷ []) ∷ [])
+  state_parts = in_turn (state_test i ∷ prefix_test i irr ∷ told_registered i ∷ (accept ∷ []) ∷ [])
 
   state_runs : (own : Bool) (more : List (ℕ × ℕ)) → nat_le route.net.len router.high ≡ true
       → ((a b : ℕ) → (a == 1001 && b == 2) ≡ false → has_tag a b more ≡ false)
@@ -128,11 +128,11 @@ module _ (env : Environment) (k : Known) (r : Registry) (router : Router) (s : S
 
   drop_parts : (next : Route → End) (own : Bool) (more : List (ℕ × ℕ)) → is_some router.blackhole ≡ true → is_host_net route.net ≡ true
       → has_tag 1001 1 more ≡ false → has_tag 1101 9 more ≡ false
-      → running_to next (net_test (blackhole_name s.interface.number) (blackhole_set i blackholes) ∷ in_order (told_registered i ∷ (accept ∷ []) ∷ [])) (at own more)
+      → running_to next (net_test (blackhole_name s.interface.number) (blackhole_set i blackholes) ∷ in_turn (told_registered i ∷ (accept ∷ []) ∷ [])) (at own more)
       ≡ ends own (tags_drop s.address.irr covered more)
   drop_parts next own more there host f g = go s.address.irr refl where
     go : (b : Bool) → s.address.irr ≡ b
-        → running_to next (net_test (blackhole_name s.interface.number) (blackhole_set i blackholes) ∷ in_order (told_registered i ∷ (accept ∷ []) ∷ [])) (at own more)
+        → running_to next (net_test (blackhole_name s.interface.number) (blackhole_set i blackholes) ∷ in_turn (told_registered i ∷ (accept ∷ []) ∷ [])) (at own more)
         ≡ ends own (tags_drop b covered more)
     go false e = rw e (dropped own more 9 _ g)
     go true e =
@@ -142,7 +142,7 @@ module _ (env : Environment) (k : Known) (r : Registry) (router : Router) (s : S
         ∙ choose (ends own) covered (ap accepts (tell rs route own more 1001 1 refl refl f)) refl)
 
   abbrev blackhole_parts : Option Addr → List StmtTree
-  blackhole_parts bh = in_order (blackhole_test i blackholes bh ∷ state_test i ∷ prefix_test i irr ∷ told_registered i ∷ (accept ∷ []) ∷ [])
+  blackhole_parts bh = in_turn (blackhole_test i blackholes bh ∷ state_test i ∷ prefix_test i irr ∷ told_registered i ∷ (accept ∷ []) ∷ [])
 
   host_of : (a b c : Bool) → (a && b && c) ≡ true → b ≡ true
   host_of a b c e = (and_parts a b (and_parts (a && b) c e).0).1
@@ -158,7 +158,7 @@ module _ (env : Environment) (k : Known) (r : Registry) (router : Router) (s : S
       let after : Route → End = running state_parts in
       rw (shared.blackhole (at own more) same (ap is_some e))
       (chosen_by (ends own) is_drop
-      (λ yes_drop. telling after own more 1000 3 (net_test (blackhole_name s.interface.number) (blackhole_set i blackholes) ∷ in_order (told_registered i ∷ (accept ∷ []) ∷ []))
+      (λ yes_drop. telling after own more 1000 3 (net_test (blackhole_name s.interface.number) (blackhole_set i blackholes) ∷ in_turn (told_registered i ∷ (accept ∷ []) ∷ []))
       (tags_drop s.address.irr covered (more ++ (1000, 3) ∷ []))
       (tell rs route own more 1000 3 refl refl (fresh 1000 3 refl))
       (drop_parts after own (more ++ (1000, 3) ∷ []) (ap is_some e) (host_of (is_some router.blackhole) (is_host_net route.net) (has_pair route 65535 666) yes_drop)
@@ -215,7 +215,7 @@ module _ (env : Environment) (k : Known) (r : Registry) (router : Router) (s : S
     stopping (Some n) own tags next p = ap accepts (tell rs route own [] 1101 n refl refl refl)
 
     abbrev has_transit : Bool
-    has_transit = has_transit_free r s route
+    has_transit = transit_free_as_in_path r s route
 
     transit_runs : (own : Bool) → running (transit_test i ++ (origin_test i ++ after_origin)) (at own []) ≡ ends own (or_refused (first_number ((has_transit, 14) ∷ [])) origin_tags)
     transit_runs own = go (is_listed r.public.transit s.member.asn.0) refl where
@@ -235,10 +235,10 @@ module _ (env : Environment) (k : Known) (r : Registry) (router : Router) (s : S
           (stopping (first_number ((has_transit_as r route, 14) ∷ [])) own origin_tags (running (origin_test i ++ after_origin)) (origin_runs own))
 
     path_runs : (own : Bool) → running (run (codes "ixp_as") ∷ transit_test i ++ (origin_test i ++ after_origin)) (at own [])
-        ≡ ends own (tags_path (has_bogon_as r route) has_transit origin_tags)
+        ≡ ends own (tags_path (bogon_as_in_path r route) has_transit origin_tags)
     path_runs own =
         rw (shared.bogon_as (at own []))
-        (stopping (first_number ((has_bogon_as r route, 4) ∷ [])) own (or_refused (first_number ((has_transit, 14) ∷ [])) origin_tags)
+        (stopping (first_number ((bogon_as_in_path r route, 4) ∷ [])) own (or_refused (first_number ((has_transit, 14) ∷ [])) origin_tags)
         (running (transit_test i ++ (origin_test i ++ after_origin))) (transit_runs own))
 
     -- the next hop and the path's first number
@@ -249,7 +249,7 @@ module _ (env : Environment) (k : Known) (r : Registry) (router : Router) (s : S
     path_parts = run (codes "ixp_as") ∷ transit_test i ++ (origin_test i ++ after_origin)
 
     abbrev path_tags : List (ℕ × ℕ)
-    path_tags = tags_path (has_bogon_as r route) has_transit origin_tags
+    path_tags = tags_path (bogon_as_in_path r route) has_transit origin_tags
 
     hop_runs : running (next_hop_test i ∷ path_parts) (at true [])
         ≡ (if is_own_hop s route then ends true path_tags else (if beside then ends false path_tags else ends true ((1101, 8) ∷ [])))
@@ -261,8 +261,8 @@ module _ (env : Environment) (k : Known) (r : Registry) (router : Router) (s : S
         (path_runs true))
 
     first_runs : running (when (compared op.Ne attr.First (int i.asn.0)) (drop_with 7 ∷ []) ∷ next_hop_test i ∷ path_parts) (at true [])
-        ≡ hop_end rs route (has_other_first s route) (is_own_hop s route) beside path_tags
-    first_runs = if_same (has_other_first s route) (dropped true [] 7 _ refl) hop_runs
+        ≡ hop_end rs route (first_as_not_peer_as s route) (is_own_hop s route) beside path_tags
+    first_runs = if_same (first_as_not_peer_as s route) (dropped true [] 7 _ refl) hop_runs
 
   -- the net and the lengths of lists
   filter_again : (f : ℕ × ℕ × ℕ → Bool) (ts : List (ℕ × ℕ × ℕ)) → filter f (filter f ts ++ []) ≡ filter f ts
@@ -283,22 +283,22 @@ module _ (env : Environment) (k : Known) (r : Registry) (router : Router) (s : S
 
   abbrev refusals : List (Bool × ℕ)
   refusals =
-      (is_too_short router route, 2) ∷ (is_bogon r route, 3) ∷ (has_no_path route, 6) ∷ (has_long_path route, 5)
-      ∷ (has_many_communities router route, 15) ∷ []
+      (prefix_too_short router route, 2) ∷ (prefix_is_bogon r route, 3) ∷ (path_empty route, 6) ∷ (path_too_long route, 5)
+      ∷ (too_many_communities router route, 15) ∷ []
 
   short_enough : net_refusal r router route ≡ None → is_drop ≡ false → nat_le route.net.len router.high ≡ true
   short_enough none no_drop =
-      let long : (nat_lt router.high route.net.len && not is_drop) ≡ false = not_refused (is_too_long router route) 1 refusals none in
+      let long : (nat_lt router.high route.net.len && not is_drop) ≡ false = not_refused (prefix_too_long router route) 1 refusals none in
       let longer : nat_lt router.high route.net.len ≡ false =
       sym (and_true (nat_lt router.high route.net.len)) ∙ ap (λ b. nat_lt router.high route.net.len && not b) (sym no_drop) ∙ long in
       le-leb route.net.len router.high (ltb-false router.high route.net.len longer)
 
   abbrev transit_free : Bool
-  transit_free = has_transit_free r s route
+  transit_free = transit_free_as_in_path r s route
 
   abbrev all_tags : List (ℕ × ℕ)
   all_tags =
-      tags_path (has_bogon_as r route) transit_free
+      tags_path (bogon_as_in_path r route) transit_free
       (tags_origin s.address.irr (is_empty s.origins) listed is_drop covered router.rpki (state_of r route) allowed)
 
   abbrev first_parts : List StmtTree
@@ -307,7 +307,7 @@ module _ (env : Environment) (k : Known) (r : Registry) (router : Router) (s : S
       ++ (origin_test i ++ blackhole_parts router.blackhole)
 
   abbrev hop_ends : End
-  hop_ends = hop_end rs route (has_other_first s route) (is_own_hop s route) (list_any (is_hop_at router s route) r.interfaces) all_tags
+  hop_ends = hop_end rs route (first_as_not_peer_as s route) (is_own_hop s route) (list_any (is_hop_at router s route) r.interfaces) all_tags
 
   net_ends : (o : Option ℕ) → net_refusal r router route ≡ o → for_effect (stops rs o (at true [])) (running first_parts) ≡ net_end rs route o hop_ends
   net_ends None e = first_runs (short_enough e)
@@ -316,7 +316,7 @@ module _ (env : Environment) (k : Known) (r : Registry) (router : Router) (s : S
   abbrev refusal_with : List (ℕ × ℕ × ℕ) → Option ℕ
   refusal_with ts =
       first_number
-      ((is_too_long router route, 1) ∷ (is_too_short router route, 2) ∷ (is_bogon r route, 3) ∷ (has_no_path route, 6) ∷ (has_long_path route, 5)
+      ((prefix_too_long router route, 1) ∷ (prefix_too_short router route, 2) ∷ (prefix_is_bogon r route, 3) ∷ (path_empty route, 6) ∷ (path_too_long route, 5)
       ∷ (not (router.max_comms == 0) && (nat_lt router.max_comms (length route.pairs) || nat_lt router.max_comms (length ts)), 15) ∷ [])
 
   net_runs : running (run (codes "ixp_net") ∷ first_parts) (at true []) ≡ net_end rs route (net_refusal r router route) hop_ends
@@ -348,5 +348,5 @@ module _ (env : Environment) (k : Known) (r : Registry) (router : Router) (s : S
       (without_agree _ _ reports route.triples ∙ sym (append-nil (base rs route)))
       ∙ net_runs
       ∙ whole_said rs s.address.irr (is_empty s.origins) listed is_drop covered router.rpki (state_of r route) allowed (none_listed s.origins) route
-      (is_too_long router route) (is_too_short router route) (is_bogon r route) (has_no_path route) (has_long_path route) (has_many_communities router route)
-      (has_other_first s route) (is_own_hop s route) (list_any (is_hop_at router s route) r.interfaces) (has_bogon_as r route) transit_free
+      (prefix_too_long router route) (prefix_too_short router route) (prefix_is_bogon r route) (path_empty route) (path_too_long route) (too_many_communities router route)
+      (first_as_not_peer_as s route) (is_own_hop s route) (list_any (is_hop_at router s route) r.interfaces) (bogon_as_in_path r route) transit_free

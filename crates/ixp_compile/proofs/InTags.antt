@@ -7,7 +7,9 @@ use Rattle.ixp_lang.specs.Meaning.{End, accepts}
 use Rattle.ixp_lang.specs.Attributes.{same_state}
 use Rattle.ixp_tables.specs.Tables.{if_there}
 use Rattle.ixp_policy.specs.declared.line.Line.{Line}
-use Rattle.ixp_policy.specs.Import.{line, is_reached, is_got_past}
+use Rattle.ixp_policy.specs.declared.line.Reason.TheVariants.{PrefixTooLong, PrefixTooShort, Bogon, PathEmpty, PathTooLong, TooManyCommunities, FirstAsNotPeerAs, NextHopNotPeer, BogonAsInPath, TransitFreeAsInPath, OriginNotRegistered, OriginInvalid, PrefixNotRegistered}
+use Rattle.ixp_policy.specs.Reasons.{number_of}
+use Rattle.ixp_policy.specs.Import.{line, first_that_holds, is_reached, is_got_past}
 use Rattle.ixp_policy.specs.Tags.{chosen}
 use Rattle.ixp_compile.specs.Shared.{first_number}
 use Rattle.ixp_compile.proofs.Tagging.{hop_told, tag, told, base}
@@ -44,33 +46,41 @@ or_refused None tags = tags
 or_refused (Some n) tags = (1101, n) ∷ []
 
 -- What the rules say, of what is found of the route.
-abbrev pub said : ℕ → Bool → Bool → Bool → Bool → Bool → Validity → Option Line → List (ℕ × ℕ × ℕ)
-said rs own irr unlisted is_drop rpki st refused =
+abbrev pub said : ℕ → Bool → Bool → Bool → Bool → Bool → Validity → List Line → List (ℕ × ℕ × ℕ)
+said rs own irr unlisted is_drop rpki st lines =
     chosen
-    ((is_got_past 8 refused && not own, (rs, 1001, 1200))
-    ∷ (is_reached 11 refused && not irr, (rs, 1001, 2))
-    ∷ (is_reached 11 refused && irr && unlisted, (rs, 1001, 1002))
-    ∷ (is_reached 12 refused && (not rpki || is_drop), (rs, 1000, 3))
-    ∷ (is_reached 12 refused && (not is_drop && (rpki && same_state st Valid)), (rs, 1000, 1))
-    ∷ (is_reached 12 refused && (not is_drop && (rpki && same_state st Unknown)), (rs, 1000, 2))
-    ∷ (is_got_past 13 refused && (irr && (is_drop || not (rpki && same_state st Valid))), (rs, 1001, 1))
+    ((is_got_past NextHopNotPeer lines && not own, (rs, 1001, 1200))
+    ∷ (is_reached OriginNotRegistered lines && not irr, (rs, 1001, 2))
+    ∷ (is_reached OriginNotRegistered lines && irr && unlisted, (rs, 1001, 1002))
+    ∷ (is_reached OriginInvalid lines && (not rpki || is_drop), (rs, 1000, 3))
+    ∷ (is_reached OriginInvalid lines && (not is_drop && (rpki && same_state st Valid)), (rs, 1000, 1))
+    ∷ (is_reached OriginInvalid lines && (not is_drop && (rpki && same_state st Unknown)), (rs, 1000, 2))
+    ∷ (is_got_past PrefixNotRegistered lines && (irr && (is_drop || not (rpki && same_state st Valid))), (rs, 1001, 1))
     ∷ [])
-    ++ if_there refused [] (λ l. (rs, 1101, l.number) ∷ [])
+    ++ if_there (first_that_holds lines) [] (λ l. (rs, 1101, number_of l.reason) ∷ [])
 
 -- the table's last lines
 abbrev pub last_lines : Bool → Bool → Bool → Bool → Bool → Validity → Bool → List Line
 last_lines irr listed is_drop covered rpki st allowed =
-    line 11 10 (irr && not listed)
-    ∷ line 12 13 (not is_drop && (rpki && same_state st Invalid))
-    ∷ line 13 9 (if is_drop then not irr || not covered else irr && not (rpki && same_state st Valid) && not allowed)
+    line OriginNotRegistered (irr && not listed)
+    ∷ line OriginInvalid (not is_drop && (rpki && same_state st Invalid))
+    ∷ line PrefixNotRegistered (if is_drop then not irr || not covered else irr && not (rpki && same_state st Valid) && not allowed)
     ∷ []
 
-abbrev first_of_lines : List Line → Option Line
-first_of_lines ls = find (λ l. l.holds) ls
+-- the table's lines up to a place, where none of them holds
+abbrev pub past_net : List Line → List Line
+past_net ls =
+    line PrefixTooLong false ∷ line PrefixTooShort false ∷ line Bogon false ∷ line PathEmpty false ∷ line PathTooLong false ∷ line TooManyCommunities false ∷ ls
+
+abbrev pub past_hop : List Line → List Line
+past_hop ls = past_net (line FirstAsNotPeerAs false ∷ line NextHopNotPeer false ∷ ls)
+
+abbrev pub past_path : List Line → List Line
+past_path ls = past_hop (line BogonAsInPath false ∷ line TransitFreeAsInPath false ∷ ls)
 
 origin_said : (rs : ℕ) (own irr unlisted listed is_drop covered rpki : Bool) (st : Validity) (allowed : Bool) → (unlisted ≡ true → listed ≡ false)
     → map (tag rs) (hop_told own ++ tags_origin irr unlisted listed is_drop covered rpki st allowed)
-    ≡ said rs own irr unlisted is_drop rpki st (first_of_lines (last_lines irr listed is_drop covered rpki st allowed))
+    ≡ said rs own irr unlisted is_drop rpki st (past_path (last_lines irr listed is_drop covered rpki st allowed))
 origin_said rs true true true true is_drop covered rpki st allowed p = absurd (true≢false (p refl))
 origin_said rs true true true false is_drop covered rpki st allowed p = refl
 origin_said rs true true false false is_drop covered rpki st allowed p = refl
@@ -111,7 +121,7 @@ origin_said rs false false unlisted listed false covered true Unknown allowed p 
 origin_said rs false false unlisted listed false covered false st allowed p = refl
 
 abbrev pub path_lines : Bool → Bool → List Line → List Line
-path_lines bogon transit ls = line 9 4 bogon ∷ line 10 14 transit ∷ ls
+path_lines bogon transit ls = line BogonAsInPath bogon ∷ line TransitFreeAsInPath transit ∷ ls
 
 abbrev pub tags_path : Bool → Bool → List (ℕ × ℕ) → List (ℕ × ℕ)
 tags_path bogon transit tags = or_refused (first_number ((bogon, 4) ∷ [])) (or_refused (first_number ((transit, 14) ∷ [])) tags)
@@ -137,10 +147,10 @@ module _ (rs : ℕ) (irr unlisted listed is_drop covered rpki : Bool) (st : Vali
   lines_left = last_lines irr listed is_drop covered rpki st allowed
 
   abbrev said_of : Bool → List Line → List (ℕ × ℕ × ℕ)
-  said_of own ls = said rs own irr unlisted is_drop rpki st (first_of_lines ls)
+  said_of own ls = said rs own irr unlisted is_drop rpki st ls
 
   path_said : (own bogon transit : Bool)
-      → map (tag rs) (hop_told own ++ tags_path bogon transit origin_tags) ≡ said_of own (path_lines bogon transit lines_left)
+      → map (tag rs) (hop_told own ++ tags_path bogon transit origin_tags) ≡ said_of own (past_hop (path_lines bogon transit lines_left))
   path_said true true transit = refl
   path_said false true transit = refl
   path_said true false true = refl
@@ -152,10 +162,10 @@ module _ (rs : ℕ) (irr unlisted listed is_drop covered rpki : Bool) (st : Vali
     said_end own ls = accepts (record route { triples = base rs route ++ said_of own ls })
 
     abbrev pub hop_lines : Bool → Bool → Bool → List Line → List Line
-    hop_lines first own beside ls = line 7 7 first ∷ line 8 8 (not own && not beside) ∷ ls
+    hop_lines first own beside ls = line FirstAsNotPeerAs first ∷ line NextHopNotPeer (not own && not beside) ∷ ls
 
     hop_said : (first own beside bogon transit : Bool)
-        → hop_end rs route first own beside (tags_path bogon transit origin_tags) ≡ said_end own (hop_lines first own beside (path_lines bogon transit lines_left))
+        → hop_end rs route first own beside (tags_path bogon transit origin_tags) ≡ said_end own (past_net (hop_lines first own beside (path_lines bogon transit lines_left)))
     hop_said true own beside bogon transit = refl
     hop_said false true beside bogon transit = ap (λ ts. accepts (record route { triples = base rs route ++ ts })) (path_said true bogon transit)
     hop_said false false true bogon transit = ap (λ ts. accepts (record route { triples = base rs route ++ ts })) (path_said false bogon transit)
@@ -165,7 +175,7 @@ module _ (rs : ℕ) (irr unlisted listed is_drop covered rpki : Bool) (st : Vali
     pub whole_said : (a b c d e f first own beside bogon transit : Bool)
         → net_end rs route (first_number ((a, 1) ∷ (b, 2) ∷ (c, 3) ∷ (d, 6) ∷ (e, 5) ∷ (f, 15) ∷ [])) (hop_end rs route first own beside (tags_path bogon transit origin_tags))
         ≡ said_end own
-        (line 1 1 a ∷ line 2 2 b ∷ line 3 3 c ∷ line 4 6 d ∷ line 5 5 e ∷ line 6 15 f
+        (line PrefixTooLong a ∷ line PrefixTooShort b ∷ line Bogon c ∷ line PathEmpty d ∷ line PathTooLong e ∷ line TooManyCommunities f
         ∷ hop_lines first own beside (path_lines bogon transit lines_left))
     whole_said true b c d e f first own beside bogon transit = refl
     whole_said false true c d e f first own beside bogon transit = refl

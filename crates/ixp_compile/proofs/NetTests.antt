@@ -23,11 +23,11 @@ use Rattle.ixp_lang.specs.Trees.{StmtTree, named, stmts}
 use Rattle.ixp_lang.specs.Meaning.{Environment, Known, End, falls, returns, for_effect, runs_all}
 use Rattle.ixp_registry.specs.declared.registry.Registry.{Registry}
 use Rattle.ixp_registry.specs.declared.router.Router.{Router}
-use Rattle.ixp_compile.specs.Header.{is_too_long as too_long, community_tests, bogons_of, net_body, joined, bogon_as_body, transit_body, blackhole_body}
+use Rattle.ixp_compile.specs.Header.{is_too_long as too_long, community_tests, bogons_of, net_body, joined_ranges, bogon_as_body, transit_body, blackhole_body}
 use Rattle.ixp_compile.specs.declared.inputs.HeaderInputs.{HeaderInputs}
 use Rattle.ixp_compile.specs.Generated.{header_inputs}
 use Rattle.ixp_policy.specs.Blackholes.{is_blackhole, is_host_net}
-use Rattle.ixp_policy.specs.Import.{is_bogon, is_bogon_as, has_bogon_as, is_listed}
+use Rattle.ixp_policy.specs.Import.{prefix_is_bogon, is_bogon_as, bogon_as_in_path, is_listed}
 use Rattle.ixp_compile.specs.Pieces.{int, compared, numbers, when, drop_with, where_any}
 use Rattle.ixp_compile.specs.Shared.{FirstsAscend, IsNamed, HasNoReports, refused_with, stops, first_number, net_refusal, bogon_as_refusal, has_transit_as, transit_refusal}
 use Rattle.ixp_compile.proofs.Communities.{any_filter, and_true, in_own_pairs}
@@ -84,13 +84,13 @@ module _ (env : Environment) (k : Known) (rs : ℕ)
 
   -- numbers that may stand in no path
   pub bogon_as_runs : (h : HeaderInputs) (r : Registry) (route : Route) → h.bogon_as ≡ r.public.bogon_as → FirstsAscend r.public.bogon_as
-      → IsNamed k (codes "ixp_bogon_as") set.Ints (joined h.bogon_as)
+      → IsNamed k (codes "ixp_bogon_as") set.Ints (joined_ranges h.bogon_as)
       → runs_all env k [] (stmts (bogon_as_body h)) route falls ≡ stops rs (bogon_as_refusal r route) route
   bogon_as_runs h r route same up is =
-      named_refuses_last (codes "ixp_bogon_as") set.Ints attr.Path 4 (joined h.bogon_as) route (has_bogon_as r route) is
+      named_refuses_last (codes "ixp_bogon_as") set.Ints attr.Path 4 (joined_ranges h.bogon_as) route (bogon_as_in_path r route) is
       (path_in [] (λ a. false) (λ a. refl) route.path ∙ none_found (λ a. false) (λ a. refl) route.path)
-      (ap (λ bs. list_any (λ (n : ℕ × ℕ). in_ranges n.0 (joined bs)) (map (λ (a : Asn). (a.0, a.0)) route.path)) same
-      ∙ path_in (joined r.public.bogon_as) (is_bogon_as r) (λ a. joined_holds a.0 r.public.bogon_as up) route.path)
+      (ap (λ bs. list_any (λ (n : ℕ × ℕ). in_ranges n.0 (joined_ranges bs)) (map (λ (a : Asn). (a.0, a.0)) route.path)) same
+      ∙ path_in (joined_ranges r.public.bogon_as) (is_bogon_as r) (λ a. joined_holds a.0 r.public.bogon_as up) route.path)
 
   -- networks that buy no transit
   pub transit_runs : (h : HeaderInputs) (r : Registry) (route : Route) → h.transit ≡ r.public.transit
@@ -160,7 +160,7 @@ module _ (env : Environment) (k : Known) (rs : ℕ)
     net_runs r small clean is call =
         long_refuses router.blackhole (is_host_net route.net) (has_pair route 65535 666) (net_rest r) _ call
         (refuses 2 route _ _ refl
-        (named_refuses (codes "ixp_bogons") set.Prefixes attr.Net 3 (bogons_of (header_inputs r router)) bogon_rest route (is_bogon r route) _ is refl
+        (named_refuses (codes "ixp_bogons") set.Prefixes attr.Net 3 (bogons_of (header_inputs r router)) bogon_rest route (prefix_is_bogon r route) _ is refl
         (bogons_alike router.family route.net same r.public.bogons)
         (refuses 6 route _ _ (count_zero (length route.path))
         (refuses 5 route _ _ (count_above 64 (length route.path) (lit< tt))

@@ -5,7 +5,7 @@ use Rattle.std.proofs.lemmas.Bool.{leb-true, leb-false, le-leb, lt-leb, eq-eqb, 
 use Rattle.ixp_num.specs.declared.asn.Asn.{Asn}
 use Rattle.ixp_lang.specs.Attributes.{in_range, in_ranges}
 use Rattle.ixp_policy.specs.Import.{is_listed}
-use Rattle.ixp_compile.specs.Header.{joined, joined_to}
+use Rattle.ixp_compile.specs.Header.{joined_ranges, joined_to}
 use Rattle.ixp_compile.specs.Shared.{FirstsAscend}
 use Rattle.ixp_compile.proofs.Communities.{any_agree, any_map}
 
@@ -45,7 +45,7 @@ joined_to_holds n first last (r ∷ rs) above up =
         rw e (one ∙ ap (λ b. b || list_any (holds n) rs) (both_hold n first last r.0.0 r.1.0 above.0 (leb-true r.0.0 last e)) ∙ swap_or (in_range n (first, last)) (holds n r) (list_any (holds n) rs))
     go false e one other = rw e (ap (λ b. in_range n (first, last) || b) other)
 
-pub joined_holds : (n : ℕ) (rs : List (Asn × Asn)) → FirstsAscend rs → in_ranges n (joined rs) ≡ list_any (holds n) rs
+pub joined_holds : (n : ℕ) (rs : List (Asn × Asn)) → FirstsAscend rs → in_ranges n (joined_ranges rs) ≡ list_any (holds n) rs
 joined_holds n [] up = refl
 joined_holds n (r ∷ rs) up = joined_to_holds n r.0.0 r.1.0 rs up.0 up.1
 

@@ -12,7 +12,8 @@ use Rattle.ixp_registry.specs.declared.router.Router.{Router}
 use Rattle.ixp_registry.specs.Sessions.{Session}
 use Rattle.ixp_policy.specs.declared.line.Line.{Line}
 use Rattle.ixp_policy.specs.Fates.{passes}
-use Rattle.ixp_policy.specs.Import.{brought_triples, is_report, refusal}
+use Rattle.ixp_policy.specs.Import.{brought_triples, is_report, import_table, first_that_holds}
+use Rattle.ixp_policy.specs.Reasons.{number_of}
 use Rattle.ixp_policy.specs.Tags.{chosen, findings, refusal_told, tagged}
 use Rattle.ixp_compile.specs.Fragment.{up_body}
 use Rattle.ixp_compile.specs.Generated.{inputs}
@@ -47,11 +48,11 @@ module _ (rs : ℕ) where
   told_none : (a b : ℕ) → (a == 1101) ≡ false → is_refused (rs, a, b) ≡ false
   told_none a b e = plain (rs, a, b) ∙ ap (λ d. rs == rs && d) e ∙ and_none (rs == rs)
 
-pub findings_none : (r : Registry) (router : Router) (s : Session) (route : Route) (refused : Option Line)
-    → list_any (is_refused router.asn.0) (chosen (findings r router s route refused)) ≡ false
+pub findings_none : (r : Registry) (router : Router) (s : Session) (route : Route) (lines : List Line)
+    → list_any (is_refused router.asn.0) (chosen (findings r router s route lines)) ≡ false
 unfolding findings
-findings_none r router s route refused =
-    none_chosen router.asn.0 (is_refused router.asn.0) (findings r router s route refused) (
+findings_none r router s route lines =
+    none_chosen router.asn.0 (is_refused router.asn.0) (findings r router s route lines) (
       told_none router.asn.0 1001 1200 refl,
       (
         told_none router.asn.0 1001 2 refl,
@@ -68,18 +69,18 @@ findings_none r router s route refused =
 -- the mark of a refusal is there exactly where the route is refused
 pub marked : (r : Registry) (router : Router) (s : Session) (route : Route)
     → list_any (is_refused router.asn.0) (tagged r router s route).triples ≡ not (passes r router s route)
-marked r router s route = go (refusal r router s route) refl where
+marked r router s route = go (import_table r router s route) where
   told : (refused : Option Line) → list_any (is_refused router.asn.0) (refusal_told router refused) ≡ not (is_none refused)
   told None = refl
-  told (Some l) = or_false (is_refused router.asn.0 (router.asn.0, 1101, l.number)) ∙ plain router.asn.0 (router.asn.0, 1101, l.number) ∙ ap (λ d. d && true) (eq_refl router.asn.0)
+  told (Some l) = or_false (is_refused router.asn.0 (router.asn.0, 1101, number_of l.reason)) ∙ plain router.asn.0 (router.asn.0, 1101, number_of l.reason) ∙ ap (λ d. d && true) (eq_refl router.asn.0)
 
-  go : (refused : Option Line) → refusal r router s route ≡ refused
-      → list_any (is_refused router.asn.0) (brought_triples router.asn.0 route ++ (chosen (findings r router s route refused) ++ refusal_told router refused)) ≡ not (is_none refused)
-  go refused e =
-      list_any-append (is_refused router.asn.0) (brought_triples router.asn.0 route) (chosen (findings r router s route refused) ++ refusal_told router refused)
+  go : (lines : List Line)
+      → list_any (is_refused router.asn.0) (brought_triples router.asn.0 route ++ (chosen (findings r router s route lines) ++ refusal_told router (first_that_holds lines))) ≡ not (is_none (first_that_holds lines))
+  go lines =
+      list_any-append (is_refused router.asn.0) (brought_triples router.asn.0 route) (chosen (findings r router s route lines) ++ refusal_told router (first_that_holds lines))
       ∙ ap₂ (λ a b. a || b) (base_none router.asn.0 route.triples)
-      (list_any-append (is_refused router.asn.0) (chosen (findings r router s route refused)) (refusal_told router refused)
-      ∙ ap₂ (λ a b. a || b) (findings_none r router s route refused) (told refused))
+      (list_any-append (is_refused router.asn.0) (chosen (findings r router s route lines)) (refusal_told router (first_that_holds lines))
+      ∙ ap₂ (λ a b. a || b) (findings_none r router s route lines) (told (first_that_holds lines)))
 
 -- The whole filter.
 pub up_runs : (env : Environment) (k : Known) (r : Registry) (router : Router) (s : Session) (route : Route) → route.net.family ≡ router.family

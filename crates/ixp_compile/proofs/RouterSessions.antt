@@ -13,7 +13,7 @@ use Rattle.ixp_registry.specs.Keys.{member_key}
 use Rattle.ixp_registry.specs.Lookups.{is_connected, is_member_connected}
 use Rattle.ixp_registry.specs.Sessions.{Session, address_of, is_session, session_with, session_at}
 use Rattle.ixp_policy.specs.Export.{received}
-use Rattle.ixp_policy.specs.Fates.{session_name, sent_to, is_other, sent_to_others}
+use Rattle.ixp_policy.specs.Fates.{session_name, sent_at, is_other, sent_to_others}
 use Rattle.ixp_compile.specs.Generated.{router_sessions}
 
 module _ (r : Registry) (router : Router) where
@@ -42,16 +42,16 @@ module _ (r : Registry) (router : Router) where
     others ms = filter (λ m. is_other s m.interface) ms
 
     one_more : (i : Interface) (m : Session) → session_at r router i ≡ Some m → m.interface ≡ i → (is : List Interface) (ms : List Session)
-        → map (sent_to r router s route) (filter (is_other s) is) ≡ map sent_entry (others ms)
-        → map (sent_to r router s route) (filter (is_other s) (i ∷ is)) ≡ map sent_entry (others (m ∷ ms))
+        → map (sent_at r router s route) (filter (is_other s) is) ≡ map sent_entry (others ms)
+        → map (sent_at r router s route) (filter (is_other s) (i ∷ is)) ≡ map sent_entry (others (m ∷ ms))
     one_more i m there same is ms rest = go (is_other s i) refl (ap (is_other s) same) where
       go : (b : Bool) → is_other s i ≡ b → is_other s m.interface ≡ is_other s i
-          → map (sent_to r router s route) (filter (is_other s) (i ∷ is)) ≡ map sent_entry (others (m ∷ ms))
+          → map (sent_at r router s route) (filter (is_other s) (i ∷ is)) ≡ map sent_entry (others (m ∷ ms))
       go false e f =
-          ap (λ c. map (sent_to r router s route) (if c then i ∷ filter (is_other s) is else filter (is_other s) is)) e ∙ rest
+          ap (λ c. map (sent_at r router s route) (if c then i ∷ filter (is_other s) is else filter (is_other s) is)) e ∙ rest
           ∙ ap (λ c. map sent_entry (if c then m ∷ others ms else others ms)) (sym (f ∙ e))
       go true e f =
-          ap (λ c. map (sent_to r router s route) (if c then i ∷ filter (is_other s) is else filter (is_other s) is)) e
+          ap (λ c. map (sent_at r router s route) (if c then i ∷ filter (is_other s) is else filter (is_other s) is)) e
           ∙ (λ j. (session_name (sym same j).number, if_there (there j) None (received router s route)) ∷ rest j)
           ∙ ap (λ c. map sent_entry (if c then m ∷ others ms else others ms)) (sym (f ∙ e))
 
@@ -59,19 +59,19 @@ module _ (r : Registry) (router : Router) where
         → filter_map (session_at r router) (i ∷ is) ≡ m ∷ filter_map (session_at r router) is
     listed i is m there = ap (λ o. cons_option o (filter_map (session_at r router) is)) there
 
-    entries : (is : List Interface) → map (sent_to r router s route) (filter (is_other s) (filter (is_session r router) is))
+    entries : (is : List Interface) → map (sent_at r router s route) (filter (is_other s) (filter (is_session r router) is))
         ≡ map sent_entry (others (filter_map (session_at r router) is))
     entries [] = refl
     entries (i ∷ is) = go (is_session r router i) refl (entries is) where
       go : (b : Bool) → is_session r router i ≡ b
-          → map (sent_to r router s route) (filter (is_other s) (filter (is_session r router) is)) ≡ map sent_entry (others (filter_map (session_at r router) is))
-          → map (sent_to r router s route) (filter (is_other s) (filter (is_session r router) (i ∷ is))) ≡ map sent_entry (others (filter_map (session_at r router) (i ∷ is)))
+          → map (sent_at r router s route) (filter (is_other s) (filter (is_session r router) is)) ≡ map sent_entry (others (filter_map (session_at r router) is))
+          → map (sent_at r router s route) (filter (is_other s) (filter (is_session r router) (i ∷ is))) ≡ map sent_entry (others (filter_map (session_at r router) (i ∷ is)))
       go false e rest =
-          ap (λ c. map (sent_to r router s route) (filter (is_other s) (if c then i ∷ filter (is_session r router) is else filter (is_session r router) is))) e
+          ap (λ c. map (sent_at r router s route) (filter (is_other s) (if c then i ∷ filter (is_session r router) is else filter (is_session r router) is))) e
           ∙ rest ∙ ap (λ o. map sent_entry (others (cons_option o (filter_map (session_at r router) is)))) (sym (no_session i e))
       go true e rest =
           let m : (m : Session) × (session_at r router i ≡ Some m) × (m.interface ≡ i) = has_session i e in
-          ap (λ c. map (sent_to r router s route) (filter (is_other s) (if c then i ∷ filter (is_session r router) is else filter (is_session r router) is))) e
+          ap (λ c. map (sent_at r router s route) (filter (is_other s) (if c then i ∷ filter (is_session r router) is else filter (is_session r router) is))) e
           ∙ one_more i m.0 m.1 m.2 (filter (is_session r router) is) (filter_map (session_at r router) is) rest
           ∙ ap (λ ms. map sent_entry (others ms)) (sym (listed i is m.0 m.1))
 

@@ -11,7 +11,7 @@ use Rattle.ixp_lang.specs.declared.value.SetLit.{SetLit}
 use Rattle.ixp_lang.specs.declared.value.SetLit.TheVariants as set
 use Rattle.ixp_lang.specs.Trees.{ItemTree, router_id_item, table_item, define_item, function_item, filter_item, device_item, pipe_item, bgp_item}
 use Rattle.ixp_lang.specs.Meaning.{roas_named}
-use Rattle.ixp_lang.specs.Walks.{sessions_of, pipes_of, session_named, pipe_from, pipe_between}
+use Rattle.ixp_lang.specs.Walks.{bgp_sessions, pipes_of, session_named, pipe_from, pipe_between}
 use Rattle.ixp_registry.specs.declared.registry.Registry.{Registry}
 use Rattle.ixp_registry.specs.declared.router.Router.{Router}
 use Rattle.ixp_registry.specs.Sessions.{Session}
@@ -19,7 +19,7 @@ use Rattle.ixp_compile.specs.declared.inputs.HeaderInputs.{HeaderInputs}
 use Rattle.ixp_compile.specs.declared.inputs.Inputs.{Inputs}
 use Rattle.ixp_compile.specs.Fragment.{table_name, bgp_name, pipe_of, bgp_of, member_sets, session_filters, protocols}
 use Rattle.ixp_compile.specs.Generated.{header_inputs, inputs, footer, roa_tables}
-use Rattle.ixp_compile.specs.Header.{header, tables, public_sets, shared_functions, blackhole_function, bogons_of, joined}
+use Rattle.ixp_compile.specs.Header.{header, tables, public_sets, shared_functions, blackhole_function, bogons_of, joined_ranges}
 use Rattle.ixp_compile.specs.Imports.{Sees}
 use Rattle.ixp_compile.specs.Pieces.{defined, numbers, master, roas}
 use Rattle.ixp_compile.proofs.Fragments.{sets_all}
@@ -28,7 +28,7 @@ use Rattle.ixp_compile.proofs.WholeText.{HasOther, part, text}
 
 -- The protocols of a text.
 
-sessions_append : (xs ys : List ItemTree) → sessions_of (xs ++ ys) ≡ sessions_of xs ++ sessions_of ys
+sessions_append : (xs ys : List ItemTree) → bgp_sessions (xs ++ ys) ≡ bgp_sessions xs ++ bgp_sessions ys
 sessions_append [] ys = refl
 sessions_append (bgp_item b ∷ xs) ys = ap (λ bs. b ∷ bs) (sessions_append xs ys)
 sessions_append (router_id_item a ∷ xs) ys = sessions_append xs ys
@@ -60,7 +60,7 @@ NoProtocol (function_item n ps ss) = Unit {0}
 NoProtocol (filter_item n ss) = Unit {0}
 NoProtocol (device_item n) = Unit {0}
 
-no_sessions : (xs : List ItemTree) → AllByRecursion NoProtocol xs → sessions_of xs ≡ []
+no_sessions : (xs : List ItemTree) → AllByRecursion NoProtocol xs → bgp_sessions xs ≡ []
 no_sessions [] all = refl
 no_sessions (bgp_item b ∷ xs) all = absurd all.0
 no_sessions (pipe_item p ∷ xs) all = absurd all.0
@@ -105,7 +105,7 @@ module _ (r : Registry) (router : Router) (irr blackholes : Inputs → List Patt
       all_append NoProtocol (tables router) (public_sets h ++ (shared_functions h ++ [])) (tt, (tt, (tt, tt)))
       (all_append NoProtocol (public_sets h) (shared_functions h ++ [])
       (all_append NoProtocol (defined (codes "ixp_bogons") set.Prefixes (bogons_of h)) _ (set_no (codes "ixp_bogons") set.Prefixes (bogons_of h))
-      (all_append NoProtocol (defined (codes "ixp_bogon_as") set.Ints (joined h.bogon_as)) _ (set_no (codes "ixp_bogon_as") set.Ints (joined h.bogon_as))
+      (all_append NoProtocol (defined (codes "ixp_bogon_as") set.Ints (joined_ranges h.bogon_as)) _ (set_no (codes "ixp_bogon_as") set.Ints (joined_ranges h.bogon_as))
       (all_append NoProtocol (defined (codes "ixp_transit_as") numbers h.transit) [] (set_no (codes "ixp_transit_as") numbers h.transit) tt)))
       (all_append NoProtocol (shared_functions h) [] (
         tt,
@@ -113,7 +113,7 @@ module _ (r : Registry) (router : Router) (irr blackholes : Inputs → List Patt
             (tt, (tt, (tt, (tt, (tt, (tt, (tt, tt))))))),
       ) tt))
 
-  part_sessions : (s : Session) → sessions_of (part r router irr blackholes s) ≡ bgp r router s ∷ []
+  part_sessions : (s : Session) → bgp_sessions (part r router irr blackholes s) ≡ bgp r router s ∷ []
   part_sessions s =
       let i : Inputs = inputs r router s in
       sessions_append (member_sets i (irr i) (blackholes i)) (session_filters i (irr i) (blackholes i) ++ (protocols i ++ []))
@@ -125,7 +125,7 @@ module _ (r : Registry) (router : Router) (irr blackholes : Inputs → List Patt
       pipes_append (member_sets i (irr i) (blackholes i)) (session_filters i (irr i) (blackholes i) ++ (protocols i ++ []))
       ∙ ap (λ ps. ps ++ pipe r router s ∷ []) (no_pipes (member_sets i (irr i) (blackholes i)) (sets_all NoProtocol (λ n e. tt) i (irr i) (blackholes i)))
 
-  parts_sessions : (ss : List Session) → sessions_of (flat_map (part r router irr blackholes) ss) ≡ map (bgp r router) ss
+  parts_sessions : (ss : List Session) → bgp_sessions (flat_map (part r router irr blackholes) ss) ≡ map (bgp r router) ss
   parts_sessions [] = refl
   parts_sessions (s ∷ ss) =
       sessions_append (part r router irr blackholes s) (flat_map (part r router irr blackholes) ss) ∙ ap₂ (λ a b. a ++ b) (part_sessions s) (parts_sessions ss)
@@ -135,11 +135,11 @@ module _ (r : Registry) (router : Router) (irr blackholes : Inputs → List Patt
   parts_pipes (s ∷ ss) =
       pipes_append (part r router irr blackholes s) (flat_map (part r router irr blackholes) ss) ∙ ap₂ (λ a b. a ++ b) (part_pipes s) (parts_pipes ss)
 
-  pub text_sessions : (ss : List Session) → sessions_of (text r router irr blackholes ss) ≡ map (bgp r router) ss
+  pub text_sessions : (ss : List Session) → bgp_sessions (text r router irr blackholes ss) ≡ map (bgp r router) ss
   text_sessions ss =
       sessions_append (header h) (flat_map (part r router irr blackholes) ss ++ (footer ++ []))
       ∙ ap₂ (λ a b. a ++ b) (no_sessions (header h) header_no)
-      (sessions_append (flat_map (part r router irr blackholes) ss) (footer ++ []) ∙ append-nil (sessions_of (flat_map (part r router irr blackholes) ss)) ∙ parts_sessions ss)
+      (sessions_append (flat_map (part r router irr blackholes) ss) (footer ++ []) ∙ append-nil (bgp_sessions (flat_map (part r router irr blackholes) ss)) ∙ parts_sessions ss)
 
   pub text_pipes : (ss : List Session) → pipes_of (text r router irr blackholes ss) ≡ map (pipe r router) ss
   text_pipes ss =

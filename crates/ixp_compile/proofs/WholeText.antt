@@ -23,7 +23,7 @@ use Rattle.ixp_compile.specs.Fragment.{fragment, in_name, up_name, receive_name,
 use Rattle.ixp_compile.specs.Generated.{header_inputs, inputs, footer}
 use Rattle.ixp_compile.specs.Header.{header}
 use Rattle.ixp_compile.specs.Imports.{Sees, Allows}
-use Rattle.ixp_compile.specs.Pieces.{in_order}
+use Rattle.ixp_compile.specs.Pieces.{in_turn}
 use Rattle.ixp_compile.specs.Rewriting.{rewritten}
 use Rattle.ixp_compile.specs.Shared.{Shared, HeadStands, cleaned, padded}
 use Rattle.ixp_compile.proofs.Fragments.{shared_kept, part_calls, part_filters, part_functions, with_sets, with_in, with_receive, part_items, part_laid, in_found, up_found, down_found, names_there, shared_there, shared_down, lets_in_there}
@@ -60,7 +60,7 @@ module _ (r : Registry) (router : Router) (irr blackholes : Inputs → List Patt
   below ss = laid (flat_map part ss) base
 
   abbrev pub text : List Session → List ItemTree
-  text ss = in_order (header h ∷ flat_map part ss ∷ footer ∷ [])
+  text ss = in_turn (header h ∷ flat_map part ss ∷ footer ∷ [])
 
   text_laid : (ss : List Session) → reverse (text ss) ≡ device_item None ∷ below ss
   text_laid ss = reverse_laid (text ss) ∙ laid_append (header h) (flat_map part ss ++ (footer ++ [])) [] ∙ laid_append (flat_map part ss) (footer ++ []) base

@@ -6,6 +6,7 @@ use Rattle.ixp_num.specs.declared.family.Family.{Family}
 use Rattle.ixp_num.specs.declared.pattern.Pattern.{Pattern}
 use Rattle.ixp_num.specs.declared.roa.Validity.{Validity}
 use Rattle.ixp_num.specs.declared.roa.Validity.TheVariants.{Valid, Invalid}
+use Rattle.ixp_lang.specs.declared.communities.TheConstants.{FINDING, ORIGIN_STATE, REFUSED}
 use Rattle.ixp_lang.specs.declared.expr.Attr.TheVariants as attr
 use Rattle.ixp_lang.specs.declared.expr.Op.TheVariants as op
 use Rattle.ixp_lang.specs.declared.item.Bgp.{Bgp}
@@ -15,7 +16,7 @@ use Rattle.ixp_lang.specs.declared.value.SetLit.TheVariants as set
 use Rattle.ixp_lang.specs.declared.value.Value.TheVariants as value
 use Rattle.ixp_lang.specs.Trees.{ExprTree, literal, named, attribute, call, roa_check, set_literal, negation, comparison, exprs, StmtTree, if_then, accept, reject, call_statement, delete_triples, stmts, ItemTree, table_item, function_item, filter_item, pipe_item, bgp_item}
 use Rattle.ixp_compile.specs.declared.inputs.Inputs.{Inputs}
-use Rattle.ixp_compile.specs.Pieces.{int, compared, all_large, numbers, when, run, drop_with, tell, in_order, defined, numbered, master, roas, table_kind}
+use Rattle.ixp_compile.specs.Pieces.{int, compared, all_large, numbers, when, run, drop_with, tell, in_turn, defined, numbered, master, roas, table_kind}
 use Rattle.ixp_compile.specs.MemberRules.{advertise_rules, receive_body}
 
 -- Names.
@@ -61,7 +62,7 @@ if_blackholes i items = if is_none i.blackhole then [] else items
 abbrev pub member_sets : Inputs → List Pattern → List Pattern → List ItemTree
 member_sets i irr blackholes =
     if_held i
-    (in_order
+    (in_turn
     (defined (irr_name i.interface) set.Prefixes irr
     ∷ defined (origins_name i.interface) numbers i.origins
     ∷ if_blackholes i (defined (blackhole_name i.interface) set.Prefixes blackholes)
@@ -75,7 +76,7 @@ abbrev pub next_hop_test : Inputs → StmtTree
 next_hop_test i =
     when (compared op.Ne attr.NextHop (attribute attr.From))
     (if_then (compared op.In attr.NextHop (set_literal (set.Ips i.addresses)))
-    (stmts (tell i.rs.0 1001 1200 ∷ []))
+    (stmts (tell i.rs.0 FINDING 1200 ∷ []))
     (stmts (drop_with 8 ∷ []))
     ∷ [])
 
@@ -85,11 +86,11 @@ transit_test i = if i.transit_free then [] else run (codes "ixp_transit") ∷ []
 
 -- the origin is one that the member has registered
 abbrev pub registered_origin : Inputs → List Asn → List StmtTree
-registered_origin i [] = tell i.rs.0 1001 1002 ∷ drop_with 10 ∷ []
+registered_origin i [] = tell i.rs.0 FINDING 1002 ∷ drop_with 10 ∷ []
 registered_origin i (a ∷ asns) = when (compared op.NotIn attr.Last (named (origins_name i.interface))) (drop_with 10 ∷ []) ∷ []
 
 abbrev pub origin_test : Inputs → List StmtTree
-origin_test i = if i.address.irr then registered_origin i i.origins else tell i.rs.0 1001 2 ∷ []
+origin_test i = if i.address.irr then registered_origin i i.origins else tell i.rs.0 FINDING 2 ∷ []
 
 -- the net is in the defined set; no net is in one that would be empty
 abbrev pub net_test : List ℕ → List Pattern → StmtTree
@@ -97,7 +98,7 @@ net_test name [] = drop_with 9
 net_test name (t ∷ ts) = when (compared op.NotIn attr.Net (named name)) (drop_with 9 ∷ [])
 
 abbrev pub told_registered : Inputs → List StmtTree
-told_registered i = if i.address.irr then tell i.rs.0 1001 1 ∷ [] else []
+told_registered i = if i.address.irr then tell i.rs.0 FINDING 1 ∷ [] else []
 
 -- the blackhole routes of a member that isn't held to its lists are in no set
 abbrev pub blackhole_set : Inputs → List Pattern → List Pattern
@@ -108,7 +109,7 @@ abbrev pub blackhole_test : Inputs → List Pattern → Option Addr → List Stm
 blackhole_test i blackholes None = []
 blackhole_test i blackholes (Some a) =
     when (call (codes "ixp_bh") (exprs []))
-    (tell i.rs.0 1000 3
+    (tell i.rs.0 ORIGIN_STATE 3
     ∷ net_test (blackhole_name i.interface) (blackhole_set i blackholes)
     ∷ told_registered i
     ++ accept
@@ -125,17 +126,17 @@ abbrev pub state_test : Inputs → List StmtTree
 state_test i =
     if i.rpki then
     when (state_is i.family Invalid) (drop_with 13 ∷ [])
-    ∷ when (state_is i.family Valid) (tell i.rs.0 1000 1 ∷ accept ∷ [])
-    ∷ tell i.rs.0 1000 2
+    ∷ when (state_is i.family Valid) (tell i.rs.0 ORIGIN_STATE 1 ∷ accept ∷ [])
+    ∷ tell i.rs.0 ORIGIN_STATE 2
     ∷ []
-    else tell i.rs.0 1000 3 ∷ []
+    else tell i.rs.0 ORIGIN_STATE 3 ∷ []
 
 abbrev pub prefix_test : Inputs → List Pattern → List StmtTree
 prefix_test i irr = if i.address.irr then net_test (irr_name i.interface) irr ∷ [] else []
 
 abbrev pub first_tests : Inputs → List StmtTree
 first_tests i =
-    delete_triples (all_large i.rs.0 (1000 ∷ 1001 ∷ 1101 ∷ []))
+    delete_triples (all_large i.rs.0 (ORIGIN_STATE ∷ FINDING ∷ REFUSED ∷ []))
     ∷ run (codes "ixp_net")
     ∷ when (compared op.Ne attr.First (int i.asn.0)) (drop_with 7 ∷ [])
     ∷ next_hop_test i
@@ -144,7 +145,7 @@ first_tests i =
 
 abbrev pub in_body : Inputs → List Pattern → List Pattern → List StmtTree
 in_body i irr blackholes =
-    in_order
+    in_turn
     (first_tests i
     ∷ transit_test i
     ∷ origin_test i
@@ -160,7 +161,7 @@ in_body i irr blackholes =
 -- the way up: what isn't refused passes, with what the member's advertise rules write on it
 abbrev pub up_body : Inputs → List StmtTree
 up_body i =
-    when (compared op.In attr.Triples (all_large i.rs.0 (1101 ∷ []))) (reject ∷ [])
+    when (compared op.In attr.Triples (all_large i.rs.0 (REFUSED ∷ []))) (reject ∷ [])
     ∷ advertise_rules i.rs.0 i.family i.rules
     ++ accept
     ∷ []
@@ -223,7 +224,7 @@ protocols i = pipe_item (pipe_of i) ∷ bgp_item (bgp_of i) ∷ []
 
 abbrev pub fragment : Inputs → List Pattern → List Pattern → List ItemTree
 fragment i irr blackholes =
-    in_order
+    in_turn
     ((table_item (table_kind i.family) (table_name i.interface) ∷ [])
     ∷ member_sets i irr blackholes
     ∷ session_filters i irr blackholes

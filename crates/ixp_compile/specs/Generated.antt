@@ -1,25 +1,20 @@
 -- The whole text of a route server, by the rows of a registry.
-use Rattle.std.specs.Prelude.{ℕ, ◌==◌, ◌&&◌, Bool, true, false, List, [], ◌∷◌, Option, Some, None, filter, filter_map, flat_map}
-use Rattle.ixp_tables.specs.Tables.{put}
-use Rattle.ixp_num.specs.declared.addr.Addr.{Addr}
+use Rattle.std.specs.Prelude.{ℕ, Bool, true, false, List, [], ◌∷◌, None, filter_map, flat_map}
 use Rattle.ixp_num.specs.declared.family.Family.TheVariants.{V4, V6}
 use Rattle.ixp_num.specs.declared.pattern.Pattern.{Pattern}
 use Rattle.ixp_num.specs.declared.roa.Roa.{Roa}
 use Rattle.ixp_num.specs.Families.{bits_of}
 use Rattle.ixp_lang.specs.Trees.{ItemTree, device_item}
-use Rattle.ixp_registry.specs.declared.network.IfAddr.{IfAddr}
-use Rattle.ixp_registry.specs.declared.network.Interface.{Interface}
 use Rattle.ixp_registry.specs.declared.registry.Registry.{Registry}
 use Rattle.ixp_registry.specs.declared.router.Router.{Router}
-use Rattle.ixp_registry.specs.Words.{addr_numbers}
-use Rattle.ixp_registry.specs.Sessions.{Session, address_of, session_at}
+use Rattle.ixp_registry.specs.Sessions.{Session, session_at, member_addresses}
 use Rattle.ixp_pfxset.specs.BlockList.{blocks}
 use Rattle.ixp_pfxset.specs.declared.mode.Mode.{Mode}
 use Rattle.ixp_pfxset.specs.declared.mode.Mode.TheVariants.{Exact, More}
 use Rattle.ixp_policy.specs.Import.{is_listed}
 use Rattle.ixp_compile.specs.declared.inputs.HeaderInputs.{HeaderInputs}
 use Rattle.ixp_compile.specs.declared.inputs.Inputs.{Inputs}
-use Rattle.ixp_compile.specs.Pieces.{in_order, roas}
+use Rattle.ixp_compile.specs.Pieces.{in_turn, roas}
 use Rattle.ixp_compile.specs.Header.{header}
 use Rattle.ixp_compile.specs.Fragment.{fragment}
 
@@ -28,24 +23,6 @@ use Rattle.ixp_compile.specs.Fragment.{fragment}
 abbrev pub header_inputs : Registry → Router → HeaderInputs
 header_inputs r router =
     record { router = router; bogons = r.public.bogons; bogon_as = r.public.bogon_as; transit = r.public.transit }
-
-abbrev pub listed_address : Option IfAddr → List Addr
-listed_address None = []
-listed_address (Some a) = a.addr ∷ []
-
--- the interfaces of the session's member in its VLAN, its own included
-abbrev pub is_beside : Session → Interface → Bool
-is_beside s i = i.member == s.interface.member && i.vlan == s.interface.vlan
-
--- addresses in ascending order
-abbrev pub ascending : List Addr → List Addr
-ascending [] = []
-ascending (a ∷ addrs) = put addr_numbers a (ascending addrs)
-
--- the member's addresses of the router's family in the session's VLAN
-abbrev pub member_addresses : Registry → Router → Session → List Addr
-member_addresses r router s =
-    ascending (flat_map (λ i. listed_address (address_of router.family i)) (filter (is_beside s) r.interfaces))
 
 abbrev pub inputs : Registry → Router → Session → Inputs
 inputs r router s = record {
@@ -98,7 +75,7 @@ session_part i = fragment i (allowed_set i) (covered_set i)
 -- the text of a router: the head, its sessions' parts and the foot
 abbrev pub generated : Registry → Router → List ItemTree
 generated r router =
-    in_order
+    in_turn
     (header (header_inputs r router)
     ∷ flat_map (λ s. session_part (inputs r router s)) (router_sessions r router)
     ∷ footer
@@ -106,4 +83,4 @@ generated r router =
 
 -- a session's own text: the head, its part and the foot
 abbrev pub own_part : Registry → Router → Session → List ItemTree
-own_part r router s = in_order (header (header_inputs r router) ∷ session_part (inputs r router s) ∷ footer ∷ [])
+own_part r router s = in_turn (header (header_inputs r router) ∷ session_part (inputs r router s) ∷ footer ∷ [])

@@ -8,6 +8,7 @@ use Rattle.ixp_num.specs.declared.family.Family.{Family}
 use Rattle.ixp_num.specs.declared.family.Family.TheVariants.{V4}
 use Rattle.ixp_num.specs.declared.pattern.Pattern.{Pattern}
 use Rattle.ixp_num.specs.Families.{bits_of, same_family}
+use Rattle.ixp_lang.specs.declared.communities.TheConstants.{BLACKHOLE, FINDING, KEEP_FROM, ORIGIN_STATE, PREPEND_ONCE, PREPEND_THRICE, PREPEND_TWICE, REFUSED, SEND_TO}
 use Rattle.ixp_lang.specs.declared.expr.Attr.TheVariants as attr
 use Rattle.ixp_lang.specs.declared.expr.Op.TheVariants as op
 use Rattle.ixp_lang.specs.declared.item.Ty.TheVariants.{Int}
@@ -16,7 +17,7 @@ use Rattle.ixp_lang.specs.declared.value.Value.TheVariants as value
 use Rattle.ixp_lang.specs.Trees.{ExprTree, literal, named, attribute, call, pair, triple, set_literal, negation, conjunction, comparison, exprs, StmtTree, return_value, accept, set_next_hop, prepend, delete_pairs, add_triple, delete_triples, stmts, ItemTree, router_id_item, table_item, function_item, filter_item}
 use Rattle.ixp_registry.specs.declared.router.Router.{Router}
 use Rattle.ixp_compile.specs.declared.inputs.HeaderInputs.{HeaderInputs}
-use Rattle.ixp_compile.specs.Pieces.{int, truth_value, compared, all_large, numbers, when, drop_with, in_order, defined, where_any, master, roas, table_kind, roa_kind}
+use Rattle.ixp_compile.specs.Pieces.{int, truth_value, compared, all_large, numbers, when, drop_with, in_turn, defined, where_any, master, roas, table_kind, roa_kind}
 
 -- a BGP identifier, a number of 32 bits, as it is written: an IPv4 address (RFC 6286)
 abbrev pub identifier : ℕ → Addr
@@ -27,7 +28,7 @@ identifier id = record { family = V4; value = id % 2 ^ 32; fits = mod-lt id {m =
 abbrev pub bogons_of : HeaderInputs → List Pattern
 bogons_of h = filter (λ t. same_family t.prefix.family h.router.family) h.bogons
 
--- the range with those behind it, joined with each that overlaps it; ranges that only touch stay apart
+-- the range with those after it, joined with each that overlaps it; ranges that only touch stay apart
 abbrev pub joined_to : ℕ → ℕ → List (Asn × Asn) → List (ℕ × ℕ)
 joined_to first last [] = (first, last) ∷ []
 joined_to first last (r ∷ rs) =
@@ -35,22 +36,22 @@ joined_to first last (r ∷ rs) =
 
 -- Ranges of AS numbers, which ascend by their first numbers, without overlaps: a set of numbers is held as a tree of ranges,
 -- in which one that overlaps another may not be found.
-abbrev pub joined : List (Asn × Asn) → List (ℕ × ℕ)
-joined [] = []
-joined (r ∷ rs) = joined_to r.0.0 r.1.0 rs
+abbrev pub joined_ranges : List (Asn × Asn) → List (ℕ × ℕ)
+joined_ranges [] = []
+joined_ranges (r ∷ rs) = joined_to r.0.0 r.1.0 rs
 
 -- Functions.
 
 -- tells the number with which the route is refused, and ends the filter
 abbrev pub drop_body : ℕ → List StmtTree
-drop_body rs = add_triple (triple (int rs) (int 1101) (named (codes "n"))) ∷ accept ∷ []
+drop_body rs = add_triple (triple (int rs) (int REFUSED) (named (codes "n"))) ∷ accept ∷ []
 
 -- whether the route's traffic is to be dropped (RFC 7999)
 abbrev pub blackhole_body : Family → List StmtTree
 blackhole_body family =
     when
     (conjunction
-    (exprs (compared op.Eq attr.NetLen (int (bits_of family)) ∷ comparison op.In (literal (value.Pair 65535 666)) (attribute attr.Pairs) ∷ [])))
+    (exprs (compared op.Eq attr.NetLen (int (bits_of family)) ∷ comparison op.In (literal (value.Pair BLACKHOLE.0 BLACKHOLE.1)) (attribute attr.Pairs) ∷ [])))
     (return_value (truth_value true) ∷ [])
     ∷ return_value (truth_value false)
     ∷ []
@@ -86,7 +87,7 @@ net_body h =
 -- numbers that may stand in no path
 abbrev pub bogon_as_body : HeaderInputs → List StmtTree
 bogon_as_body h =
-    where_any (joined h.bogon_as) (when (compared op.In attr.Path (named (codes "ixp_bogon_as"))) (drop_with 4 ∷ []) ∷ [])
+    where_any (joined_ranges h.bogon_as) (when (compared op.In attr.Path (named (codes "ixp_bogon_as"))) (drop_with 4 ∷ []) ∷ [])
 
 -- networks that buy no transit
 abbrev pub transit_body : HeaderInputs → List StmtTree
@@ -126,10 +127,10 @@ pair_answers rs =
 -- whether the route's communities send it to the peer
 abbrev pub sends_body : ℕ → List StmtTree
 sends_body rs =
-    answers (asks_peer rs 0) false
-    ∷ answers (asks_peer rs 1) true
-    ∷ answers (asks_all rs 0) false
-    ∷ answers (asks_all rs 1) true
+    answers (asks_peer rs KEEP_FROM) false
+    ∷ answers (asks_peer rs SEND_TO) true
+    ∷ answers (asks_all rs KEEP_FROM) false
+    ∷ answers (asks_all rs SEND_TO) true
     ∷ pair_answers rs
     ++ return_value (truth_value true)
     ∷ []
@@ -137,13 +138,13 @@ sends_body rs =
 -- how often they put the sender's number in front
 abbrev pub count_body : ℕ → List StmtTree
 count_body rs =
-    counts (asks_peer rs 103) 3
-    ∷ counts (asks_peer rs 102) 2
-    ∷ counts (asks_peer rs 101) 1
-    ∷ counts (asks_peer rs 1) 0
-    ∷ counts (asks_all rs 103) 3
-    ∷ counts (asks_all rs 102) 2
-    ∷ counts (asks_all rs 101) 1
+    counts (asks_peer rs PREPEND_THRICE) 3
+    ∷ counts (asks_peer rs PREPEND_TWICE) 2
+    ∷ counts (asks_peer rs PREPEND_ONCE) 1
+    ∷ counts (asks_peer rs SEND_TO) 0
+    ∷ counts (asks_all rs PREPEND_THRICE) 3
+    ∷ counts (asks_all rs PREPEND_TWICE) 2
+    ∷ counts (asks_all rs PREPEND_ONCE) 1
     ∷ return_value (int 0)
     ∷ []
 
@@ -164,9 +165,9 @@ pairs_taken_away rs = if nat_le rs 65535 then delete_pairs (set_literal (set.Pai
 
 abbrev pub out_body : ℕ → Option Addr → List StmtTree
 out_body rs blackhole =
-    in_order
+    in_turn
     (blackhole_hop blackhole
-    ∷ (delete_triples (all_large rs (0 ∷ 1 ∷ 101 ∷ 102 ∷ 103 ∷ 1000 ∷ 1001 ∷ 1101 ∷ [])) ∷ [])
+    ∷ (delete_triples (all_large rs (KEEP_FROM ∷ SEND_TO ∷ PREPEND_ONCE ∷ PREPEND_TWICE ∷ PREPEND_THRICE ∷ ORIGIN_STATE ∷ FINDING ∷ REFUSED ∷ [])) ∷ [])
     ∷ pairs_taken_away rs
     ∷ (accept ∷ [])
     ∷ [])
@@ -182,9 +183,9 @@ tables router =
 
 abbrev pub public_sets : HeaderInputs → List ItemTree
 public_sets h =
-    in_order
+    in_turn
     (defined (codes "ixp_bogons") set.Prefixes (bogons_of h)
-    ∷ defined (codes "ixp_bogon_as") set.Ints (joined h.bogon_as)
+    ∷ defined (codes "ixp_bogon_as") set.Ints (joined_ranges h.bogon_as)
     ∷ defined (codes "ixp_transit_as") numbers h.transit
     ∷ [])
 
@@ -202,4 +203,4 @@ shared_functions h =
     ∷ []
 
 abbrev pub header : HeaderInputs → List ItemTree
-header h = in_order (tables h.router ∷ public_sets h ∷ shared_functions h ∷ [])
+header h = in_turn (tables h.router ∷ public_sets h ∷ shared_functions h ∷ [])

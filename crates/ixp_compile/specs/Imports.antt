@@ -10,7 +10,7 @@ use Rattle.ixp_registry.specs.declared.registry.Registry.{Registry}
 use Rattle.ixp_registry.specs.declared.router.Router.{Router}
 use Rattle.ixp_registry.specs.Sessions.{Session}
 use Rattle.ixp_policy.specs.Blackholes.{is_host_net}
-use Rattle.ixp_policy.specs.Import.{is_allowed, is_covered_by}
+use Rattle.ixp_policy.specs.Import.{is_registered, is_covered_by}
 use Rattle.ixp_compile.specs.Fragment.{irr_name, origins_name, blackhole_name}
 use Rattle.ixp_compile.specs.Pieces.{numbers, roas}
 use Rattle.ixp_compile.specs.Shared.{IsNamed}
@@ -23,7 +23,7 @@ pub record Sees (r : Registry) (router : Router) (s : Session) (env : Environmen
 -- The sets of nets match what the member's prefixes allow: `irr` the nets that the router takes, `blackholes` single addresses.
 pub record Allows (router : Router) (s : Session) (irr blackholes : List Pattern) : Type 0 where
   pub registered : (route : Route) → route.net.family ≡ router.family → nat_le route.net.len router.high ≡ true
-      → is_in_set irr route.net ≡ is_allowed s route
+      → is_in_set irr route.net ≡ is_registered s route
   pub covered : (route : Route) → route.net.family ≡ router.family → is_host_net route.net ≡ true
       → is_in_set blackholes route.net ≡ is_covered_by route.net s.prefixes
 

@@ -6,6 +6,7 @@ use Rattle.ixp_num.specs.declared.family.Family.{Family}
 use Rattle.ixp_num.specs.declared.pattern.Pattern.{Pattern}
 use Rattle.ixp_num.specs.declared.prefix.Prefix.{Prefix}
 use Rattle.ixp_num.specs.Families.{bits_of, same_family}
+use Rattle.ixp_lang.specs.declared.communities.TheConstants.{KEEP_FROM, PREPEND_ONCE, PREPEND_THRICE, PREPEND_TWICE, SEND_TO}
 use Rattle.ixp_lang.specs.declared.expr.Attr.TheVariants as attr
 use Rattle.ixp_lang.specs.declared.expr.Op.TheVariants as op
 use Rattle.ixp_lang.specs.declared.value.SetLit.TheVariants as set
@@ -48,7 +49,7 @@ number_or_0 (Some p) = p.0
 
 -- the second parts of the large communities that steer
 abbrev pub steering_actions : List ℕ
-steering_actions = 0 ∷ 1 ∷ 101 ∷ 102 ∷ 103 ∷ []
+steering_actions = KEEP_FROM ∷ SEND_TO ∷ PREPEND_ONCE ∷ PREPEND_TWICE ∷ PREPEND_THRICE ∷ []
 
 -- where both numbers fit communities of two parts
 abbrev pub pairs_rewritten : ℕ → Option Asn → List StmtTree

@@ -53,9 +53,9 @@ tell rs a b = add_triple (literal (value.Triple rs a b))
 -- Parts.
 
 -- these parts one after the other
-abbrev pub in_order : {A : Type 0} → List (List A) → List A
-in_order [] = []
-in_order (part ∷ parts) = part ++ in_order parts
+abbrev pub in_turn : {A : Type 0} → List (List A) → List A
+in_turn [] = []
+in_turn (part ∷ parts) = part ++ in_turn parts
 
 -- Lists that may be empty: the text has no empty set.
 

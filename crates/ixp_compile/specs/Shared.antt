@@ -3,6 +3,7 @@ use Rattle.std.specs.Prelude.{◌≡◌, ◌<◌, ◌≤◌, ℕ, Bool, true, Li
 use Rattle.std.specs.List.{list_any, AllByRecursion}
 use Rattle.std.specs.Option.{is_some}
 use Rattle.ixp_num.specs.declared.asn.Asn.{Asn}
+use Rattle.ixp_lang.specs.declared.communities.TheConstants.{REFUSED}
 use Rattle.ixp_lang.specs.declared.route.Route.{Route}
 use Rattle.ixp_lang.specs.declared.value.SetLit.{SetLit}
 use Rattle.ixp_lang.specs.declared.value.Value.TheVariants as value
@@ -13,13 +14,13 @@ use Rattle.ixp_registry.specs.declared.registry.Registry.{Registry}
 use Rattle.ixp_registry.specs.declared.router.Router.{Router}
 use Rattle.ixp_policy.specs.Blackholes.{is_blackhole}
 use Rattle.ixp_policy.specs.Export.{hop_of, is_for_server, is_of_server}
-use Rattle.ixp_policy.specs.Import.{is_too_long, is_too_short, is_bogon, has_no_path, has_long_path, has_many_communities, brought_triples, has_bogon_as, is_listed}
+use Rattle.ixp_policy.specs.Import.{prefix_too_long, prefix_too_short, prefix_is_bogon, path_empty, path_too_long, too_many_communities, brought_triples, bogon_as_in_path, is_listed}
 
 -- Refusals.
 
 -- the filter ends: the route is accepted as it is, with the number that refuses it
 abbrev pub refused_with : ℕ → ℕ → Route → End
-refused_with rs n route = accepts (with_triple (value.Triple rs 1101 n) route)
+refused_with rs n route = accepts (with_triple (value.Triple rs REFUSED n) route)
 
 -- the number of the first sentence that holds
 abbrev pub first_number : List (Bool × ℕ) → Option ℕ
@@ -35,16 +36,16 @@ stops rs (Some n) route = refused_with rs n route
 abbrev pub net_refusal : Registry → Router → Route → Option ℕ
 net_refusal r router route =
     first_number
-    ((is_too_long router route, 1)
-    ∷ (is_too_short router route, 2)
-    ∷ (is_bogon r route, 3)
-    ∷ (has_no_path route, 6)
-    ∷ (has_long_path route, 5)
-    ∷ (has_many_communities router route, 15)
+    ((prefix_too_long router route, 1)
+    ∷ (prefix_too_short router route, 2)
+    ∷ (prefix_is_bogon r route, 3)
+    ∷ (path_empty route, 6)
+    ∷ (path_too_long route, 5)
+    ∷ (too_many_communities router route, 15)
     ∷ [])
 
 abbrev pub bogon_as_refusal : Registry → Route → Option ℕ
-bogon_as_refusal r route = first_number ((has_bogon_as r route, 4) ∷ [])
+bogon_as_refusal r route = first_number ((bogon_as_in_path r route, 4) ∷ [])
 
 -- a number of the path is that of a network that buys no transit
 abbrev pub has_transit_as : Registry → Route → Bool

@@ -11,7 +11,7 @@ ghost use Rattle.ixp_registry.specs.declared.registry.Registry.{Registry};
 ghost use Rattle.ixp_registry.specs.declared.router.Router.{Router};
 ghost use Rattle.ixp_policy.specs.Blackholes.{is_blackhole};
 ghost use Rattle.ixp_compile.specs.Generated.{header_inputs};
-ghost use Rattle.ixp_compile.specs.Header.{blackhole_body, bogon_as_body, bogons_of, count_body, drop_body, header, joined, net_body, out_body, pad_body, sends_body, transit_body};
+ghost use Rattle.ixp_compile.specs.Header.{blackhole_body, bogon_as_body, bogons_of, count_body, drop_body, header, joined_ranges, net_body, out_body, pad_body, sends_body, transit_body};
 ghost use Rattle.ixp_compile.specs.Pieces.{numbers};
 ghost use Rattle.ixp_compile.specs.Shared.{Drops, HasNoReports, HeadStands, IsNamed, Shared, TellsBlackholes, bogon_as_refusal, cleaned, net_refusal, padded, refused_with, stops, transit_refusal};
 
@@ -38,7 +38,7 @@ pub fn net_refuses()
 /// `ixp_as` refuses a path with a number that may stand in none.
 pub fn bogon_as_refuses()
     ensures { (env : Environment) (k : Known) (r : Registry) (router : Router) (route : Route) → HeadStands r router →
-        Drops router.asn.0 k → IsNamed k (codes "ixp_bogon_as") Ints (joined r.public.bogon_as) →
+        Drops router.asn.0 k → IsNamed k (codes "ixp_bogon_as") Ints (joined_ranges r.public.bogon_as) →
         body_of env k [] (stmts (bogon_as_body (header_inputs r router))) route ≡ stops router.asn.0 (bogon_as_refusal r route) route }
 {}
 

@@ -1,33 +1,12 @@
 //! What expressions read of a route.
 ghost use Rattle.std.specs.Prelude.{◌≡◌, IfOk, Some, map};
-ghost use Rattle.ixp_lang.specs.Attributes.{attribute_of, count, first_of, last_of, pairs_value, path_value, triples_value};
+ghost use Rattle.ixp_lang.specs.Attributes.{attribute_of, count, pairs_value, path_value, triples_value};
 ghost use Rattle.ixp_eval.specs.Views.{val_of};
 
 use crate::val::Val;
 use ixp_lang::{Attr, Route, SetLit};
 use ixp_num::{Addr, Asn, Items};
 use std::alloc::{AllocError, Global};
-
-/// The latest AS of a path, 0 where it is empty.
-fn first_of(path: &[Asn]) -> u32
-    ensures { result ≡ first_of path.now }
-{
-    match path.first() {
-        Some(a) => a.0,
-        None => 0,
-    }
-}
-
-/// The origin, 0 where the path is empty.
-fn last_of(path: &[Asn]) -> u32
-    ensures { result ≡ last_of path.now }
-{
-    let mut last = 0;
-    for a in path {
-        last = a.0;
-    }
-    last
-}
 
 /// A length as a number of the language.
 fn count(n: usize) -> u32
@@ -96,8 +75,8 @@ pub fn attribute_of<'a>(
         Attr::From => Ok(Val::Ip(from)),
         Attr::NextHop => Ok(Val::Ip(route.next_hop)),
         Attr::Path => path_value(alloc, route.path.as_slice()),
-        Attr::First => Ok(Val::Int(first_of(route.path.as_slice()))),
-        Attr::Last => Ok(Val::Int(last_of(route.path.as_slice()))),
+        Attr::First => Ok(Val::Int(route.first())),
+        Attr::Last => Ok(Val::Int(route.origin())),
         Attr::Len => Ok(Val::Int(count(route.path.len()))),
         Attr::Pairs => pairs_value(alloc, route.pairs.as_slice()),
         Attr::PairsLen => Ok(Val::Int(count(route.pairs.len()))),

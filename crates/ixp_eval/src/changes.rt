@@ -84,30 +84,16 @@ fn prepend(alloc: Global, value: &Val<'_>, route: &mut Route) -> Result<(), Allo
     Ok(())
 }
 
-/// Whether the list has the pair.
-fn has_pair(a: u32, b: u32, pairs: &[(u32, u32)]) -> bool
-    ensures { result ≡ list_any (λ p. p.0 == a && p.1 == b) pairs.now }
-{
-    pairs.iter().any(|p| p.0 == a && p.1 == b)
-}
-
 /// `bgp_community.add`
 fn add_pair(value: &Val<'_>, route: &mut Route) -> Result<(), AllocError>
     ensures { OnOk result (route.new ≡ with_pair (val_of value.now) route.old) }
 {
     if let Val::Pair(a, b) = value {
-        if !has_pair(*a, *b, route.pairs.as_slice()) {
+        if !route.has_pair(*a, *b) {
             route.pairs.push((*a, *b))?;
         }
     }
     Ok(())
-}
-
-/// Whether the list has the triple.
-fn has_triple(a: u32, b: u32, c: u32, triples: &[(u32, u32, u32)]) -> bool
-    ensures { result ≡ list_any (λ t. t.0 == a && t.1 == b && t.2 == c) triples.now }
-{
-    triples.iter().any(|t| t.0 == a && t.1 == b && t.2 == c)
 }
 
 /// `bgp_large_community.add`
@@ -115,7 +101,7 @@ fn add_triple(value: &Val<'_>, route: &mut Route) -> Result<(), AllocError>
     ensures { OnOk result (route.new ≡ with_triple (val_of value.now) route.old) }
 {
     if let Val::Triple(a, b, c) = value {
-        if !has_triple(*a, *b, *c, route.triples.as_slice()) {
+        if !route.has_triple(*a, *b, *c) {
             route.triples.push((*a, *b, *c))?;
         }
     }

@@ -1,10 +1,10 @@
 //! Members of sets.
 ghost use Rattle.std.specs.Prelude.{◌≡◌, ◌&&◌, ◌==◌};
 ghost use Rattle.std.specs.List.{list_any};
-ghost use Rattle.ixp_num.specs.Prefixes.{is_in_set};
-ghost use Rattle.ixp_lang.specs.Attributes.{fits_part, in_pairs, in_ranges, in_triples, pair_in, same_addr, triple_in};
+ghost use Rattle.ixp_num.specs.Prefixes.{is_in_set, same_addr};
+ghost use Rattle.ixp_lang.specs.Attributes.{fits_part, in_pairs, in_ranges, in_triples, pair_in, triple_in};
 
-use ixp_num::{Addr, Pattern, Prefix};
+use ixp_num::{Addr, Pattern, Prefix, same_addr};
 
 /// Whether the number lies in a range.
 pub fn in_ranges(n: u32, ranges: &[(u32, u32)]) -> bool
@@ -17,9 +17,7 @@ pub fn in_ranges(n: u32, ranges: &[(u32, u32)]) -> bool
 pub fn in_addrs(a: &Addr, addrs: &[Addr]) -> bool
     ensures { result ≡ list_any (λ b. same_addr a.now b) addrs.now }
 {
-    addrs
-        .iter()
-        .any(|b| a.family == b.family && a.value == b.value)
+    addrs.iter().any(|b| same_addr(a, b))
 }
 
 /// Whether a pattern matches the prefix.

@@ -2,7 +2,7 @@
 ghost use Rattle.std.specs.Prelude.{◌≡◌, map};
 ghost use Rattle.std.specs.Option.{option_copied};
 ghost use Rattle.ixp_lang.specs.Views.{config_view, item_view};
-ghost use Rattle.ixp_lang.specs.Walks.{pipe_between, pipe_from, pipes_of, received, sent_to, session_named, sessions_of, through, to_primary, walk};
+ghost use Rattle.ixp_lang.specs.Walks.{pipe_between, pipe_from, pipes_of, sent_through, sent_to, session_named, bgp_sessions, through, to_primary, walk};
 ghost use Rattle.ixp_eval.specs.Answers.{Gives};
 ghost use Rattle.ixp_eval.specs.Views.{environment_of};
 
@@ -18,7 +18,7 @@ use std::alloc::Global;
 
 /// The session of the name.
 pub fn session_named<'a>(items: &'a [Item], name: &Name) -> Option<&'a Bgp>
-    ensures { option_copied result ≡ session_named (sessions_of (map item_view items.now)) name.now }
+    ensures { option_copied result ≡ session_named (bgp_sessions (map item_view items.now)) name.now }
 {
     'items: for item in items {
         if let Item::Bgp(b) = item
@@ -86,7 +86,7 @@ fn received(
     route: &Route,
     env: &Env<'_>,
 ) -> Result<Option<Route>, EvalFault>
-    ensures { Gives result (received (environment_of env.now) (config_view c.now) primary.now receiver.now route.now) }
+    ensures { Gives result (sent_through (environment_of env.now) (config_view c.now) primary.now receiver.now route.now) }
 {
     let Some(pipe) = pipe_between(c.items.as_slice(), primary, &receiver.table) else {
         return Ok(None);
@@ -109,7 +109,7 @@ fn sent_to(
     route: &Route,
     env: &Env<'_>,
 ) -> Result<Items<(Name, Option<Route>)>, EvalFault>
-    ensures { Gives result (sent_to (environment_of env.now) (config_view c.now) sender.now primary.now (sessions_of (config_view c.now)) route.now) }
+    ensures { Gives result (sent_to (environment_of env.now) (config_view c.now) sender.now primary.now (bgp_sessions (config_view c.now)) route.now) }
 {
     let mut sent = Items::new(alloc);
     'items: for item in c.items.as_slice() {

@@ -11,4 +11,5 @@ pub mod RouteItems
 pub mod RouteListTexts
 pub mod RouteLists
 pub mod RouteStops
+pub mod Sequences
 pub mod TableNames

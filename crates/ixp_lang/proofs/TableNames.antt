@@ -16,7 +16,7 @@ use Rattle.ixp_lang.specs.declared.item.Bgp.{Bgp}
 use Rattle.ixp_lang.specs.Attributes.{compares, truth, number, has_label, checked, with_next_hop, prepended, with_pair, with_triple, without_pairs, without_triples}
 use Rattle.ixp_lang.specs.Trees.{ExprTree, literal, named, attribute, call, roa_check, pair, triple, set_literal, negation, conjunction, disjunction, comparison, ExprTrees, exprs_end, exprs_more, StmtTree, block, if_then, case_of, return_value, accept, reject, call_statement, set_next_hop, prepend, add_pair, delete_pairs, add_triple, delete_triples, StmtTrees, stmts_end, stmts_more, ArmTrees, arms_end, arms_more, ItemTree, router_id_item, table_item, define_item, function_item, filter_item, device_item, pipe_item, bgp_item}
 use Rattle.ixp_lang.specs.Meaning.{Environment, End, falls, returns, Known, Params, same_name, roas_named, bind, for_value, for_effect, value_named, pair_of, means, means_all, means_each, means_some, runs, runs_all, runs_arms, after, known, filter_of, filter_found, filter_end, must_end}
-use Rattle.ixp_lang.specs.Walks.{◌>>=◌, sessions_of, pipes_of, session_named, pipe_from, pipe_between, kept, through, sent_out, from_pipe, into_pipe, received, sent_to, in_primary, to_primary, in_table, brought, walk_from, walk}
+use Rattle.ixp_lang.specs.Walks.{◌>>=◌, bgp_sessions, pipes_of, session_named, pipe_from, pipe_between, kept, through, sent_out, from_pipe, into_pipe, sent_through, sent_to, in_primary, to_primary, in_table, brought, walk_from, walk}
 
 module _ (from : Addr) (a b : List (List ℕ × List Roa)) (same : (n : List ℕ) → roas_named a n ≡ roas_named b n) where
   abbrev one : Environment
@@ -116,7 +116,7 @@ module _ (from : Addr) (a b : List (List ℕ × List Roa)) (same : (n : List ℕ
     into_pipe_same receiver None = refl
     into_pipe_same receiver (Some q) = λ i r. through_same q.export i r >>= (λ v. from_pipe_same receiver v i)
 
-    received_same : (primary : List ℕ) (receiver : Bgp) → received one items primary receiver ≡ received other items primary receiver
+    received_same : (primary : List ℕ) (receiver : Bgp) → sent_through one items primary receiver ≡ sent_through other items primary receiver
     received_same primary receiver = into_pipe_same receiver (pipe_between (pipes_of items) primary receiver.table)
 
     sent_same : (sender primary : List ℕ) (bs : List Bgp) (r : Route) → sent_to one items sender primary bs r ≡ sent_to other items sender primary bs r
@@ -128,7 +128,7 @@ module _ (from : Addr) (a b : List (List ℕ × List Roa)) (same : (n : List ℕ
     in_primary_same : (sender : Bgp) (q : Pipe) (r : Route) (v : Verdict) → in_primary one items sender q r v ≡ in_primary other items sender q r v
     in_primary_same sender q r Reject = refl
     in_primary_same sender q r (Accept t) =
-        λ i. sent_same sender.name q.table (sessions_of items) t i >>= λ xs. Ok (record { table = Some r; passed = true; sent = xs })
+        λ i. sent_same sender.name q.table (bgp_sessions items) t i >>= λ xs. Ok (record { table = Some r; passed = true; sent = xs })
 
     to_primary_same : (sender : Bgp) (o : Option Pipe) (r : Route) → to_primary one items sender o r ≡ to_primary other items sender o r
     to_primary_same sender None r = refl
@@ -150,4 +150,4 @@ walk_from_same items a b same session (Some x) r = brought_same x.neighbor a b s
 pub walk_same :
     (items : List ItemTree) (a b : List (List ℕ × List Roa)) (session : List ℕ) (r : Route)
     → ((n : List ℕ) → roas_named a n ≡ roas_named b n) → walk items a session r ≡ walk items b session r
-walk_same items a b session r same = walk_from_same items a b same session (session_named (sessions_of items) session) r
+walk_same items a b session r same = walk_from_same items a b same session (session_named (bgp_sessions items) session) r

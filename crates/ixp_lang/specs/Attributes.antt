@@ -9,8 +9,7 @@ use Rattle.ixp_num.specs.declared.prefix.Prefix.{Prefix}
 use Rattle.ixp_num.specs.declared.roa.Roa.{Roa}
 use Rattle.ixp_num.specs.declared.roa.Validity.{Validity}
 use Rattle.ixp_num.specs.declared.roa.Validity.TheVariants.{Valid, Invalid, Unknown}
-use Rattle.ixp_num.specs.Families.{same_family}
-use Rattle.ixp_num.specs.Prefixes.{is_in_set}
+use Rattle.ixp_num.specs.Prefixes.{same_addr, same_prefix, is_in_set}
 use Rattle.ixp_num.specs.Roas.{validity}
 use Rattle.ixp_lang.specs.declared.route.Route.{Route}
 use Rattle.ixp_lang.specs.declared.value.Value.{Value}
@@ -28,12 +27,6 @@ use Rattle.ixp_lang.specs.declared.stmt.Label.TheVariants.{Range, State}
 abbrev pub same_bool : Bool → Bool → Bool
 same_bool true b = b
 same_bool false b = not b
-
-abbrev pub same_addr : Addr → Addr → Bool
-same_addr a b = same_family a.family b.family && a.value == b.value
-
-abbrev pub same_prefix : Prefix → Prefix → Bool
-same_prefix p q = same_family p.family q.family && p.value == q.value && p.len == q.len
 
 abbrev pub same_state : Validity → Validity → Bool
 same_state Valid Valid = true

@@ -4,9 +4,10 @@ pub mod Meaning
 pub mod RouteAnswers
 pub mod RouteReading
 pub mod RouteTexts
+pub mod Samples
+pub mod Sequence
 pub mod Steering
 pub mod Texts
 pub mod Trees
-pub mod Trials
 pub mod Views
 pub mod Walks

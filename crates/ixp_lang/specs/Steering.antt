@@ -4,6 +4,7 @@
 use Rattle.std.specs.Prelude.{ℕ, Bool, true, false, ◌&&◌, ◌==◌, nat_le, List, [], ◌∷◌, if◌then◌else◌}
 use Rattle.std.specs.List.{list_any}
 use Rattle.ixp_lang.specs.declared.route.Route.{Route}
+use Rattle.ixp_lang.specs.declared.communities.TheConstants.{KEEP_FROM, SEND_TO, PREPEND_ONCE, PREPEND_TWICE, PREPEND_THRICE}
 
 -- the route has the community `a:b`
 abbrev pub has_pair : Route → ℕ → ℕ → Bool
@@ -26,10 +27,10 @@ fit_pairs rs to = nat_le rs 65535 && nat_le to 65535
 abbrev pub sends : ℕ → Route → ℕ → Bool
 sends rs r to =
     first_line (
-    (has_triple r rs 0 to, false)
-    ∷ (has_triple r rs 1 to, true)
-    ∷ (has_triple r rs 0 0, false)
-    ∷ (has_triple r rs 1 0, true)
+    (has_triple r rs KEEP_FROM to, false)
+    ∷ (has_triple r rs SEND_TO to, true)
+    ∷ (has_triple r rs KEEP_FROM 0, false)
+    ∷ (has_triple r rs SEND_TO 0, true)
     ∷ (fit_pairs rs to && has_pair r 0 to, false)
     ∷ (fit_pairs rs to && has_pair r rs to, true)
     ∷ (fit_pairs rs to && has_pair r 0 rs, false)
@@ -42,12 +43,12 @@ sends rs r to =
 abbrev pub prepends : ℕ → Route → ℕ → ℕ
 prepends rs r to =
     first_line (
-    (has_triple r rs 103 to, 3)
-    ∷ (has_triple r rs 102 to, 2)
-    ∷ (has_triple r rs 101 to, 1)
-    ∷ (has_triple r rs 1 to, 0)
-    ∷ (has_triple r rs 103 0, 3)
-    ∷ (has_triple r rs 102 0, 2)
-    ∷ (has_triple r rs 101 0, 1)
+    (has_triple r rs PREPEND_THRICE to, 3)
+    ∷ (has_triple r rs PREPEND_TWICE to, 2)
+    ∷ (has_triple r rs PREPEND_ONCE to, 1)
+    ∷ (has_triple r rs SEND_TO to, 0)
+    ∷ (has_triple r rs PREPEND_THRICE 0, 3)
+    ∷ (has_triple r rs PREPEND_TWICE 0, 2)
+    ∷ (has_triple r rs PREPEND_ONCE 0, 1)
     ∷ [])
     0

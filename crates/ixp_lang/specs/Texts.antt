@@ -5,6 +5,7 @@ use Rattle.ixp_num.specs.Printing.{addr_text, prefix_text}
 use Rattle.ixp_text.specs.Joined.{more_joined}
 use Rattle.ixp_lang.specs.declared.route.Route.{Route}
 use Rattle.ixp_lang.specs.declared.fate.Fate.{Fate}
+use Rattle.ixp_lang.specs.declared.communities.TheConstants.{REFUSED}
 
 -- a list with commas, or `-` where it is empty
 abbrev pub list_text : {A : Type 0} → (A → List ℕ) → List A → List ℕ
@@ -34,7 +35,7 @@ route_text r = prefix_text r.net ++ codes " " ++ attributes_text r
 -- the third part of the first large community (asn, 1101, n): why a route server stopped the route
 abbrev pub reason_of : ℕ → List (ℕ × ℕ × ℕ) → Option ℕ
 reason_of asn [] = None
-reason_of asn (t ∷ ts) = if t.0 == asn && t.1 == 1101 then Some t.2 else reason_of asn ts
+reason_of asn (t ∷ ts) = if t.0 == asn && t.1 == REFUSED then Some t.2 else reason_of asn ts
 
 abbrev pub stopped_text : Option ℕ → List ℕ
 stopped_text None = codes "stopped\n"

@@ -21,16 +21,16 @@ abbrev pub ◌>>=◌ : {A B : Type 0} → Result A Fault → (A → Result B Fau
 (Err e) >>= f = Err e
 
 -- the sessions and the pipes, in the order of the text
-abbrev pub sessions_of : List ItemTree → List Bgp
-sessions_of [] = []
-sessions_of (bgp_item b ∷ is) = b ∷ sessions_of is
-sessions_of (router_id_item a ∷ is) = sessions_of is
-sessions_of (table_item t n ∷ is) = sessions_of is
-sessions_of (define_item n e ∷ is) = sessions_of is
-sessions_of (function_item n ps ss ∷ is) = sessions_of is
-sessions_of (filter_item n ss ∷ is) = sessions_of is
-sessions_of (device_item n ∷ is) = sessions_of is
-sessions_of (pipe_item p ∷ is) = sessions_of is
+abbrev pub bgp_sessions : List ItemTree → List Bgp
+bgp_sessions [] = []
+bgp_sessions (bgp_item b ∷ is) = b ∷ bgp_sessions is
+bgp_sessions (router_id_item a ∷ is) = bgp_sessions is
+bgp_sessions (table_item t n ∷ is) = bgp_sessions is
+bgp_sessions (define_item n e ∷ is) = bgp_sessions is
+bgp_sessions (function_item n ps ss ∷ is) = bgp_sessions is
+bgp_sessions (filter_item n ss ∷ is) = bgp_sessions is
+bgp_sessions (device_item n ∷ is) = bgp_sessions is
+bgp_sessions (pipe_item p ∷ is) = bgp_sessions is
 
 abbrev pub pipes_of : List ItemTree → List Pipe
 pipes_of [] = []
@@ -86,20 +86,20 @@ module _ (env : Environment) (items : List ItemTree) where
   into_pipe receiver (Some p) r = through p.export r >>= from_pipe receiver
 
   -- what a session is sent of a route in the primary table: what the pipe to its table and its own export let through
-  abbrev pub received : List ℕ → Bgp → Route → Result (Option Route) Fault
-  received primary receiver r = into_pipe receiver (pipe_between (pipes_of items) primary receiver.table) r
+  abbrev pub sent_through : List ℕ → Bgp → Route → Result (Option Route) Fault
+  sent_through primary receiver r = into_pipe receiver (pipe_between (pipes_of items) primary receiver.table) r
 
   -- what each session but the sender is sent
   abbrev pub sent_to : List ℕ → List ℕ → List Bgp → Route → Result (List (List ℕ × Option Route)) Fault
   sent_to sender primary [] r = Ok []
   sent_to sender primary (b ∷ bs) r =
       if same_name b.name sender then sent_to sender primary bs r
-      else (received primary b r >>= λ x. sent_to sender primary bs r >>= λ xs. Ok ((b.name, x) ∷ xs))
+      else (sent_through primary b r >>= λ x. sent_to sender primary bs r >>= λ xs. Ok ((b.name, x) ∷ xs))
 
   abbrev pub in_primary : Bgp → Pipe → Route → Verdict → Result Fate Fault
   in_primary sender p r Reject = Ok (kept r)
   in_primary sender p r (Accept q) =
-      sent_to sender.name p.table (sessions_of items) q >>= λ xs. Ok (record { table = Some r; passed = true; sent = xs })
+      sent_to sender.name p.table (bgp_sessions items) q >>= λ xs. Ok (record { table = Some r; passed = true; sent = xs })
 
   abbrev pub to_primary : Bgp → Option Pipe → Route → Result Fate Fault
   to_primary sender None r = Ok (kept r)
@@ -119,4 +119,4 @@ walk_from items roas session (Some b) r = brought (record { from = b.neighbor; r
 
 -- what the configuration does with a route from the session of the name; the items stand in the order of the text
 abbrev pub walk : List ItemTree → List (List ℕ × List Roa) → List ℕ → Route → Result Fate Fault
-walk items roas session r = walk_from items roas session (session_named (sessions_of items) session) r
+walk items roas session r = walk_from items roas session (session_named (bgp_sessions items) session) r

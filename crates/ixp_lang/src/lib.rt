@@ -5,6 +5,7 @@
 //! configuration; reader, printer, evaluator and generation all speak of the same trees.
 #![tactic(auto)]
 
+pub mod communities;
 mod expr;
 mod fate;
 mod item;

@@ -10,7 +10,7 @@ ghost use Rattle.ixp_lang.specs.declared.reading.fault.Stop.TheVariants.{Text, S
 ghost use Rattle.ixp_lang.specs.RouteReading.{◌then◌, list_at, after_blank, at_end, path_at, asn_item, pair_item, triple_item};
 ghost use Rattle.ixp_lang.specs.RouteTexts.{IsBounded, IsAsnText, IsPairText, IsTripleText, AsnFits, PairFits, TripleFits, BeginsList, IsBoundedList, IsFieldText, IsLongList, HaltsAt};
 ghost use Rattle.ixp_lang.specs.Steering.{sends, prepends};
-ghost use Rattle.ixp_lang.specs.Trials.{steered};
+ghost use Rattle.ixp_lang.specs.Samples.{route_with};
 ghost use Rattle.ixp_lang.specs.RouteAnswers.{RouteAnswer, IsOfOneFamily};
 
 /// No text has two answers: what `read_route` ensures says exactly when each answer comes.
@@ -26,14 +26,14 @@ pub fn printed_route_is_read()
 /// Steering, on small routes of the server 65500: a line for the peer decides before one for all, a prepend for the
 /// peer before one for all, and communities of two parts have no say where a number doesn't fit them.
 pub fn the_first_line_decides()
-    ensures nothing_asked { (sends 65500 (steered [] []) 65001 ≡ true) × (prepends 65500 (steered [] []) 65001 ≡ 0) }
-    ensures peer_before_all { sends 65500 (steered ((0, 65500) ∷ []) ((65500, 0, 0) ∷ (65500, 1, 65001) ∷ [])) 65001 ≡ true }
-    ensures never_before_always { sends 65500 (steered [] ((65500, 1, 65001) ∷ (65500, 0, 65001) ∷ [])) 65001 ≡ false }
-    ensures pairs { sends 65500 (steered ((0, 65500) ∷ (65500, 65001) ∷ []) []) 65001 ≡ true }
-    ensures wide { sends 4200000000 (steered ((0, 65001) ∷ []) []) 65001 ≡ true }
-    ensures prepends_for_all { prepends 65500 (steered [] ((65500, 101, 0) ∷ (65500, 102, 0) ∷ [])) 65001 ≡ 2 }
-    ensures prepends_for_peer { prepends 65500 (steered [] ((65500, 103, 0) ∷ (65500, 101, 65001) ∷ [])) 65001 ≡ 1 }
-    ensures prepends_not { prepends 65500 (steered [] ((65500, 103, 0) ∷ (65500, 1, 65001) ∷ [])) 65001 ≡ 0 }
+    ensures nothing_asked { (sends 65500 (route_with [] []) 65001 ≡ true) × (prepends 65500 (route_with [] []) 65001 ≡ 0) }
+    ensures peer_before_all { sends 65500 (route_with ((0, 65500) ∷ []) ((65500, 0, 0) ∷ (65500, 1, 65001) ∷ [])) 65001 ≡ true }
+    ensures never_before_always { sends 65500 (route_with [] ((65500, 1, 65001) ∷ (65500, 0, 65001) ∷ [])) 65001 ≡ false }
+    ensures pairs { sends 65500 (route_with ((0, 65500) ∷ (65500, 65001) ∷ []) []) 65001 ≡ true }
+    ensures wide { sends 4200000000 (route_with ((0, 65001) ∷ []) []) 65001 ≡ true }
+    ensures prepends_for_all { prepends 65500 (route_with [] ((65500, 101, 0) ∷ (65500, 102, 0) ∷ [])) 65001 ≡ 2 }
+    ensures prepends_for_peer { prepends 65500 (route_with [] ((65500, 103, 0) ∷ (65500, 101, 65001) ∷ [])) 65001 ≡ 1 }
+    ensures prepends_not { prepends 65500 (route_with [] ((65500, 103, 0) ∷ (65500, 1, 65001) ∷ [])) 65001 ≡ 0 }
 {}
 
 /// Where a list's text can't go on, what stands before is the beginning of a list.

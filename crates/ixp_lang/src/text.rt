@@ -1,11 +1,12 @@
 //! The texts of routes and fates.
-ghost use Rattle.std.specs.Prelude.{◌≡◌, ◌++◌, OnOk};
+ghost use Rattle.std.specs.Prelude.{◌≡◌, ◌++◌, OnOk, OnErr};
 ghost use Rattle.std.specs.Option.{option_map};
 ghost use Rattle.ixp_lang.specs.Texts.{list_text, asn_text, pair_text, triple_text, attributes_text, route_text, reason_of, stopped_text, known_reason, received_text, sent_text, all_sent_text, outcome_text, fate_text};
 
+use crate::communities::REFUSED;
 use crate::{Fate, Route};
 use ixp_num::{Asn, Name, print_addr, print_prefix};
-use ixp_text::{Writes, put, put_joined, put_number};
+use ixp_text::{Writes, put, put_joined, put_number, put_whole};
 use std::alloc::AllocError;
 
 struct AsnText;
@@ -72,9 +73,7 @@ fn put_attributes(out: &mut Vec<u8>, route: &Route) -> Result<(), AllocError>
     put_list::<TripleText>(out, route.triples.as_slice())
 }
 
-/// Adds the text of a route: net, path, next hop, communities and large communities, with single blanks; the
-/// items of a list have commas between them, and an empty list is `-`.
-pub fn print_route(route: &Route, out: &mut Vec<u8>) -> Result<(), AllocError>
+fn put_route(out: &mut Vec<u8>, route: &Route) -> Result<(), AllocError>
     ensures { OnOk result (out.new.items ≡ out.old.items ++ route_text route.now) }
 {
     print_prefix(&route.net, out)?;
@@ -82,12 +81,23 @@ pub fn print_route(route: &Route, out: &mut Vec<u8>) -> Result<(), AllocError>
     put_attributes(out, route)
 }
 
+/// Adds the text of a route: net, path, next hop, communities and large communities, with single blanks; the
+/// items of a list have commas between them, and an empty list is `-`.
+pub fn print_route(route: &Route, out: &mut Vec<u8>) -> Result<(), AllocError>
+    ensures ok { OnOk result (out.new.items ≡ out.old.items ++ route_text route.now) }
+    ensures err { OnErr result (out.new.items ≡ out.old.items) }
+{
+    let mut text = Vec::new(*out.allocator());
+    put_route(&mut text, route)?;
+    put_whole(out, text)
+}
+
 /// The third part of the first large community `(asn, 1101, n)`.
 fn reason_of(asn: u32, triples: &[(u32, u32, u32)]) -> Option<u32>
     ensures { result ≡ reason_of asn triples.now }
 {
     'each: for triple in triples {
-        if triple.0 == asn && triple.1 == 1101 {
+        if triple.0 == asn && triple.1 == REFUSED {
             return Some(triple.2);
         }
     }
@@ -160,10 +170,7 @@ fn put_outcome(
     put_all_sent(out, sent)
 }
 
-/// Adds the text of a fate: a line for the route in its session's own table, one for whether it passes, and one
-/// for each other session. Where the number `rs` of the route server is known, a stopped route's line has the
-/// reason that its tag `(rs, 1101, reason)` gives.
-pub fn print_fate(fate: &Fate, rs: Option<Asn>, out: &mut Vec<u8>) -> Result<(), AllocError>
+fn put_fate(out: &mut Vec<u8>, fate: &Fate, rs: Option<Asn>) -> Result<(), AllocError>
     ensures { OnOk result (out.new.items ≡ out.old.items ++ fate_text fate.now rs) }
 {
     let Some(route) = &fate.table else {
@@ -173,4 +180,16 @@ pub fn print_fate(fate: &Fate, rs: Option<Asn>, out: &mut Vec<u8>) -> Result<(),
     put_attributes(out, route)?;
     put(out, b"\n")?;
     put_outcome(out, rs, route, fate.passed, fate.sent.as_slice())
+}
+
+/// Adds the text of a fate: a line for the route in its session's own table, one for whether it passes, and one
+/// for each other session. Where the number `rs` of the route server is known, a stopped route's line has the
+/// reason that its tag `(rs, 1101, reason)` gives.
+pub fn print_fate(fate: &Fate, rs: Option<Asn>, out: &mut Vec<u8>) -> Result<(), AllocError>
+    ensures ok { OnOk result (out.new.items ≡ out.old.items ++ fate_text fate.now rs) }
+    ensures err { OnErr result (out.new.items ≡ out.old.items) }
+{
+    let mut text = Vec::new(*out.allocator());
+    put_fate(&mut text, fate, rs)?;
+    put_whole(out, text)
 }

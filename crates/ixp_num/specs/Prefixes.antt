@@ -7,6 +7,14 @@ use Rattle.ixp_num.specs.declared.prefix.Prefix.{Prefix}
 use Rattle.ixp_num.specs.declared.pattern.Pattern.{Pattern}
 use Rattle.ixp_num.specs.Families.{bits_of, same_family}
 
+-- one and the same address
+abbrev pub same_addr : Addr → Addr → Bool
+same_addr a b = same_family a.family b.family && a.value == b.value
+
+-- one and the same prefix
+abbrev pub same_prefix : Prefix → Prefix → Bool
+same_prefix p q = same_family p.family q.family && p.value == q.value && p.len == q.len
+
 -- the first `n` bits of an address of the family, as a number
 abbrev pub first_bits : Family → ℕ → ℕ → ℕ
 first_bits family n value = value / 2 ^ (bits_of family - n)

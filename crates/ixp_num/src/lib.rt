@@ -22,6 +22,7 @@ mod print;
 mod read;
 mod reading;
 mod roa;
+mod same;
 mod texts;
 mod texts6;
 
@@ -37,4 +38,5 @@ pub use prefix::Prefix;
 pub use print::{print_addr, print_asn, print_pattern, print_pattern_bounds, print_prefix};
 pub use read::{read_addr, read_asn, read_pattern, read_prefix};
 pub use roa::{Roa, Validity};
+pub use same::{same_addr, same_prefix};
 pub use texts::{mark_of, number_of};

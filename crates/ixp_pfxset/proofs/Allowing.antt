@@ -4,9 +4,9 @@ use Rattle.std.specs.Prelude.{nat_le}
 use Rattle.std.specs.Bool.{Decides}
 use Rattle.std.specs.List.{Contains, list_any}
 use Rattle.std.proofs.lemmas.Bool.{and_parts, and_from, or_cases, or_left, or_right, not-true, not_from_false, eqb-true, leb-true, le-leb, cases_lt}
-use Rattle.ixp_num.specs.Prefixes.{covers, IsParent}
+use Rattle.ixp_num.specs.Prefixes.{covers, IsParent, same_prefix}
 use Rattle.ixp_num.specs.declared.prefix.Prefix.{Prefix}
-use Rattle.ixp_pfxset.specs.Blocks.{same_prefix, is_allowed, IsNew}
+use Rattle.ixp_pfxset.specs.Blocks.{is_allowed, IsNew}
 use Rattle.ixp_pfxset.specs.BlockList.{front, is_new}
 use Rattle.ixp_pfxset.specs.declared.mode.Mode.{Mode}
 use Rattle.ixp_pfxset.specs.declared.mode.Mode.TheVariants.{Exact, More}

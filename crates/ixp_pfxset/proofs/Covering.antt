@@ -5,12 +5,11 @@ use Rattle.std.proofs.Math.Nat.{le_trans, le_refl, min-eq_left}
 use Rattle.std.proofs.lemmas.Bool.{and_parts, and_from, eqb-true, leb-true, le-leb}
 use Rattle.std.proofs.lemmas.Nat.{shr-shr, shl-shr, shr_split}
 use Rattle.ixp_num.specs.Families.{bits_of, same_family}
-use Rattle.ixp_num.specs.Prefixes.{covers, first_bits, IsParent}
+use Rattle.ixp_num.specs.Prefixes.{covers, first_bits, IsParent, same_prefix}
 use Rattle.ixp_num.specs.declared.family.Family.{Family}
 use Rattle.ixp_num.specs.declared.family.Family.TheVariants.{V4, V6}
 use Rattle.ixp_num.specs.declared.prefix.Prefix.{Prefix}
 use Rattle.ixp_num.proofs.OneAnswer.{prefix_same}
-use Rattle.ixp_pfxset.specs.Blocks.{same_prefix}
 use Rattle.ixp_pfxset.specs.BlockList.{front}
 
 pub family_itself : (f : Family) → same_family f f ≡ true

@@ -2,7 +2,7 @@
 use Rattle.std.proofs.Common.{◌≡◌, Bool, true, ◌↔◌, List, sym, ◌∙◌, subst}
 use Rattle.std.specs.List.{Contains, list_any}
 use Rattle.ixp_num.specs.declared.prefix.Prefix.{Prefix}
-use Rattle.ixp_pfxset.specs.Blocks.{same_prefix}
+use Rattle.ixp_num.specs.Prefixes.{same_prefix}
 use Rattle.ixp_pfxset.proofs.Covering.{same_says, same_itself}
 use Rattle.ixp_pfxset.proofs.Members.{passing, passed}
 

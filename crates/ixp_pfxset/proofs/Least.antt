@@ -4,10 +4,10 @@ use Rattle.std.specs.Prelude.{nat_le}
 use Rattle.std.specs.List.{Contains, list_any}
 use Rattle.std.proofs.lemmas.Bool.{leb-true, le-leb, cases_lt, cases_eq, false_from_ne_true}
 use Rattle.ixp_num.specs.Families.{bits_of}
-use Rattle.ixp_num.specs.Prefixes.{covers, IsParent, matches}
+use Rattle.ixp_num.specs.Prefixes.{covers, IsParent, matches, same_prefix}
 use Rattle.ixp_num.specs.declared.pattern.Pattern.{Pattern}
 use Rattle.ixp_num.specs.declared.prefix.Prefix.{Prefix}
-use Rattle.ixp_pfxset.specs.Blocks.{same_prefix, is_allowed, IsNew, IsFull, IsBlock, upper_bound}
+use Rattle.ixp_pfxset.specs.Blocks.{is_allowed, IsNew, IsFull, IsBlock, upper_bound}
 use Rattle.ixp_pfxset.specs.BlockList.{front, blocks}
 use Rattle.ixp_pfxset.specs.declared.mode.Mode.{Mode}
 use Rattle.ixp_pfxset.specs.declared.mode.Mode.TheVariants.{Exact, More}

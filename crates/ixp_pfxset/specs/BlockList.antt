@@ -3,25 +3,22 @@
 use Rattle.std.specs.Prelude.{ℕ, zero, suc, Bool, true, not, List, [], ◌∷◌, ◌&&◌, ◌||◌, ◌==◌, ◌+◌, ◌-◌, ◌*◌, ◌^◌, min, nat_le}
 use Rattle.std.specs.List.{list_any, filter, flat_map}
 use Rattle.std.specs.declared.cmp.Ordering.{Ordering}
-use Rattle.std.specs.Ordering.{nat_cmp, match_ordering}
-use Rattle.std.specs.Cmp.Lexicographic.{slice_cmp}
+use Rattle.std.specs.Ordering.{match_ordering}
 use Rattle.std.proofs.Math.Nat.{le_trans, min-le_right, mul-mod_left, div-mul-le_self, suc-le-suc_iff}
-use Rattle.ixp_num.specs.AddressForms.{version_of}
 use Rattle.ixp_num.specs.Families.{bits_of, same_family}
 use Rattle.ixp_num.specs.Prefixes.{first_bits}
 use Rattle.ixp_num.specs.declared.family.Family.{Family}
 use Rattle.ixp_num.specs.declared.pattern.Pattern.{Pattern}
 use Rattle.ixp_num.specs.declared.prefix.Prefix.{Prefix}
+use Rattle.ixp_tables.specs.Tables.{order}
+use Rattle.ixp_sorted.specs.Keys.{pattern_key}
 use Rattle.ixp_pfxset.specs.Blocks.{is_allowed, upper_bound}
 use Rattle.ixp_pfxset.specs.declared.mode.Mode.{Mode}
 use Rattle.ixp_pfxset.specs.declared.mode.Mode.TheVariants.{Exact, More}
 
--- IPv4 before IPv6, then by the address, the length and the bounds
-abbrev pub pattern_key : Pattern → List ℕ
-pattern_key t = version_of t.prefix.family ∷ t.prefix.value ∷ t.prefix.len ∷ t.low ∷ t.high ∷ []
-
+-- by the patterns' keys
 abbrev pub pattern_order : Pattern → Pattern → Ordering
-pattern_order s t = slice_cmp nat_cmp (pattern_key s) (pattern_key t)
+pattern_order s t = order (pattern_key s) (pattern_key t)
 
 -- the prefix of length `n` that covers `p`; `p` itself where it isn't longer
 abbrev pub front : Prefix → ℕ → Prefix

@@ -2,15 +2,11 @@
 use Rattle.std.specs.Prelude.{◌≡◌, ◌≤◌, ℕ, Bool, true, false, List, ◌&&◌, ◌==◌, nat_le}
 use Rattle.std.specs.List.{list_any}
 use Rattle.ixp_num.specs.Families.{bits_of, same_family}
-use Rattle.ixp_num.specs.Prefixes.{covers, IsParent}
+use Rattle.ixp_num.specs.Prefixes.{same_prefix, covers, IsParent}
 use Rattle.ixp_num.specs.declared.pattern.Pattern.{Pattern}
 use Rattle.ixp_num.specs.declared.prefix.Prefix.{Prefix}
 use Rattle.ixp_pfxset.specs.declared.mode.Mode.{Mode}
 use Rattle.ixp_pfxset.specs.declared.mode.Mode.TheVariants.{Exact, More}
-
--- the two are one prefix
-abbrev pub same_prefix : Prefix → Prefix → Bool
-same_prefix p q = same_family p.family q.family && p.value == q.value && p.len == q.len
 
 -- Whether the rows allow the prefix. No prefix longer than `high` is allowed, and rows longer than `high` don't
 -- count. In `Exact` the rows themselves are allowed, in `More` what a row covers (RFC 6811 section 2).

@@ -4,10 +4,10 @@
 ghost use Rattle.std.specs.Prelude.{◌≡◌, ◌≢◌, ◌<◌, ◌≤◌, ◌↔◌, nat_le, ℕ, true, false, List, []};
 ghost use Rattle.std.specs.List.{Contains, list_any};
 ghost use Rattle.std.specs.List.Sorted.{IsStrictlySortedBy};
-ghost use Rattle.ixp_num.specs.Prefixes.{covers, IsParent, matches, is_in_set};
+ghost use Rattle.ixp_num.specs.Prefixes.{covers, IsParent, matches, is_in_set, same_prefix};
 ghost use Rattle.ixp_num.specs.declared.pattern.Pattern.{Pattern};
 ghost use Rattle.ixp_num.specs.declared.prefix.Prefix.{Prefix};
-ghost use Rattle.ixp_pfxset.specs.Blocks.{same_prefix, is_allowed, IsBlock};
+ghost use Rattle.ixp_pfxset.specs.Blocks.{is_allowed, IsBlock};
 ghost use Rattle.ixp_pfxset.specs.BlockList.{pattern_order, blocks};
 ghost use Rattle.ixp_pfxset.specs.declared.mode.Mode.{Mode};
 ghost use Rattle.ixp_pfxset.specs.declared.mode.Mode.TheVariants.{Exact, More};

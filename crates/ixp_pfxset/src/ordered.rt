@@ -1,16 +1,18 @@
 //! Lists in order.
-ghost use Rattle.std.specs.Prelude.{◌≡◌, true, Bool, List};
-ghost use Rattle.std.specs.List.{Any, Contains, filter, list_any};
-ghost use Rattle.std.specs.List.Sorted.{IsSorted, IsStrictlySortedBy};
+ghost use Rattle.std.specs.Prelude.{◌≡◌, Bool, List};
+ghost use Rattle.std.specs.List.{filter, list_any};
+ghost use Rattle.std.specs.List.Sorted.{IsSorted};
+ghost use Rattle.ixp_sorted.specs.Keys.{pattern_key};
+ghost use Rattle.ixp_sorted.specs.Sorted.{IsInOrder};
 
-/// Puts the items in ascending order, and leaves one of those that are equal.
-pub(crate) fn put_in_order<T: Ord + Drop>(items: &mut Vec<T>)
-    ensures ascends { IsStrictlySortedBy T.cmp items.new.items }
-    ensures keeps { (x : T) → Contains items.old.items x → Any (λ y. T.eq x y ≡ true) items.new.items }
-    ensures adds_none { (x : T) → Contains items.new.items x → Contains items.old.items x }
+use ixp_num::Pattern;
+use ixp_sorted::Sorted;
+
+/// The patterns in order, each once.
+pub(crate) fn in_order(patterns: Vec<Pattern>) -> Vec<Pattern>
+    ensures { IsInOrder pattern_key patterns.items result.items }
 {
-    items.sort_unstable();
-    items.dedup();
+    Sorted::from_items(patterns).into_items()
 }
 
 /// Whether an item of the sorted list equals this one. It halves the items that are left.

@@ -9,10 +9,9 @@ ghost use Rattle.ixp_pfxset.specs.Blocks.{upper_bound};
 ghost use Rattle.ixp_pfxset.specs.BlockList.{blocks};
 ghost use Rattle.ixp_pfxset.specs.Plain.{IsFront};
 
-use crate::derived::{equal_patterns, ordered_patterns};
 use crate::full::is_top;
 use crate::mode::Mode;
-use crate::ordered::put_in_order;
+use crate::ordered::in_order;
 use crate::rows::new_rows;
 use ixp_num::{Pattern, Prefix};
 use std::alloc::{AllocError, Global};
@@ -96,9 +95,6 @@ pub fn blocks_plain(
     ensures { IfOk result (λ ts. ts.items ≡ blocks rows.now mode high) }
 {
     let list = new_rows(alloc, rows, mode, high)?;
-    let mut blocks = all_fronts(alloc, &list, mode, high)?;
-    equal_patterns();
-    ordered_patterns();
-    put_in_order(&mut blocks);
-    Ok(blocks)
+    let blocks = all_fronts(alloc, &list, mode, high)?;
+    Ok(in_order(blocks))
 }

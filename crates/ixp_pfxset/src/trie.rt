@@ -12,10 +12,9 @@ ghost use Rattle.ixp_pfxset.specs.BlockList.{blocks};
 ghost use Rattle.ixp_pfxset.specs.Plain.{Fills};
 ghost use Rattle.ixp_pfxset.specs.Trie.{AllWithin, IsMerged, IsMergedBelow, IsOfFamily};
 
-use crate::derived::{equal_patterns, ordered_patterns};
 use crate::full::{first_half, second_half};
 use crate::mode::Mode;
-use crate::ordered::put_in_order;
+use crate::ordered::in_order;
 use crate::plain::upper_bound;
 use crate::rows::new_rows;
 use ixp_num::{Family, Pattern, Prefix};
@@ -178,8 +177,5 @@ pub fn blocks_trie(
     let mut blocks = Vec::new(alloc);
     merge_family(&mut blocks, alloc, &list, mode, high, Family::V4)?;
     merge_family(&mut blocks, alloc, &list, mode, high, Family::V6)?;
-    equal_patterns();
-    ordered_patterns();
-    put_in_order(&mut blocks);
-    Ok(blocks)
+    Ok(in_order(blocks))
 }

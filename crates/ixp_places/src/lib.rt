@@ -23,6 +23,6 @@ pub use lines::{
 pub use lookups::{
     column, has_addr, has_blackhole, has_interface, has_left, has_member, has_owner, has_port,
     has_switch, has_vlan, is_connected, is_host, is_host_at, is_host_in, is_host_of,
-    is_member_connected, is_port_of, prefix_in, same_addr,
+    is_member_connected, is_port_of, prefix_in,
 };
 pub use places::{earliest, first};

@@ -2,10 +2,11 @@
 ghost use Rattle.std.specs.Prelude.{◌≡◌, ◌+◌, ◌-◌, ◌^◌, ◌&&◌, ◌==◌, false};
 ghost use Rattle.ixp_num.specs.declared.family.Family.TheVariants.{V4};
 ghost use Rattle.ixp_num.specs.Families.{bits_of, same_family};
-ghost use Rattle.ixp_registry.specs.Lookups.{has_member, has_switch, has_port, has_vlan, has_interface, has_owner, is_port_of, is_left, is_connected, has_left, is_member_connected, column, prefix_in, is_edge, is_host, is_host_in, is_host_at, same_addr, is_at, has_addr, has_blackhole};
+ghost use Rattle.ixp_registry.specs.Lookups.{has_member, has_switch, has_port, has_vlan, has_interface, has_owner, is_port_of, is_left, is_connected, has_left, is_member_connected, column, prefix_in, is_edge, is_host, is_host_in, is_host_at, is_at, has_addr, has_blackhole};
+ghost use Rattle.ixp_num.specs.Prefixes.{same_addr};
 ghost use Rattle.ixp_tables.specs.Tables.{if_there};
 
-use ixp_num::{Addr, Family, Prefix};
+use ixp_num::{Addr, Family, Prefix, same_addr};
 use ixp_registry::{
     IfAddr, Interface, InterfaceRow, Member, Owner, Port, Router, Status, Switch, Vlan,
 };
@@ -181,13 +182,6 @@ pub fn is_host_at(
         Some(interface) => is_host_in(vlans, interface.vlan, addr.family, addr),
         None => false,
     }
-}
-
-/// Whether the addresses are the same one.
-pub fn same_addr(one: &Addr, other: &Addr) -> bool
-    ensures { result ≡ same_addr one.now other.now }
-{
-    one.family == other.family && one.value == other.value
 }
 
 fn is_at(address: &Option<IfAddr>, addr: &Addr) -> bool

@@ -14,7 +14,8 @@ use Rattle.ixp_registry.specs.declared.network.IfAddr.{IfAddr}
 use Rattle.ixp_registry.specs.declared.network.Interface.{Interface}
 use Rattle.ixp_registry.specs.declared.network.AddressRow.{AddressRow}
 use Rattle.ixp_registry.specs.Keys.{interface_key}
-use Rattle.ixp_registry.specs.Lookups.{same_addr, has_addr}
+use Rattle.ixp_registry.specs.Lookups.{has_addr}
+use Rattle.ixp_num.specs.Prefixes.{same_addr}
 use Rattle.ixp_registry.specs.Places.{times}
 use Rattle.ixp_tables.specs.Tables.{same}
 use Rattle.ixp_registry.specs.Registries.{bare, address_rows, addresses_of}

@@ -23,7 +23,8 @@ use Rattle.ixp_registry.specs.declared.refusal.RowKey.TheVariants.{Number}
 use Rattle.ixp_registry.specs.declared.refusal.Refusal.{Refusal}
 use Rattle.ixp_registry.specs.declared.refusal.Refusal.TheVariants.{Unknown, Family as OtherFamily, Outside}
 use Rattle.ixp_registry.specs.Keys.{interface_key, interface_row_key}
-use Rattle.ixp_registry.specs.Lookups.{is_host_in, is_host_at, same_addr, has_blackhole, prefix_in, has_addr}
+use Rattle.ixp_registry.specs.Lookups.{is_host_in, is_host_at, has_blackhole, prefix_in, has_addr}
+use Rattle.ixp_num.specs.Prefixes.{same_addr}
 use Rattle.ixp_registry.specs.Lines.{addresses_at, routers_at}
 use Rattle.ixp_registry.specs.Places.{times}
 use Rattle.ixp_registry.specs.Registries.{bare, addresses_of, rows_of}

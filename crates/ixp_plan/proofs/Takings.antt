@@ -7,7 +7,8 @@ use Rattle.ixp_num.specs.declared.addr.Addr.{Addr}
 use Rattle.ixp_registry.specs.declared.network.IfAddr.{IfAddr}
 use Rattle.ixp_registry.specs.declared.network.Interface.{Interface}
 use Rattle.ixp_registry.specs.declared.network.AddressRow.{AddressRow}
-use Rattle.ixp_registry.specs.Lookups.{same_addr, is_at, has_addr}
+use Rattle.ixp_registry.specs.Lookups.{is_at, has_addr}
+use Rattle.ixp_num.specs.Prefixes.{same_addr}
 use Rattle.ixp_registry.specs.Registries.{address_rows, addresses_of}
 
 abbrev pub is_of : Addr → AddressRow → Bool

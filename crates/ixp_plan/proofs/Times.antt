@@ -8,7 +8,7 @@ use Rattle.ixp_num.specs.declared.family.Family.TheVariants.{V4, V6}
 use Rattle.ixp_num.specs.declared.addr.Addr.{Addr}
 use Rattle.ixp_num.specs.AddressForms.{version_of}
 use Rattle.ixp_num.specs.Families.{same_family}
-use Rattle.ixp_registry.specs.Lookups.{same_addr}
+use Rattle.ixp_num.specs.Prefixes.{same_addr}
 use Rattle.ixp_registry.specs.Places.{times, first_beyond_from}
 use Rattle.ixp_tables.specs.Tables.{same}
 use Rattle.ixp_registry.specs.Words.{addr_numbers}

@@ -4,7 +4,8 @@ use Rattle.std.specs.List.{list_any}
 use Rattle.ixp_num.specs.declared.addr.Addr.{Addr}
 use Rattle.ixp_registry.specs.declared.router.Router.{Router}
 use Rattle.ixp_registry.specs.declared.registry.Registry.{Registry}
-use Rattle.ixp_registry.specs.Lookups.{same_addr, has_blackhole, has_addr}
+use Rattle.ixp_registry.specs.Lookups.{has_blackhole, has_addr}
+use Rattle.ixp_num.specs.Prefixes.{same_addr}
 
 -- the address is the router's own
 abbrev pub answers_at : Addr → Router → Bool

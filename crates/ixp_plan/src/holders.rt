@@ -5,8 +5,8 @@ ghost use Rattle.ixp_registry.specs.Lookups.{is_host_in, has_blackhole, prefix_i
 ghost use Rattle.ixp_registry.specs.Registries.{rows_of};
 ghost use Rattle.ixp_plan.specs.Holders.{answers_at, uses, is_taken};
 
-use ixp_num::Addr;
-use ixp_places::{has_addr, has_blackhole, same_addr};
+use ixp_num::{Addr, same_addr};
+use ixp_places::{has_addr, has_blackhole};
 use ixp_registry::{Interface, Registry, Router};
 
 /// Whether the address is the router's own.

@@ -1,5 +1,5 @@
 //! The report on who has which addresses.
-ghost use Rattle.std.specs.Prelude.{◌≡◌, ◌++◌, ℕ, List, OnOk, option_map, find, flat_map};
+ghost use Rattle.std.specs.Prelude.{◌≡◌, ◌++◌, ℕ, List, OnOk, OnErr, IfOk, option_map, find, flat_map};
 ghost use Rattle.ixp_registry.specs.Lookups.{has_blackhole, has_addr};
 ghost use Rattle.ixp_plan.specs.Holders.{answers_at};
 ghost use Rattle.ixp_plan.specs.Uses.{interface_text, holder_text, use_line, free_line, addr_or_none, IsReport};
@@ -10,7 +10,7 @@ use crate::uses::{UsedAddr, used_addresses};
 use ixp_num::{Addr, Family, print_addr};
 use ixp_places::{has_addr, has_blackhole};
 use ixp_registry::{Interface, Registry, Router};
-use ixp_text::{put, put_number};
+use ixp_text::{put, put_number, put_whole};
 use std::alloc::{AllocError, Global};
 
 fn put_interface(interface: &Interface, out: &mut Vec<u8>) -> Result<(), AllocError>
@@ -103,9 +103,24 @@ fn put_free(addr: Option<Addr>, out: &mut Vec<u8>) -> Result<(), AllocError>
     put(out, b"\n")
 }
 
+/// The report as a text of its own.
+fn report_text(
+    alloc: Global,
+    registry: &Registry,
+    vlan: u32,
+    family: Family,
+) -> Result<Vec<u8>, AllocError>
+    ensures { IfOk result (λ text. IsReport registry.now vlan family text.items) }
+{
+    let used = used_addresses(alloc, registry, vlan, family)?;
+    let mut text = Vec::new(alloc);
+    put_uses(registry, used.as_slice(), &mut text)?;
+    put_free(first_free(registry, vlan, family), &mut text)?;
+    Ok(text)
+}
+
 /// Adds a line `<addr> interface <n>`, `<addr> router <handle>` or `<addr> blackhole <handle>` for each address of the
 /// VLAN that is taken, in ascending order, and then `free <addr>` with the least one that is free, or `free none`.
-/// Where memory runs out a part of them may have been added.
 pub fn use_report(
     alloc: Global,
     registry: &Registry,
@@ -113,11 +128,9 @@ pub fn use_report(
     family: Family,
     out: &mut Vec<u8>,
 ) -> Result<(), AllocError>
-    ensures { OnOk result ((t : List ℕ) × IsReport registry.now vlan family t × (out.new.items ≡ out.old.items ++ t)) }
+    ensures ok { OnOk result ((t : List ℕ) × IsReport registry.now vlan family t × (out.new.items ≡ out.old.items ++ t)) }
+    ensures err { OnErr result (out.new.items ≡ out.old.items) }
 {
-    let used = used_addresses(alloc, registry, vlan, family)?;
-    let free = first_free(registry, vlan, family);
-    put_uses(registry, used.as_slice(), out)?;
-    put_free(free, out)?;
-    Ok(())
+    let text = report_text(alloc, registry, vlan, family)?;
+    put_whole(out, text)
 }

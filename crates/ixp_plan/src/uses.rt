@@ -2,8 +2,8 @@
 ghost use Rattle.std.specs.Prelude.{◌≡◌, ◌&&◌, ◌||◌, OnOk, IfOk};
 ghost use Rattle.std.specs.List.{list_any};
 ghost use Rattle.ixp_num.specs.declared.addr.Addr.{Addr};
-ghost use Rattle.ixp_num.specs.Prefixes.{contains};
-ghost use Rattle.ixp_registry.specs.Lookups.{same_addr, has_blackhole, is_at, has_addr};
+ghost use Rattle.ixp_num.specs.Prefixes.{contains, same_addr};
+ghost use Rattle.ixp_registry.specs.Lookups.{has_blackhole, is_at, has_addr};
 ghost use Rattle.ixp_plan.specs.Holders.{uses, is_taken};
 ghost use Rattle.ixp_plan.specs.Uses.{is_in, is_used};
 

@@ -5,6 +5,7 @@ use Rattle.ixp_num.specs.declared.prefix.Prefix.{Prefix}
 use Rattle.ixp_num.specs.Families.{bits_of}
 use Rattle.ixp_lang.specs.declared.route.Route.{Route}
 use Rattle.ixp_lang.specs.Steering.{has_pair}
+use Rattle.ixp_lang.specs.declared.communities.TheConstants.{BLACKHOLE}
 use Rattle.ixp_registry.specs.declared.router.Router.{Router}
 
 -- the prefix is a single address
@@ -14,4 +15,4 @@ is_host_net net = net.len == bits_of net.family
 -- a blackhole route of a router: the router has an address for what is to be dropped, the net is a single address, and
 -- the route has the community BLACKHOLE, 65535:666 (RFC 7999 section 5)
 abbrev pub is_blackhole : Router → Route → Bool
-is_blackhole router route = is_some router.blackhole && is_host_net route.net && has_pair route 65535 666
+is_blackhole router route = is_some router.blackhole && is_host_net route.net && has_pair route BLACKHOLE.0 BLACKHOLE.1

@@ -9,6 +9,7 @@ use Rattle.ixp_registry.specs.declared.rules.Action.TheVariants.{AsIs, Prepend, 
 use Rattle.ixp_registry.specs.declared.router.Router.{Router}
 use Rattle.ixp_tables.specs.Tables.{if_there}
 use Rattle.ixp_registry.specs.Sessions.{Session, asked, receives}
+use Rattle.ixp_lang.specs.declared.communities.TheConstants.{KEEP_FROM, SEND_TO, PREPEND_ONCE, PREPEND_TWICE, PREPEND_THRICE, ORIGIN_STATE, FINDING, REFUSED}
 use Rattle.ixp_policy.specs.Blackholes.{is_blackhole}
 
 -- how often an action puts the sender's number in front; None where it stops the route
@@ -36,7 +37,7 @@ is_for_server rs p = nat_le rs 65535 && (p.0 == 0 || p.0 == rs)
 
 -- the second parts of a server's own large communities: to whom, how often in front, what was found
 abbrev pub server_actions : List ℕ
-server_actions = 0 ∷ 1 ∷ 101 ∷ 102 ∷ 103 ∷ 1000 ∷ 1001 ∷ 1101 ∷ []
+server_actions = KEEP_FROM ∷ SEND_TO ∷ PREPEND_ONCE ∷ PREPEND_TWICE ∷ PREPEND_THRICE ∷ ORIGIN_STATE ∷ FINDING ∷ REFUSED ∷ []
 
 abbrev pub is_of_server : ℕ → ℕ × ℕ × ℕ → Bool
 is_of_server rs t = t.0 == rs && list_any (λ a. a == t.1) server_actions

@@ -8,7 +8,7 @@ use Rattle.ixp_registry.specs.declared.registry.Registry.{Registry}
 use Rattle.ixp_registry.specs.declared.router.Router.{Router}
 use Rattle.ixp_registry.specs.Keys.{router_key}
 use Rattle.ixp_registry.specs.Sessions.{Session, session, session_at, sessions_of}
-use Rattle.ixp_policy.specs.Import.{refusal, number_in}
+use Rattle.ixp_policy.specs.Import.{refusal, refusal_number}
 use Rattle.ixp_policy.specs.Tags.{tagged}
 use Rattle.ixp_policy.specs.Export.{wish, received}
 
@@ -17,15 +17,15 @@ abbrev pub session_name : ℕ → List ℕ
 session_name n = codes "b_" ++ decimal n
 
 -- what the session of an interface gets of the sender's route
-abbrev pub sent_to : Registry → Router → Session → Route → Interface → List ℕ × Option Route
-sent_to r router s route i = (session_name i.number, if_there (session_at r router i) None (received router s route))
+abbrev pub sent_at : Registry → Router → Session → Route → Interface → List ℕ × Option Route
+sent_at r router s route i = (session_name i.number, if_there (session_at r router i) None (received router s route))
 
 abbrev pub is_other : Session → Interface → Bool
 is_other s i = not (i.number == s.interface.number)
 
 -- what each other session gets, another one of the same member included
 abbrev pub sent_to_others : Registry → Router → Session → Route → List (List ℕ × Option Route)
-sent_to_others r router s route = map (sent_to r router s route) (filter (is_other s) (sessions_of r router))
+sent_to_others r router s route = map (sent_at r router s route) (filter (is_other s) (sessions_of r router))
 
 -- the route passes where no line of the import table holds
 abbrev pub passes : Registry → Router → Session → Route → Bool
@@ -48,7 +48,7 @@ fate r handle n route = at_session r handle n (λ router s. fate_of r router rou
 
 -- the number with which the route is refused there, if it is
 abbrev pub number : Registry → List ℕ → ℕ → Route → Option (Option ℕ)
-number r handle n route = at_session r handle n (λ router s. number_in (refusal r router s route))
+number r handle n route = at_session r handle n (λ router s. refusal_number (refusal r router s route))
 
 -- the wish for a receiver's number there
 abbrev pub ask : Registry → List ℕ → ℕ → Route → ℕ → Option (Option ℕ)

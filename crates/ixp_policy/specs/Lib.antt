@@ -1,4 +1,5 @@
 pub mod Blackholes
+pub mod Reasons
 pub mod Import
 pub mod Tags
 pub mod Export

@@ -9,13 +9,25 @@ ghost use Rattle.ixp_policy.specs.Views.{session_of};
 use crate::blackholes::is_blackhole;
 use crate::session_rows::SessionRows;
 use ixp_lang::Route;
+use ixp_lang::communities::{
+    FINDING, KEEP_FROM, ORIGIN_STATE, PREPEND_ONCE, PREPEND_THRICE, PREPEND_TWICE, REFUSED, SEND_TO,
+};
 use ixp_num::{Addr, Asn, Items};
 use ixp_registry::{Action, MemberRule, Router};
 use ixp_steer::{asked, prepends, receives, sends};
 use std::alloc::{AllocError, Global};
 
 /// The second parts of a server's own large communities.
-const SERVER_ACTIONS: [u32; 8] = [0, 1, 101, 102, 103, 1000, 1001, 1101];
+const SERVER_ACTIONS: [u32; 8] = [
+    KEEP_FROM,
+    SEND_TO,
+    PREPEND_ONCE,
+    PREPEND_TWICE,
+    PREPEND_THRICE,
+    ORIGIN_STATE,
+    FINDING,
+    REFUSED,
+];
 
 fn times_of(action: Action) -> Option<u8>
     ensures { result ≡ times_of action }

@@ -3,14 +3,14 @@ ghost use Rattle.std.specs.Prelude.{◌≡◌, ◌&&◌, IfOk, None, option_map}
 ghost use Rattle.ixp_tables.specs.Tables.{if_there};
 ghost use Rattle.ixp_registry.specs.Sessions.{is_session};
 ghost use Rattle.ixp_policy.specs.Export.{received, wish};
-ghost use Rattle.ixp_policy.specs.Fates.{ask, fate, fate_of, is_other, number, sent_to, sent_to_others};
+ghost use Rattle.ixp_policy.specs.Fates.{ask, fate, fate_of, is_other, number, sent_at, sent_to_others};
 ghost use Rattle.ixp_policy.specs.Tags.{tagged};
 ghost use Rattle.ixp_policy.specs.Views.{session_of};
 
 use crate::export::{received, wish};
 use crate::findings::tagged;
 use crate::session_rows::{SessionRows, is_session, session, session_at};
-use crate::table::{number_in, refusal};
+use crate::table::{refusal, refusal_number};
 use ixp_lang::{Fate, Route, numbered};
 use ixp_num::{Asn, Items, Name};
 use ixp_registry::{Interface, Registry, Router};
@@ -39,7 +39,7 @@ fn sent_to(
     route: &Route,
     interface: &Interface,
 ) -> Result<(Name, Option<Route>), AllocError>
-    ensures { IfOk result (λ x. x ≡ sent_to registry.now router.now (session_of sender.now) route.now interface.now) }
+    ensures { IfOk result (λ x. x ≡ sent_at registry.now router.now (session_of sender.now) route.now interface.now) }
 {
     let name = numbered(alloc, b"b_", interface.number)?;
     let receiver = session_at(registry, router, interface);
@@ -133,7 +133,7 @@ pub fn number_plain(
 {
     let router = registry.routers.find(router)?;
     let sender = session(registry, router, interface)?;
-    Some(number_in(refusal(registry, router, &sender, route)))
+    Some(refusal_number(refusal(registry, router, &sender, route)))
 }
 
 fn ask_of(

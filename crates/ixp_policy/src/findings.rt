@@ -1,16 +1,17 @@
 //! What the server writes on a route.
 ghost use Rattle.std.specs.Prelude.{◌≡◌, ◌++◌, [], IfOk, OnOk};
-ghost use Rattle.ixp_policy.specs.Import.{brought_triples, refusal};
+ghost use Rattle.ixp_policy.specs.Import.{brought_triples, import_table};
 ghost use Rattle.ixp_policy.specs.Tags.{chosen, findings, goes_by_prefixes, is_empty, is_untested, refusal_told, tagged, tags};
 ghost use Rattle.ixp_policy.specs.Views.{session_of};
 
 use crate::blackholes::is_blackhole;
-use crate::line::Line;
+use crate::line::{Line, Reason};
 use crate::places::{is_own_hop, is_report};
 use crate::registered::{is_found, is_found_to_be};
 use crate::session_rows::SessionRows;
-use crate::table::{is_got_past, is_reached, refusal};
+use crate::table::{first_that_holds, import_table, is_got_past, is_reached};
 use ixp_lang::Route;
+use ixp_lang::communities::{FINDING, ORIGIN_STATE, REFUSED};
 use ixp_num::{Asn, Items, Validity};
 use ixp_registry::{Registry, Router};
 use std::alloc::{AllocError, Global};
@@ -51,28 +52,33 @@ fn findings(
     router: &Router,
     session: &SessionRows<'_>,
     route: &Route,
-    refused: Option<Line>,
+    lines: &[Line],
 ) -> [(bool, Triple); 7]
-    ensures { result ≡ findings registry.now router.now (session_of session.now) route.now refused }
+    ensures { result ≡ findings registry.now router.now (session_of session.now) route.now lines.now }
 {
     let rs = router.asn.0;
     let irr = session.address.irr;
-    let asked = is_reached(11, refused);
-    let tested = is_reached(12, refused);
+    let hop_passed = is_got_past(Reason::NextHopNotPeer, lines);
+    let passed = is_got_past(Reason::PrefixNotRegistered, lines);
+    let asked = is_reached(Reason::OriginNotRegistered, lines);
+    let tested = is_reached(Reason::OriginInvalid, lines);
     let valid = is_found_to_be(Validity::Valid, registry, router, route);
     let unknown = is_found_to_be(Validity::Unknown, registry, router, route);
     let by_prefixes = goes_by_prefixes(registry, router, session, route);
     [
         (
-            is_got_past(8, refused) && !is_own_hop(session, route),
-            (rs, 1001, 1200),
+            hop_passed && !is_own_hop(session, route),
+            (rs, FINDING, 1200),
         ),
-        (asked && !irr, (rs, 1001, 2)),
-        (asked && irr && is_empty(session.origins), (rs, 1001, 1002)),
-        (tested && is_untested(router, route), (rs, 1000, 3)),
-        (tested && valid, (rs, 1000, 1)),
-        (tested && unknown, (rs, 1000, 2)),
-        (is_got_past(13, refused) && by_prefixes, (rs, 1001, 1)),
+        (asked && !irr, (rs, FINDING, 2)),
+        (
+            asked && irr && is_empty(session.origins),
+            (rs, FINDING, 1002),
+        ),
+        (tested && is_untested(router, route), (rs, ORIGIN_STATE, 3)),
+        (tested && valid, (rs, ORIGIN_STATE, 1)),
+        (tested && unknown, (rs, ORIGIN_STATE, 2)),
+        (passed && by_prefixes, (rs, FINDING, 1)),
     ]
 }
 
@@ -97,7 +103,7 @@ fn push_refusal(
     ensures { OnOk result (out.new.items ≡ out.old.items ++ refusal_told router.now refused) }
 {
     if let Some(line) = refused {
-        out.push((router.asn.0, 1101, line.number))?;
+        out.push((router.asn.0, REFUSED, line.reason.number()))?;
     }
     Ok(())
 }
@@ -122,12 +128,12 @@ fn push_tags(
     route: &Route,
     out: &mut Vec<Triple>,
 ) -> Result<(), AllocError>
-    ensures { OnOk result (out.new.items ≡ out.old.items ++ tags registry.now router.now (session_of session.now) route.now (refusal registry.now router.now (session_of session.now) route.now)) }
+    ensures { OnOk result (out.new.items ≡ out.old.items ++ tags registry.now router.now (session_of session.now) route.now (import_table registry.now router.now (session_of session.now) route.now)) }
 {
-    let refused = refusal(registry, router, session, route);
-    let lines = findings(registry, router, session, route, refused);
-    push_chosen(lines.as_slice(), out)?;
-    push_refusal(router, refused, out)
+    let lines = import_table(registry, router, session, route);
+    let told = findings(registry, router, session, route, lines.as_slice());
+    push_chosen(told.as_slice(), out)?;
+    push_refusal(router, first_that_holds(lines.as_slice()), out)
 }
 
 /// The route as the server holds it.

@@ -16,3 +16,4 @@ mod session_rows;
 mod table;
 
 pub use fates::{ask_plain, fate_plain, number_plain};
+pub use line::Reason;

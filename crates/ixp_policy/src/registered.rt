@@ -1,27 +1,28 @@
 //! The sentences of the import table on origins and registered prefixes.
 ghost use Rattle.std.specs.Prelude.{◌≡◌};
-ghost use Rattle.ixp_lang.specs.Attributes.{same_prefix, same_state};
-ghost use Rattle.ixp_policy.specs.Import.{has_other_origin, is_allowed, is_covered_by, is_found, is_found_to_be, is_in_list, is_invalid, is_unregistered, state_of};
+ghost use Rattle.ixp_lang.specs.Attributes.{same_state};
+ghost use Rattle.ixp_num.specs.Prefixes.{same_prefix};
+ghost use Rattle.ixp_policy.specs.Import.{origin_not_registered, is_registered, is_covered_by, is_found, is_found_to_be, is_in_list, origin_invalid, prefix_not_registered, state_of};
 ghost use Rattle.ixp_policy.specs.Views.{session_of};
 
 use crate::blackholes::is_blackhole;
-use crate::places::{is_listed, last_of};
+use crate::places::is_listed;
 use crate::session_rows::SessionRows;
 use ixp_lang::Route;
-use ixp_num::{Asn, Prefix, Validity};
+use ixp_num::{Asn, Prefix, Validity, same_prefix};
 use ixp_registry::{Registry, Router};
 use ixp_roa::validity;
 
-pub(crate) fn has_other_origin(session: &SessionRows<'_>, route: &Route) -> bool
-    ensures { result ≡ has_other_origin (session_of session.now) route.now }
+pub(crate) fn origin_not_registered(session: &SessionRows<'_>, route: &Route) -> bool
+    ensures { result ≡ origin_not_registered (session_of session.now) route.now }
 {
-    session.address.irr && !is_listed(session.origins, last_of(route.path.as_slice()))
+    session.address.irr && !is_listed(session.origins, route.origin())
 }
 
 fn state_of(registry: &Registry, route: &Route) -> Validity
     ensures { result ≡ state_of registry.now route.now }
 {
-    let origin = Asn(last_of(route.path.as_slice()));
+    let origin = Asn(route.origin());
     validity(registry.public.roas.as_slice(), &route.net, origin)
 }
 
@@ -50,16 +51,10 @@ pub(crate) fn is_found_to_be(
     !is_blackhole(router, route) && is_found(registry, router, route, state)
 }
 
-pub(crate) fn is_invalid(registry: &Registry, router: &Router, route: &Route) -> bool
-    ensures { result ≡ is_invalid registry.now router.now route.now }
+pub(crate) fn origin_invalid(registry: &Registry, router: &Router, route: &Route) -> bool
+    ensures { result ≡ origin_invalid registry.now router.now route.now }
 {
     is_found_to_be(Validity::Invalid, registry, router, route)
-}
-
-fn same_prefix(one: &Prefix, other: &Prefix) -> bool
-    ensures { result ≡ same_prefix one.now other.now }
-{
-    one.family == other.family && one.value == other.value && one.len == other.len
 }
 
 fn is_in_list(net: &Prefix, prefixes: &[Prefix]) -> bool
@@ -74,8 +69,8 @@ fn is_covered_by(net: &Prefix, prefixes: &[Prefix]) -> bool
     prefixes.iter().any(|p| p.covers(net))
 }
 
-fn is_allowed(session: &SessionRows<'_>, route: &Route) -> bool
-    ensures { result ≡ is_allowed (session_of session.now) route.now }
+fn is_registered(session: &SessionRows<'_>, route: &Route) -> bool
+    ensures { result ≡ is_registered (session_of session.now) route.now }
 {
     if session.address.more {
         is_covered_by(&route.net, session.prefixes)
@@ -84,19 +79,19 @@ fn is_allowed(session: &SessionRows<'_>, route: &Route) -> bool
     }
 }
 
-pub(crate) fn is_unregistered(
+pub(crate) fn prefix_not_registered(
     registry: &Registry,
     router: &Router,
     session: &SessionRows<'_>,
     route: &Route,
 ) -> bool
-    ensures { result ≡ is_unregistered registry.now router.now (session_of session.now) route.now }
+    ensures { result ≡ prefix_not_registered registry.now router.now (session_of session.now) route.now }
 {
     if is_blackhole(router, route) {
         !session.address.irr || !is_covered_by(&route.net, session.prefixes)
     } else {
         session.address.irr
             && !is_found(registry, router, route, Validity::Valid)
-            && !is_allowed(session, route)
+            && !is_registered(session, route)
     }
 }

@@ -1,5 +1,5 @@
 //! Items, and the whole configuration.
-ghost use Rattle.std.specs.Prelude.{◌≡◌, ◌++◌, [], codes, decimal, map, OnOk};
+ghost use Rattle.std.specs.Prelude.{◌≡◌, ◌++◌, [], codes, decimal, map, OnOk, OnErr};
 ghost use Rattle.std.specs.Option.{option_map};
 ghost use Rattle.ixp_num.specs.Printing.{addr_text};
 ghost use Rattle.ixp_lang.specs.Trees.{stmts};
@@ -13,7 +13,7 @@ use crate::stmt::{put_line, put_stmts};
 use crate::word::kind_word;
 use ixp_lang::{Bgp, Config, Expr, Item, Kind, Pipe, Stmt, Ty, Use};
 use ixp_num::{Addr, Family, Items, Name, print_addr};
-use ixp_text::{put, put_joined, put_number};
+use ixp_text::{put, put_joined, put_number, put_whole};
 use std::alloc::{AllocError, Global};
 
 /// Writes a line of a name between two texts.
@@ -343,12 +343,21 @@ fn put_item(alloc: Global, out: &mut Vec<u8>, item: &Item) -> Result<(), AllocEr
     }
 }
 
-/// Adds the canonical text of a configuration to `out`. Where memory runs out, a first part of it may be there.
-pub fn print_config(alloc: Global, config: &Config, out: &mut Vec<u8>) -> Result<(), AllocError>
+fn put_config(alloc: Global, out: &mut Vec<u8>, config: &Config) -> Result<(), AllocError>
     ensures { OnOk result (out.new.items ≡ out.old.items ++ config_text (config_view config.now)) }
 {
     'each: for item in &config.items {
         put_item(alloc, out, item)?;
     }
     Ok(())
+}
+
+/// Adds the canonical text of a configuration.
+pub fn print_config(alloc: Global, config: &Config, out: &mut Vec<u8>) -> Result<(), AllocError>
+    ensures ok { OnOk result (out.new.items ≡ out.old.items ++ config_text (config_view config.now)) }
+    ensures err { OnErr result (out.new.items ≡ out.old.items) }
+{
+    let mut text = Vec::new(alloc);
+    put_config(alloc, &mut text, config)?;
+    put_whole(out, text)
 }

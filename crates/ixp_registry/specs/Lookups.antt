@@ -7,7 +7,7 @@ use Rattle.ixp_num.specs.declared.family.Family.TheVariants.{V4, V6}
 use Rattle.ixp_num.specs.declared.addr.Addr.{Addr}
 use Rattle.ixp_num.specs.declared.prefix.Prefix.{Prefix}
 use Rattle.ixp_num.specs.Families.{bits_of, same_family}
-use Rattle.ixp_num.specs.Prefixes.{contains, covers}
+use Rattle.ixp_num.specs.Prefixes.{contains, covers, same_addr}
 use Rattle.ixp_registry.specs.declared.members.Member.{Member}
 use Rattle.ixp_registry.specs.declared.members.Status.{Status}
 use Rattle.ixp_registry.specs.declared.members.Status.TheVariants.{Noted, Connected, Suspended, Left}
@@ -104,9 +104,6 @@ is_host_in vs vlan family a =
 abbrev pub is_host_at : List Vlan → List InterfaceRow → ℕ → Addr → Bool
 is_host_at vs is interface a =
     if_there (find interface_row_key (interface ∷ []) is) false (λ i. is_host_in vs i.vlan a.family a)
-
-abbrev pub same_addr : Addr → Addr → Bool
-same_addr a b = same_family a.family b.family && a.value == b.value
 
 abbrev pub is_at : Addr → Option IfAddr → Bool
 is_at a x = if_there x false (λ y. same_addr y.addr a)

@@ -16,7 +16,8 @@ use Rattle.ixp_registry.specs.declared.rows.Rows.{Rows}
 use Rattle.ixp_registry.specs.Keys.{interface_row_key}
 use Rattle.ixp_registry.specs.Alphabets.{is_label, is_note, is_macro, is_session_secret, is_key_secret, is_handle}
 use Rattle.ixp_registry.specs.Places.{first, first_with_earlier, first_beside, first_beyond, first_over, first_heavy, earliest}
-use Rattle.ixp_registry.specs.Lookups.{has_member, has_switch, has_port, has_vlan, has_interface, has_owner, is_port_of, is_member_connected, has_left, listed, vlan_prefixes, is_host_in, is_host_at, same_addr, has_blackhole}
+use Rattle.ixp_registry.specs.Lookups.{has_member, has_switch, has_port, has_vlan, has_interface, has_owner, is_port_of, is_member_connected, has_left, listed, vlan_prefixes, is_host_in, is_host_at, has_blackhole}
+use Rattle.ixp_num.specs.Prefixes.{same_addr}
 use Rattle.ixp_registry.specs.Words.{is_reserved, is_vlan_length, overlaps_any, is_of, addr_numbers, owner_numbers, is_staff_number, is_lawful, has_bounds, pattern_has_bounds, range_ascends, roa_has_bounds}
 use Rattle.ixp_registry.specs.Weight.{vlan_weight}
 use Rattle.ixp_registry.specs.Lines.{site_at, members_at, contacts_at, keys_at, switches_at, ports_at, vlans_at, interfaces_at, addresses_at, routers_at, prefixes_at, origins_at, rules_at, bogons_at, bogon_as_at, transit_at, roas_at}

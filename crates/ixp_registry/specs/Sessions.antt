@@ -1,9 +1,10 @@
 -- The sessions of a route server, and what members' rules say.
-use Rattle.std.specs.Prelude.{ℕ, Bool, List, [], ◌∷◌, ◌&&◌, ◌==◌, not, true, false, Option, Some, None, if◌then◌else◌, filter}
-use Rattle.ixp_tables.specs.Tables.{find, if_there}
+use Rattle.std.specs.Prelude.{ℕ, Bool, List, [], ◌∷◌, ◌&&◌, ◌==◌, not, true, false, Option, Some, None, if◌then◌else◌, filter, flat_map}
+use Rattle.ixp_tables.specs.Tables.{find, if_there, put}
 use Rattle.ixp_num.specs.AddressForms.{version_of}
 use Rattle.ixp_num.specs.declared.family.Family.{Family}
 use Rattle.ixp_num.specs.declared.family.Family.TheVariants.{V4, V6}
+use Rattle.ixp_num.specs.declared.addr.Addr.{Addr}
 use Rattle.ixp_num.specs.declared.asn.Asn.{Asn}
 use Rattle.ixp_num.specs.declared.prefix.Prefix.{Prefix}
 use Rattle.ixp_num.specs.Prefixes.{covers}
@@ -19,6 +20,7 @@ use Rattle.ixp_registry.specs.declared.rules.Action.TheVariants.{AsIs, Prepend, 
 use Rattle.ixp_registry.specs.declared.registry.Registry.{Registry}
 use Rattle.ixp_registry.specs.Keys.{member_key, interface_key, irr_key, origins_key, rules_key}
 use Rattle.ixp_registry.specs.Lookups.{is_member_connected}
+use Rattle.ixp_registry.specs.Words.{addr_numbers}
 
 -- the interface's address of a family
 abbrev pub address_of : Family → Interface → Option IfAddr
@@ -42,6 +44,26 @@ pub record Session : Type 0 where
   pub prefixes : List Prefix
   pub origins : List Asn
   pub rules : List MemberRule
+
+-- A member's addresses in a VLAN.
+
+abbrev pub listed_address : Option IfAddr → List Addr
+listed_address None = []
+listed_address (Some a) = a.addr ∷ []
+
+-- the interfaces of the session's member in its VLAN, its own included
+abbrev pub is_beside : Session → Interface → Bool
+is_beside s i = i.member == s.interface.member && i.vlan == s.interface.vlan
+
+-- addresses in ascending order
+abbrev pub ascending : List Addr → List Addr
+ascending [] = []
+ascending (a ∷ addrs) = put addr_numbers a (ascending addrs)
+
+-- the member's addresses of the router's family in the session's VLAN
+abbrev pub member_addresses : Registry → Router → Session → List Addr
+member_addresses r router s =
+    ascending (flat_map (λ i. listed_address (address_of router.family i)) (filter (is_beside s) r.interfaces))
 
 -- a member without a list counts as one whose list is empty
 abbrev pub rules_of : Registry → ℕ → List MemberRule

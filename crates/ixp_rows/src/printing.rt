@@ -1,5 +1,5 @@
 //! Printing dumps.
-ghost use Rattle.std.specs.Prelude.{◌≡◌, ◌≤◌, ◌^◌, ◌++◌, ◌+◌, OnOk, IfSome, IfNone, flat_map, map, length};
+ghost use Rattle.std.specs.Prelude.{◌≡◌, ◌≤◌, ◌^◌, ◌++◌, ◌+◌, OnOk, OnErr, IfSome, IfNone, flat_map, map, length};
 ghost use Rattle.ixp_lines.specs.declared.version.Version.TheVariants.{Two};
 ghost use Rattle.ixp_lines.specs.Lines.{text_of, interface_line, address_line, prefix_line, origin_line, rule_line};
 ghost use Rattle.ixp_registry.specs.Registries.{rows_of, bare, addresses_of, address_rows, prefixes_of, origins_of, rules_in};
@@ -13,7 +13,7 @@ use ixp_registry::{
     IfAddr, Interface, InterfaceRow, IrrList, MemberOrigin, MemberPrefix, OriginList, Registry,
     RuleList,
 };
-use ixp_text::{put, put_number};
+use ixp_text::{put, put_number, put_whole};
 use std::alloc::AllocError;
 
 /// The kinds of rows, in the order of their lines.
@@ -311,8 +311,7 @@ fn put_head(out: &mut Vec<u8>) -> Result<(), AllocError>
     Ok(())
 }
 
-/// Adds the dump of a registry, in version 2 of the format.
-pub fn print_dump(registry: &Registry, out: &mut Vec<u8>) -> Result<(), AllocError>
+fn put_dump(registry: &Registry, out: &mut Vec<u8>) -> Result<(), AllocError>
     ensures { OnOk result (out.new.items ≡ out.old.items ++ dump_text Two (rows_of registry.now)) }
 {
     let Some(lines) = rows_count(registry) else {
@@ -322,4 +321,14 @@ pub fn print_dump(registry: &Registry, out: &mut Vec<u8>) -> Result<(), AllocErr
     put_lines(registry, out)?;
     put_end(lines, out)?;
     Ok(())
+}
+
+/// Adds the dump of a registry, in version 2 of the format.
+pub fn print_dump(registry: &Registry, out: &mut Vec<u8>) -> Result<(), AllocError>
+    ensures ok { OnOk result (out.new.items ≡ out.old.items ++ dump_text Two (rows_of registry.now)) }
+    ensures err { OnErr result (out.new.items ≡ out.old.items) }
+{
+    let mut text = Vec::new(*out.allocator());
+    put_dump(registry, &mut text)?;
+    put_whole(out, text)
 }

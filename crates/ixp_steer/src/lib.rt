@@ -7,5 +7,5 @@
 mod communities;
 mod rules;
 
-pub use communities::{has_pair, prepends, sends};
+pub use communities::{prepends, sends};
 pub use rules::{asked, receives};

@@ -2,12 +2,12 @@
 ghost use Rattle.std.specs.Prelude.{◌≡◌, ◌≢◌, ℕ, List, Result, Err};
 ghost use Rattle.ixp_trial.specs.declared.fault.TrialFault.{TrialFault};
 ghost use Rattle.ixp_trial.specs.declared.fault.TrialFault.TheVariants.{NoMemory};
-ghost use Rattle.ixp_trial.specs.declared.trial.Trial.{Trial as IsTrial};
+ghost use Rattle.ixp_trial.specs.declared.trial.Trial.{Trial};
 ghost use Rattle.ixp_trial.specs.Lines.{IsFilterText};
 ghost use Rattle.ixp_trial.specs.Trials.{TrialAnswer};
 
 /// No input has two filter texts, nor two answers, but that memory may run out.
 pub fn one_answer()
     ensures text { (input x y : List ℕ) → IsFilterText input x → IsFilterText input y → x ≡ y }
-    ensures trial { (input : List ℕ) (x y : Result IsTrial TrialFault) → x ≢ Err NoMemory → y ≢ Err NoMemory → TrialAnswer input x → TrialAnswer input y → x ≡ y }
+    ensures trial { (input : List ℕ) (x y : Result Trial TrialFault) → x ≢ Err NoMemory → y ≢ Err NoMemory → TrialAnswer input x → TrialAnswer input y → x ≡ y }
 {}

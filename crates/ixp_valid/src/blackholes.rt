@@ -7,8 +7,8 @@ ghost use Rattle.ixp_registry.specs.Lookups.{has_blackhole};
 ghost use Rattle.ixp_places.specs.Sizes.{HasLines};
 
 use crate::earlier::{MeetsEarlier, first_with_earlier};
-use ixp_num::Addr;
-use ixp_places::{earliest, first, has_blackhole, is_host_in, routers_at, same_addr};
+use ixp_num::{Addr, same_addr};
+use ixp_places::{earliest, first, has_blackhole, is_host_in, routers_at};
 use ixp_registry::{AddressRow, Router, Rows};
 
 impl MeetsEarlier for Router {

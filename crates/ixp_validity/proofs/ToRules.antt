@@ -27,7 +27,8 @@ use Rattle.ixp_registry.specs.declared.rows.Rows.{Rows}
 use Rattle.ixp_registry.specs.Alphabets.{is_label, is_note, is_macro, is_session_secret, is_key_secret, is_handle}
 use Rattle.ixp_registry.specs.Keys.{port_key, interface_key, interface_row_key, irr_key, origins_key, rules_key}
 use Rattle.ixp_registry.specs.Lines.{site_at, members_at, contacts_at, keys_at, switches_at, ports_at, vlans_at, interfaces_at, addresses_at, routers_at, prefixes_at, origins_at, rules_at, bogons_at, bogon_as_at, transit_at, roas_at}
-use Rattle.ixp_registry.specs.Lookups.{has_member, has_switch, has_port, has_vlan, has_interface, has_owner, is_port_of, has_left, listed, vlan_prefixes, is_host_in, is_host_at, same_addr, is_at, has_addr, has_blackhole}
+use Rattle.ixp_registry.specs.Lookups.{has_member, has_switch, has_port, has_vlan, has_interface, has_owner, is_port_of, has_left, listed, vlan_prefixes, is_host_in, is_host_at, is_at, has_addr, has_blackhole}
+use Rattle.ixp_num.specs.Prefixes.{same_addr}
 use Rattle.ixp_registry.specs.Places.{first, first_beyond, first_over, first_heavy, first_beside_from}
 use Rattle.ixp_registry.specs.Registries.{rows_of, bare, address_rows, addresses_of, prefixes_of, origins_of, rules_in}
 use Rattle.ixp_registry.specs.Rules.{list_weight, is_assigned, may_be_blackhole, addresses_differ, place_after}

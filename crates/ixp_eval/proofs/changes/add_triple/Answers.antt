@@ -6,9 +6,9 @@ use Rattle.ixp_eval.proofs.changes.add_triple.Goals as goal
 pub returns-in_ok-push : goal.returns-in_ok-push
 returns-in_ok-push c =
     triple_added c.args.value.now c.in-Triple.a c.in-Triple.b c.in-Triple.c c.args.route.now c.push.new.self c.in-Triple.is
-    (rw c.as_slice.ensures at (sym c.has_triple.ensures ∙ c.if-not-has_triple.true)) c.in_ok-push.ensures.ok
+    (sym c.has_triple.ensures ∙ c.if-not-has_triple.true) c.in_ok-push.ensures.ok
 
 pub returns-else-not-has_triple : goal.returns-else-not-has_triple
 returns-else-not-has_triple c =
     triple_kept c.args.value.now c.in-Triple.a c.in-Triple.b c.in-Triple.c c.args.route.now c.in-Triple.is
-    (rw c.as_slice.ensures at (sym c.has_triple.ensures ∙ c.if-not-has_triple.false))
+    (sym c.has_triple.ensures ∙ c.if-not-has_triple.false)

@@ -9,6 +9,5 @@ returns c =
     let list = c.in_ok-list.list.items in
     let fronts = c.in_ok-blocks.blocks.items in
     let members = subst (λ xs. AddsRows xs c.args.mode c.args.high xs fronts) c.deref.ensures.value c.in_ok-blocks.ensures in
-    sorted_blocks rows c.args.mode c.args.high c.ordered_patterns.ensures c.equal_patterns.ensures fronts c.put_in_order.new.items.items
-    (some_front_block rows list c.args.mode c.args.high c.in_ok-list.ensures.members fronts members)
-    c.put_in_order.ensures.ascends c.put_in_order.ensures.keeps c.put_in_order.ensures.adds_none
+    sorted_blocks rows c.args.mode c.args.high fronts c.in_order.result.items
+    (some_front_block rows list c.args.mode c.args.high c.in_ok-list.ensures.members fronts members) c.in_order.ensures

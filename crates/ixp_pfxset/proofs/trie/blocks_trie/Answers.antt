@@ -15,6 +15,5 @@ returns c =
     let one = subst (λ ts. AddsFamily list mode high V4 ts four) c.new-blocks.ensures.items
     (subst (λ xs. AddsFamily xs mode high V4 c.new-blocks.result.items four) c.deref.ensures.value c.in_ok-merge_family.ensures) in
     let two = subst (λ xs. AddsFamily xs mode high V6 four six) c.deref-2.ensures.value c.in_ok-merge_family-2.ensures in
-    sorted_blocks rows mode high c.ordered_patterns.ensures c.equal_patterns.ensures six c.put_in_order.new.items.items
-    (both_families rows list mode high c.in_ok-list.ensures.members four six one two)
-    c.put_in_order.ensures.ascends c.put_in_order.ensures.keeps c.put_in_order.ensures.adds_none
+    sorted_blocks rows mode high six c.in_order.result.items
+    (both_families rows list mode high c.in_ok-list.ensures.members four six one two) c.in_order.ensures

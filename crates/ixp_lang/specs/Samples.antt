@@ -61,5 +61,5 @@ abbrev pub never_ends : ItemTree
 never_ends = filter_item (codes "f") (stmts (when (truth_value false) accept ∷ []))
 
 -- a route to the network from that neighbour with these communities
-abbrev pub steered : List (ℕ × ℕ) → List (ℕ × ℕ × ℕ) → Route
-steered pairs triples = record { net = network; path = []; next_hop = neighbour; pairs = pairs; triples = triples }
+abbrev pub route_with : List (ℕ × ℕ) → List (ℕ × ℕ × ℕ) → Route
+route_with pairs triples = record { net = network; path = []; next_hop = neighbour; pairs = pairs; triples = triples }

@@ -1,6 +1,6 @@
 use Rattle.std.proofs.Common.{◌≡◌, ◌++◌, drop, Bool, true, false, List, ℕ}
 use Rattle.ixp_text.specs.Joined.{joined, more_joined}
-use Rattle.ixp_text.proofs.put_joined.Given as goal
+use Rattle.ixp_text.proofs.write_joined.Given as goal
 
 -- what is left, after others or none
 abbrev pub rest_of : {A : Type 0} → Bool → List ℕ → (A → List ℕ) → List A → List ℕ
@@ -9,5 +9,5 @@ rest_of false between text xs = more_joined between text xs
 
 abbrev pub invariant-loop-item : goal.invariant-loop-item
 invariant-loop-item g l =
-    let text = g.W.Writes.text_of in
-    l.out.items ++ rest_of l.is_first l.between text (drop l.item-index l.items) ≡ l.fn.out.items ++ joined l.between text l.items
+    let shown = g.W.Writes.text_of in
+    l.text.items ++ rest_of l.is_first l.between shown (drop l.item-index l.items) ≡ l.fn.text.items ++ joined l.between shown l.items
