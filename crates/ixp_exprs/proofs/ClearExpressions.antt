@@ -15,7 +15,7 @@ use Rattle.ixp_tokens.proofs.ClearLooks.{Clearly, clear_gives, clear_token, clea
 use Rattle.ixp_tokens.proofs.Known.{next_mark}
 use Rattle.ixp_exprs.specs.declared.env.Signature.{Signature}
 use Rattle.ixp_exprs.specs.Operands.{Operand}
-use Rattle.ixp_exprs.specs.Expressions.{Place, has_parts, attribute_text, Shape, plain, arguments, roa_values, Parts, part_text, some_parts, no_parts, enclosed, Chain, comparison_of, chain_part, chain_of, expression_of, Deeper, nothing, deeper, is_left, opened, negation_text, plain_text, call_text, name_text, named_text, called, check_text, roa_table, set_text, operand_text, unary_text, front}
+use Rattle.ixp_exprs.specs.Expressions.{Place, has_parts, attribute_form, Shape, plain, arguments, roa_values, Parts, part_form, some_parts, no_parts, enclosed, Chain, comparison_of, chain_part, chain_of, expression_of, Deeper, nothing, deeper, is_left, opened, negation_form, plain_form, call_form, name_form, named_form, called, check_form, roa_table, set_form, operand_form, unary_form, front}
 use Rattle.ixp_exprs.proofs.Known.{none_apart}
 use Rattle.ixp_exprs.proofs.ClearLists.{clear_never, clear_only, clear_ended}
 use Rattle.ixp_exprs.proofs.ClearSets.{clear_elements}
@@ -41,7 +41,7 @@ expression_bars = marked mark.And ∷ marked mark.Or ∷ []
 abbrev pub expression_look : Look
 expression_look = full_look operand_starts expression_ends
 
-clear_attribute_text : (a : Attr) → Clearly (attribute_text a) (record { leads = false; full = false; starts = marked mark.Dot ∷ []; ends = marked mark.Dot ∷ [] }) []
+clear_attribute_text : (a : Attr) → Clearly (attribute_form a) (record { leads = false; full = false; starts = marked mark.Dot ∷ []; ends = marked mark.Dot ∷ [] }) []
 clear_attribute_text a =
     clear_choice (clear_only (has_parts a) (clear_then (clear_mark mark.Dot) (λ x. clear_then (clear_token _ _ (known_part a)) (λ p. clear_gives _)))) (clear_gives _) refl refl
 
@@ -100,16 +100,16 @@ clear_front : (at : Place) → Clearly (front at) (token_look (front_tokens ++ n
 clear_front at = clear_choice (clear_token _ _ known_front_token) (clear_here (λ left. clear_then clear_name (λ n. clear_checks (clear_gives _)))) refl refl
 
 module _ (expression : Grammar Operand) (ke : Clearly expression expression_look expression_bars) where
-  pub clear_part_text : (shape : Shape) (place : ℕ) (before : Parts) → Clearly (part_text expression shape place before) (token_look operand_starts) []
+  pub clear_part_text : (shape : Shape) (place : ℕ) (before : Parts) → Clearly (part_form expression shape place before) (token_look operand_starts) []
   clear_part_text shape place before =
       clear_here (λ left. clear_sequence ke (λ operand. clear_then (clear_token _ _ (known_part_end shape (length before.trees))) (λ is_last. clear_checks (clear_gives _))) refl)
 
-  parts_full : (shape : Shape) (place : ℕ) (t u : Parts) (ts : List Kind) → ¬ (MayEmpty (part_text expression shape place t) (onward u) ts)
+  parts_full : (shape : Shape) (place : ℕ) (t u : Parts) (ts : List Kind) → ¬ (MayEmpty (part_form expression shape place t) (onward u) ts)
   parts_full shape place t u ts p = (clear_part_text shape place t).full refl (onward u) ts p
 
-  pub clear_parts_rounds : (shape : Shape) (place : ℕ) (before : Parts) → Clearly (rounds (part_text expression shape place) before) (token_look operand_starts) []
+  pub clear_parts_rounds : (shape : Shape) (place : ℕ) (before : Parts) → Clearly (rounds (part_form expression shape place) before) (token_look operand_starts) []
   clear_parts_rounds shape place before =
-      clear_rounds (part_text expression shape place) (token_look operand_starts) [] [] [] (clear_part_text shape place) before (parts_full shape place)
+      clear_rounds (part_form expression shape place) (token_look operand_starts) [] [] [] (clear_part_text shape place) before (parts_full shape place)
       (λ t u rest p. (clear_part_text shape place t).ends (onward u) rest p)
       (λ t v rest p. (clear_part_text shape place t).ends (done v) rest p) (none_apart operand_starts)
 
@@ -136,14 +136,14 @@ clear_opened : {A : Type 0} {f : Grammar Operand → Grammar A} {l : Look} (m : 
 clear_opened {A} {f} {l} m nothing ki kf = clear_bars (is_next (is_mark m)) Deep (marked m ∷ []) (next_mark m) (clear_never (full_look [] l.ends) []) (first_test (is_mark m))
 clear_opened {A} {f} {l} m (deeper unary) ki kf = clear_then (clear_mark m) (λ x. kf unary ki)
 
-clear_negation : (inner : Deeper) → IsClear inner → Clearly (negation_text inner) (full_look (marked mark.Not ∷ []) (marked mark.Dot ∷ [])) []
+clear_negation : (inner : Deeper) → IsClear inner → Clearly (negation_form inner) (full_look (marked mark.Not ∷ []) (marked mark.Dot ∷ [])) []
 clear_negation inner ki = clear_here (λ place. clear_opened mark.Not inner ki (λ unary ku. clear_sequence ku (λ operand. clear_checks (clear_gives _)) refl))
 
-clear_plain : (at : Place) (inner : Deeper) → IsClear inner → Clearly (plain_text at inner) (token_look (marked mark.Open ∷ [])) []
+clear_plain : (at : Place) (inner : Deeper) → IsClear inner → Clearly (plain_form at inner) (token_look (marked mark.Open ∷ [])) []
 clear_plain at inner ki =
     clear_opened mark.Open inner ki (λ unary ku. clear_then (clear_enclosed (expression_of unary) (clear_expression unary ku) at plain at.statement) (λ parts. clear_gives _))
 
-clear_call : (at : Place) (inner : Deeper) → IsClear inner → (called_as : List ℕ) (place : ℕ) (signature : Signature) → Clearly (call_text at inner called_as place signature) (token_look (marked mark.Open ∷ [])) []
+clear_call : (at : Place) (inner : Deeper) → IsClear inner → (called_as : List ℕ) (place : ℕ) (signature : Signature) → Clearly (call_form at inner called_as place signature) (token_look (marked mark.Open ∷ [])) []
 clear_call at inner ki called_as place signature =
     clear_checks
     (clear_opened mark.Open inner ki (λ unary ku. clear_then (clear_enclosed (expression_of unary) (clear_expression unary ku) at (arguments signature.params) place) (λ parts. clear_gives _)))
@@ -152,17 +152,17 @@ clear_call at inner ki called_as place signature =
 abbrev pub behind_name : Look
 behind_name = record { leads = false; full = false; starts = marked mark.Open ∷ []; ends = [] }
 
-clear_behind_name : (at : Place) (inner : Deeper) → IsClear inner → (called_as : List ℕ) (place : ℕ) (s : Option Signature) → Clearly (name_text at inner called_as place s) behind_name []
+clear_behind_name : (at : Place) (inner : Deeper) → IsClear inner → (called_as : List ℕ) (place : ℕ) (s : Option Signature) → Clearly (name_form at inner called_as place s) behind_name []
 clear_behind_name at inner ki called_as place (Some signature) = clear_wider (clear_call at inner ki called_as place signature) refl refl
 clear_behind_name at inner ki called_as place None = clear_wider (clear_checks (clear_gives _)) refl refl
 
-clear_named : (at : Place) (inner : Deeper) → IsClear inner → Clearly (named_text at inner) (token_look (name ∷ [])) []
+clear_named : (at : Place) (inner : Deeper) → IsClear inner → Clearly (named_form at inner) (token_look (name ∷ [])) []
 clear_named at inner ki = clear_here (λ place. clear_then clear_name (λ called_as. clear_behind_name at inner ki called_as place (called at called_as)))
 
 clear_roa_table : (at : Place) (place : ℕ) → Clearly (roa_table at place) (token_look (name ∷ [])) []
 clear_roa_table at place = clear_here (λ left. clear_then clear_name (λ table. clear_checks (clear_gives _)))
 
-clear_check_text : (at : Place) (inner : Deeper) → IsClear inner → Clearly (check_text at inner) (token_look checks_word) []
+clear_check_text : (at : Place) (inner : Deeper) → IsClear inner → Clearly (check_form at inner) (token_look checks_word) []
 clear_check_text at inner ki =
     clear_here (λ place.
     clear_then (clear_token _ _ (known_check at)) (λ x.
@@ -171,11 +171,11 @@ clear_check_text at inner ki =
     clear_then (clear_mark mark.Comma) (λ y.
     clear_then (clear_enclosed (expression_of unary) (clear_expression unary ku) at roa_values place) (λ parts. clear_gives _))))))
 
-clear_set : (at : Place) (inner : Deeper) → Clearly (set_text at inner) (token_look (marked mark.SetOpen ∷ [])) []
+clear_set : (at : Place) (inner : Deeper) → Clearly (set_form at inner) (token_look (marked mark.SetOpen ∷ [])) []
 clear_set at inner = clear_then (clear_mark mark.SetOpen) (λ x. clear_then (clear_elements at.names (is_left inner)) (λ s. clear_gives _))
 
-clear_operand : (at : Place) (inner : Deeper) → IsClear inner → Clearly (operand_text at inner) unary_look []
-unfolding operand_text
+clear_operand : (at : Place) (inner : Deeper) → IsClear inner → Clearly (operand_form at inner) unary_look []
+unfolding operand_form
 clear_operand at inner ki =
     clear_wider
     (clear_choice (clear_negation inner ki)
@@ -187,6 +187,6 @@ clear_operand at inner ki =
     refl refl) refl refl) refl refl) refl refl) refl refl) refl refl)
     refl refl
 
-pub clear_unary : (at : Place) (levels : ℕ) → Clearly (unary_text at levels) unary_look []
+pub clear_unary : (at : Place) (levels : ℕ) → Clearly (unary_form at levels) unary_look []
 clear_unary at zero = clear_operand at nothing tt
-clear_unary at (suc levels) = clear_operand at (deeper (unary_text at levels)) (clear_unary at levels)
+clear_unary at (suc levels) = clear_operand at (deeper (unary_form at levels)) (clear_unary at levels)

@@ -1,5 +1,5 @@
 -- What is known of the grammars of sets and of what stands in them, also of what may not stand behind.
-use Rattle.std.proofs.Common.{◌≡◌, ℕ, Bool, true, List, [], ◌∷◌, Option, Some, None, refl}
+use Rattle.std.proofs.Common.{◌≡◌, ◌||◌, ℕ, Bool, true, List, [], ◌∷◌, Option, Some, None, refl}
 use Rattle.std.specs.Option.{is_some}
 use Rattle.ixp_num.specs.declared.prefix.Prefix.{Prefix}
 use Rattle.ixp_tokens.specs.declared.token.Kind.{Kind}
@@ -11,7 +11,7 @@ use Rattle.ixp_tokens.proofs.Looks.{Look, full_look, token_look}
 use Rattle.ixp_tokens.proofs.ClearLooks.{Clearly, clear_gives, clear_takes, clear_mark, clear_name, clear_number, clear_addr, clear_sequence, clear_then, clear_choice, clear_checks, clear_here, clear_wider}
 use Rattle.ixp_exprs.specs.declared.elements.Arity.{Arity}
 use Rattle.ixp_exprs.specs.Names.{Names}
-use Rattle.ixp_exprs.specs.Sets.{numeral, range, prefix_in, bounded_length, bounds, pattern_text, pair_end, triple_end, tuple_end, tuple_text, may_be_pair, may_be_triple, elements}
+use Rattle.ixp_exprs.specs.Sets.{numeral, range, prefix_in, bounded_length, bounds, set_pattern_form, pair_end, triple_end, tuple_end, tuple_form, has_great_part, may_be_pair, may_be_triple, elements}
 use Rattle.ixp_exprs.proofs.ClearLists.{clear_only, clear_ended, clear_deepened, clear_listed}
 
 abbrev pub numeral_starts : List Front
@@ -45,7 +45,7 @@ clear_bounds p =
 abbrev pub pattern_look : Look
 pattern_look = full_look (prefix ∷ []) (marked BlockOpen ∷ marked Plus ∷ marked Minus ∷ [])
 
-pub clear_pattern : Clearly pattern_text pattern_look []
+pub clear_pattern : Clearly set_pattern_form pattern_look []
 clear_pattern =
     clear_wider
     (clear_then clear_prefix (λ p.
@@ -66,12 +66,12 @@ clear_tuple_end names wanted first at =
     clear_choice (clear_only (may_be_pair wanted) (clear_then (clear_mark Star) (λ x. clear_pair_end first at None at_second)))
     (clear_then (clear_numeral names) (λ second.
     clear_choice (clear_only (may_be_triple wanted) (clear_then (clear_mark Comma) (λ x. clear_triple_end names first second)))
-    (clear_only (may_be_pair wanted) (clear_pair_end first at (Some second) at_second)) refl refl)) refl refl)
+    (clear_only (may_be_pair wanted || has_great_part first second) (clear_pair_end first at (Some second) at_second)) refl refl)) refl refl)
 
 abbrev pub tuple_look : Look
 tuple_look = token_look (marked Open ∷ [])
 
-pub clear_tuple : (names : Names) (is_level_left : Bool) (wanted : Option Arity) → Clearly (tuple_text names is_level_left wanted) tuple_look []
+pub clear_tuple : (names : Names) (is_level_left : Bool) (wanted : Option Arity) → Clearly (tuple_form names is_level_left wanted) tuple_look []
 clear_tuple names is_level_left wanted =
     clear_deepened is_level_left Open
     (clear_here (λ at. clear_then (clear_numeral names) (λ first. clear_then (clear_mark Comma) (λ x. clear_tuple_end names wanted first at))))

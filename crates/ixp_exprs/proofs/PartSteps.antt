@@ -14,7 +14,7 @@ use Rattle.ixp_exprs.specs.declared.group.Shape.TheVariants.{Plain, Call, RoaChe
 use Rattle.ixp_exprs.specs.declared.operator.Joint.{Joint}
 use Rattle.ixp_exprs.specs.declared.types.ValueType.TheVariants.{Bool as Truth}
 use Rattle.ixp_exprs.specs.Operands.{Operand, fits, misfit_at}
-use Rattle.ixp_exprs.specs.Expressions.{Place, Shape, plain, arguments, roa_values, Parts, no_parts, part_text, some_parts, enclosed, chain_of, chain_part, begun_with}
+use Rattle.ixp_exprs.specs.Expressions.{Place, Shape, plain, arguments, roa_values, Parts, no_parts, part_form, some_parts, enclosed, chain_of, chain_part, begun_with}
 use Rattle.ixp_exprs.specs.Groups.{partless, limit}
 use Rattle.ixp_exprs.specs.Joints.{joint_mark, other_mark, joined_by}
 use Rattle.ixp_lang.specs.Trees.{conjunction, disjunction}
@@ -47,7 +47,7 @@ module _ (at : Place) (expression : Grammar Operand) where
 
   -- and where nothing is told, its parts are read
   pub untold : (shape : Shape) (place : ℕ) (ts : List Kind) → partless at shape place ts ≡ None
-      → read (enclosed at expression shape place) ts ≡ read_rounds (length ts) (λ s ts. read (part_text expression shape place s) ts) (no_parts (length ts)) ts
+      → read (enclosed at expression shape place) ts ≡ read_rounds (length ts) (λ s ts. read (part_form expression shape place s) ts) (no_parts (length ts)) ts
   untold (arguments []) place ts e = absurd cc
   untold (arguments (p ∷ ps)) place [] e = refl
   untold (arguments (p ∷ ps)) place (k ∷ ts) e =

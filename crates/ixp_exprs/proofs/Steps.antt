@@ -14,7 +14,7 @@ use Rattle.ixp_exprs.specs.Answers.{Refuses, Leads, Passes}
 use Rattle.ixp_exprs.specs.Lists.{first_in}
 use Rattle.ixp_exprs.specs.Types.{takes_right}
 use Rattle.ixp_exprs.specs.Operands.{Operand, fits, fits_left, refused_now, compared}
-use Rattle.ixp_exprs.specs.Expressions.{Place, unary_text, comparison_of, expression_of, operator_in, chain_of, chain_part, begun_with}
+use Rattle.ixp_exprs.specs.Expressions.{Place, unary_form, comparison_of, expression_of, operator_in, chain_of, chain_part, begun_with}
 use Rattle.ixp_exprs.specs.Joints.{joint_in, joint_mark, other_mark, joined_by}
 use Rattle.ixp_exprs.specs.declared.operator.Joint.{Joint}
 use Rattle.ixp_exprs.specs.declared.operator.Joint.TheVariants as joint
@@ -38,8 +38,8 @@ pub hindered : {X M A : Type 0} (view : X → M) (made : M) (fault : Fault) (o :
 hindered view made NoMemory o r h = tt
 hindered view made (Stop cause left) o r h = ap (λ x. checked x r) h
 
-pub not_at_last : (at : Place) (d : ℕ) (ts rest : List Kind) → d ≡ 0 → behind (is_mark mark.Not) ts ≡ Some rest → read (unary_text at d) ts ≡ Err (Deep, length ts)
-not_at_last at d ts rest none e = ap (λ x. read (unary_text at x) ts) none ∙ not_last at ts rest e
+pub not_at_last : (at : Place) (d : ℕ) (ts rest : List Kind) → d ≡ 0 → behind (is_mark mark.Not) ts ≡ Some rest → read (unary_form at d) ts ≡ Err (Deep, length ts)
+not_at_last at d ts rest none e = ap (λ x. read (unary_form at x) ts) none ∙ not_last at ts rest e
 
 module _ (unary : Grammar Operand) where
   -- what is read of the operand on the right, whose operator is at the place

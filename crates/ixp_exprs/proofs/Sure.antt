@@ -14,7 +14,7 @@ use Rattle.ixp_tokens.proofs.Seen.{first_seen, clearly_seen}
 use Rattle.ixp_exprs.specs.Names.{Names}
 use Rattle.ixp_exprs.specs.Declarations.{free_name}
 use Rattle.ixp_exprs.specs.Lists.{never}
-use Rattle.ixp_exprs.specs.Expressions.{Place, Shape, enclosed, expression_text}
+use Rattle.ixp_exprs.specs.Expressions.{Place, Shape, enclosed, expression_form}
 use Rattle.ixp_exprs.proofs.ClearLists.{clear_never}
 use Rattle.ixp_exprs.proofs.ClearExpressions.{clear_enclosed}
 use Rattle.ixp_exprs.proofs.KnownExpressions.{operand_starts, clear_expression_text}
@@ -50,8 +50,8 @@ next_seen test = first_seen behind_else (is_next test) (first_test test)
 pub sure_deep : {A : Type 0} (test : Kind → Bool) (fs : List Front) → ((ts : List Kind) → is_next test ts ≡ true → Starts fs ts) → Sure (bars (is_next test) Deep (never {A = A})) (token_look (fs ++ []))
 sure_deep test fs barred = clear_bars (is_next test) Deep fs barred (clear_never (token_look []) []) (next_seen test)
 
-pub first_enclosed : (at : Place) (levels : ℕ) (to : Place) (shape : Shape) (place : ℕ) → First (enclosed to (expression_text at levels) shape place) (token_look (marked mark.Close ∷ operand_starts))
-first_enclosed at levels to shape place = clear_enclosed (expression_text at levels) (clear_expression_text at levels) to shape place
+pub first_enclosed : (at : Place) (levels : ℕ) (to : Place) (shape : Shape) (place : ℕ) → First (enclosed to (expression_form at levels) shape place) (token_look (marked mark.Close ∷ operand_starts))
+first_enclosed at levels to shape place = clear_enclosed (expression_form at levels) (clear_expression_text at levels) to shape place
 
 pub clear_free_name : {T : (List Kind → Bool) → Type 0} (names : Names) → ClearlyBy T (free_name names) (token_look (name ∷ [])) []
 clear_free_name names = clear_here (λ left. clear_then clear_name (λ found. clear_checks (clear_gives _)))

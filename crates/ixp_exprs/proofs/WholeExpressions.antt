@@ -24,7 +24,7 @@ use Rattle.ixp_tokens.proofs.Whole.{Part, Whole, can_end, can_follow, passes_on,
 use Rattle.ixp_exprs.specs.declared.env.Signature.{Signature}
 use Rattle.ixp_exprs.specs.declared.types.ValueType.{ValueType}
 use Rattle.ixp_exprs.specs.Operands.{Operand}
-use Rattle.ixp_exprs.specs.Expressions.{Place, has_parts, length_of, part_in, word_in, attribute_in, outside_define, check_word, operator_in, literal_in, front_in, attribute_text, Shape, plain, arguments, roa_values, part_end_in, may_go_on, may_end, Parts, part_text, some_parts, no_parts, with_part, ends_with, enclosed, Chain, chained, comparison_of, chain_part, chain_of, expression_of, Deeper, nothing, deeper, opened, negation_text, plain_text, call_text, name_text, named_text, called, check_text, roa_table, set_text, operand_text, unary_text, expression_text, front}
+use Rattle.ixp_exprs.specs.Expressions.{Place, has_parts, length_of, part_in, word_in, attribute_in, outside_define, check_word, operator_in, literal_in, front_in, attribute_form, Shape, plain, arguments, roa_values, part_end_in, may_go_on, may_end, Parts, part_form, some_parts, no_parts, with_part, ends_with, enclosed, Chain, chained, comparison_of, chain_part, chain_of, expression_of, Deeper, nothing, deeper, opened, negation_form, plain_form, call_form, name_form, named_form, called, check_form, roa_table, set_form, operand_form, unary_form, expression_form, front}
 use Rattle.ixp_exprs.proofs.KnownTokens.{literals, checks_word, attributes, operators, parts, part_ends, known_literal, known_part, known_attribute, known_check, known_operator, known_part_end, front_tokens, known_front_token}
 use Rattle.ixp_exprs.proofs.ClearExpressions.{operand_starts, unary_look, comparison_look, expression_bars, expression_look, behind_name, clear_chain_rounds, clear_part_text, clear_parts_rounds, clear_unary}
 use Rattle.ixp_exprs.proofs.WholeLists.{whole_mark, whole_name, part_only, whole_ended, whole_level}
@@ -50,7 +50,7 @@ part_attribute at = record { supplied = supplied_takes _; clearly = clear_token 
 part_check : (at : Place) → Part (takes (word_in (outside_define at check_word))) (takes (word_in (outside_define at check_word))) (token_look checks_word) []
 part_check at = record { supplied = supplied_takes _; clearly = clear_token _ _ (known_check at) }
 
-whole_attribute_text : (a : Attr) → Whole (attribute_text a) (attribute_text a) (record { leads = false; full = false; starts = marked mark.Dot ∷ []; ends = marked mark.Dot ∷ [] }) []
+whole_attribute_text : (a : Attr) → Whole (attribute_form a) (attribute_form a) (record { leads = false; full = false; starts = marked mark.Dot ∷ []; ends = marked mark.Dot ∷ [] }) []
 whole_attribute_text a =
     whole_right (part_only (has_parts a) (part_of (whole_then (whole_mark mark.Dot) (λ x. whole_then (whole_part a) (λ p. whole_gives _))))) (whole_gives _) refl refl
 
@@ -148,20 +148,20 @@ module _ (expression longer_one : Grammar Operand) (w : Whole expression longer_
   whole_part_end shape index k b is = whole_takes k b is (clear_token _ _ (known_part_end shape index))
 
   whole_part_text : (shape : Shape) (place : ℕ) (before : Parts) (k : Kind) (b : Bool) → part_end_in shape (length before.trees) k ≡ Some b
-      → Whole (part_text expression shape place before) (part_text longer_one shape place before) (token_look operand_starts) []
+      → Whole (part_form expression shape place before) (part_form longer_one shape place before) (token_look operand_starts) []
   whole_part_text shape place before k b is =
       whole_here (λ left. whole_sequence w (λ operand. whole_then (whole_part_end shape (length before.trees) k b is) (λ is_last. whole_checks (whole_gives _))) refl refl)
 
   -- one part and what ends it
   one_part : (shape : Shape) (place : ℕ) (before : Parts) (k : Kind) (b : Bool) → part_end_in shape (length before.trees) k ≡ Some b → (p : ℕ)
-      → (operand : Operand) × (ts : List Kind) × (q : ℕ) × Fine (part_text longer_one shape place before) (ends_with b (with_part before operand)) (spot p ts) (spot q [])
+      → (operand : Operand) × (ts : List Kind) × (q : ℕ) × Fine (part_form longer_one shape place before) (ends_with b (with_part before operand)) (spot p ts) (spot q [])
   one_part shape place before k b is p = by_text (w.text p)
     where
       part_ends_there : Starts part_ends (k ∷ [])
       part_ends_there = (known_part_end shape (length before.trees)).starts (k ∷ []) (ap is_some is)
 
       by_moves : (operand : Operand) (ts : List Kind) (q : ℕ) → Moves longer_one operand p ts q []
-          → (operand : Operand) × (ts : List Kind) × (q : ℕ) × Fine (part_text longer_one shape place before) (ends_with b (with_part before operand)) (spot p ts) (spot q [])
+          → (operand : Operand) × (ts : List Kind) × (q : ℕ) × Fine (part_form longer_one shape place before) (ends_with b (with_part before operand)) (spot p ts) (spot q [])
       by_moves operand ts q m = (
         operand,
         m.taken ++ k ∷ [],
@@ -175,56 +175,56 @@ module _ (expression longer_one : Grammar Operand) (w : Whole expression longer_
       )
 
       by_text : (operand : Operand) × (ts : List Kind) × (q : ℕ) × Fine longer_one operand (spot p ts) (spot q [])
-          → (operand : Operand) × (ts : List Kind) × (q : ℕ) × Fine (part_text longer_one shape place before) (ends_with b (with_part before operand)) (spot p ts) (spot q [])
+          → (operand : Operand) × (ts : List Kind) × (q : ℕ) × Fine (part_form longer_one shape place before) (ends_with b (with_part before operand)) (spot p ts) (spot q [])
       by_text (operand, ts, q, fine) = by_moves operand ts q (moves longer_one w.clearly.clear operand p ts (spot q []) fine)
 
   -- the last part
-  last_part_text : (shape : Shape) (place : ℕ) (before : Parts) (k : Kind) → part_end_in shape (length before.trees) k ≡ Some true → HasText (rounds (part_text longer_one shape place) before)
+  last_part_text : (shape : Shape) (place : ℕ) (before : Parts) (k : Kind) → part_end_in shape (length before.trees) k ≡ Some true → HasText (rounds (part_form longer_one shape place) before)
   last_part_text shape place before k is p = by_text (one_part shape place before k true is p)
     where
-      by_text : (operand : Operand) × (ts : List Kind) × (q : ℕ) × Fine (part_text longer_one shape place before) (done (with_part before operand)) (spot p ts) (spot q [])
-          → (v : Parts) × (ts : List Kind) × (q : ℕ) × Fine (rounds (part_text longer_one shape place) before) v (spot p ts) (spot q [])
+      by_text : (operand : Operand) × (ts : List Kind) × (q : ℕ) × Fine (part_form longer_one shape place before) (done (with_part before operand)) (spot p ts) (spot q [])
+          → (v : Parts) × (ts : List Kind) × (q : ℕ) × Fine (rounds (part_form longer_one shape place) before) v (spot p ts) (spot q [])
       by_text (operand, ts, q, fine) = (with_part before operand, ts, q, (zero, fine))
 
   -- one more part, and then others
   more_part_text : (shape : Shape) (place : ℕ) (before : Parts) (k : Kind) → part_end_in shape (length before.trees) k ≡ Some false
-      → ((operand : Operand) → HasText (rounds (part_text longer_one shape place) (with_part before operand))) → HasText (rounds (part_text longer_one shape place) before)
+      → ((operand : Operand) → HasText (rounds (part_form longer_one shape place) (with_part before operand))) → HasText (rounds (part_form longer_one shape place) before)
   more_part_text shape place before k is others p = by_text (one_part shape place before k false is p)
     where
-      by_others : (operand : Operand) (ts : List Kind) (m : ℕ) → Moves (part_text longer_one shape place before) (onward (with_part before operand)) p ts m []
-          → (v : Parts) × (more : List Kind) × (q : ℕ) × Fine (rounds (part_text longer_one shape place) (with_part before operand)) v (spot m more) (spot q [])
-          → (v : Parts) × (ts : List Kind) × (q : ℕ) × Fine (rounds (part_text longer_one shape place) before) v (spot p ts) (spot q [])
+      by_others : (operand : Operand) (ts : List Kind) (m : ℕ) → Moves (part_form longer_one shape place before) (onward (with_part before operand)) p ts m []
+          → (v : Parts) × (more : List Kind) × (q : ℕ) × Fine (rounds (part_form longer_one shape place) (with_part before operand)) v (spot m more) (spot q [])
+          → (v : Parts) × (ts : List Kind) × (q : ℕ) × Fine (rounds (part_form longer_one shape place) before) v (spot p ts) (spot q [])
       by_others operand ts m moved (v, more, q, fine) = (
         v,
         moved.taken ++ more,
         q,
-        more_rounds (part_text longer_one shape place) before (with_part before operand) v (spot p (moved.taken ++ more)) (spot m more) (spot q [])
+        more_rounds (part_form longer_one shape place) before (with_part before operand) v (spot p (moved.taken ++ more)) (spot m more) (spot q [])
             (moved.again more (inr (λ s. starts_never more ((clear_part_text longer_one w.clearly shape place before).spoils (onward (with_part before operand)) more s)))) fine,
       )
 
-      by_text : (operand : Operand) × (ts : List Kind) × (m : ℕ) × Fine (part_text longer_one shape place before) (onward (with_part before operand)) (spot p ts) (spot m [])
-          → (v : Parts) × (ts : List Kind) × (q : ℕ) × Fine (rounds (part_text longer_one shape place) before) v (spot p ts) (spot q [])
+      by_text : (operand : Operand) × (ts : List Kind) × (m : ℕ) × Fine (part_form longer_one shape place before) (onward (with_part before operand)) (spot p ts) (spot m [])
+          → (v : Parts) × (ts : List Kind) × (q : ℕ) × Fine (rounds (part_form longer_one shape place) before) v (spot p ts) (spot q [])
       by_text (operand, ts, m, fine) =
           by_others operand ts m
-          (moves (part_text longer_one shape place before) (clear_part_text longer_one w.clearly shape place before).clear (onward (with_part before operand)) p ts (spot m []) fine)
+          (moves (part_form longer_one shape place before) (clear_part_text longer_one w.clearly shape place before).clear (onward (with_part before operand)) p ts (spot m []) fine)
           (others operand m)
 
   -- the parts of a shape, by what is known of those before each
   whole_rounds : (shape : Shape) (place : ℕ) (I : Parts → Type 0) → ((t : Parts) → I t → (k : Kind) × (b : Bool) × (part_end_in shape (length t.trees) k ≡ Some b))
-      → ((t u : Parts) (x y : Spot) → I t → Fine (part_text longer_one shape place t) (onward u) x y → I u) → ((t : Parts) → I t → HasText (rounds (part_text longer_one shape place) t)) → (t : Parts) → I t
-      → Whole (rounds (part_text expression shape place) t) (rounds (part_text longer_one shape place) t) (token_look operand_starts) []
+      → ((t u : Parts) (x y : Spot) → I t → Fine (part_form longer_one shape place t) (onward u) x y → I u) → ((t : Parts) → I t → HasText (rounds (part_form longer_one shape place) t)) → (t : Parts) → I t
+      → Whole (rounds (part_form expression shape place) t) (rounds (part_form longer_one shape place) t) (token_look operand_starts) []
   whole_rounds shape place I tokens keeps texts t i = record {
     supplied =
-        supplied_rounds (part_text expression shape place) (part_text longer_one shape place) t I i (λ s j. by_token s (tokens s j)) keeps
+        supplied_rounds (part_form expression shape place) (part_form longer_one shape place) t I i (λ s j. by_token s (tokens s j)) keeps
         (λ s u j k.
-        can_end (part_text longer_one shape place s) (rounds (part_text longer_one shape place) u) (clear_part_text longer_one w.clearly shape place s).clear (onward u)
-        (text_free (part_text longer_one shape place s) (rounds (part_text longer_one shape place) u) (token_look operand_starts) (clear_part_text longer_one w.clearly shape place s) (texts u k) (onward u)))
-        (λ s u j k. can_follow (part_text longer_one shape place s) (rounds (part_text longer_one shape place) u) (clear_part_text longer_one w.clearly shape place s).clear (onward u));
+        can_end (part_form longer_one shape place s) (rounds (part_form longer_one shape place) u) (clear_part_text longer_one w.clearly shape place s).clear (onward u)
+        (text_free (part_form longer_one shape place s) (rounds (part_form longer_one shape place) u) (token_look operand_starts) (clear_part_text longer_one w.clearly shape place s) (texts u k) (onward u)))
+        (λ s u j k. can_follow (part_form longer_one shape place s) (rounds (part_form longer_one shape place) u) (clear_part_text longer_one w.clearly shape place s).clear (onward u));
     clearly = clear_parts_rounds longer_one w.clearly shape place t;
     text = texts t i;
   }
     where
-      by_token : (s : Parts) → (k : Kind) × (b : Bool) × (part_end_in shape (length s.trees) k ≡ Some b) → Supplied (Step Parts Parts) (part_text expression shape place s) (part_text longer_one shape place s)
+      by_token : (s : Parts) → (k : Kind) × (b : Bool) × (part_end_in shape (length s.trees) k ≡ Some b) → Supplied (Step Parts Parts) (part_form expression shape place s) (part_form longer_one shape place s)
       by_token s (k, b, is) = (whole_part_text shape place s k b is).supplied
 
   plain_ends : (index : ℕ) → part_end_in plain index (kind.Mark mark.Close) ≡ Some true
@@ -245,19 +245,19 @@ module _ (expression longer_one : Grammar Operand) (w : Whole expression longer_
   roa_token (suc zero) index e few = (kind.Mark mark.Close, true, second_value index e)
   roa_token (suc (suc n)) index e few = absurd (omega arith)
 
-  second_text : (place : ℕ) (t : Parts) → length t.trees ≡ 1 → HasText (rounds (part_text longer_one roa_values place) t)
+  second_text : (place : ℕ) (t : Parts) → length t.trees ≡ 1 → HasText (rounds (part_form longer_one roa_values place) t)
   second_text place t e = last_part_text roa_values place t (kind.Mark mark.Close) (second_value (length t.trees) e)
 
   one_more : (t : Parts) (operand : Operand) → length (with_part t operand).trees ≡ length t.trees + 1
   one_more t operand = length-append t.trees (operand.tree ∷ [])
 
-  roa_text : (place : ℕ) (t : Parts) (n : ℕ) → length t.trees ≡ n → n ≤ 1 → HasText (rounds (part_text longer_one roa_values place) t)
+  roa_text : (place : ℕ) (t : Parts) (n : ℕ) → length t.trees ≡ n → n ≤ 1 → HasText (rounds (part_form longer_one roa_values place) t)
   roa_text place t zero e few =
       more_part_text roa_values place t (kind.Mark mark.Comma) (first_value (length t.trees) e) (λ operand. second_text place (with_part t operand) (let more = one_more t operand in omega arith))
   roa_text place t (suc zero) e few = second_text place t e
   roa_text place t (suc (suc n)) e few = absurd (omega arith)
 
-  roa_keeps : (place : ℕ) (t u : Parts) (x y : Spot) → length t.trees ≤ 1 → Fine (part_text longer_one roa_values place t) (onward u) x y → length u.trees ≤ 1
+  roa_keeps : (place : ℕ) (t u : Parts) (x y : Spot) → length t.trees ≤ 1 → Fine (part_form longer_one roa_values place t) (onward u) x y → length u.trees ≤ 1
   roa_keeps place t u x y few (operand, z, one, (true, z2, takes_it, (same, there))) = absurd cc
   roa_keeps place t u x y few (operand, (zp, []), one, (false, z2, takes_it, (same, there))) = absurd takes_it
   roa_keeps place t u x y few (operand, (zp, k ∷ ts), one, (false, z2, (is, rest), (same, there))) =
@@ -300,33 +300,33 @@ whole_opened : {A : Type 0} {f : Grammar Operand → Grammar A} {l : Look} (m : 
 whole_opened m _ _ (first_level upper known text) wf = whole_level m (λ x. wf (checks (Some (Deep, 0)) upper) upper (refused_is upper known text))
 whole_opened m _ _ (next_level unary upper w) wf = whole_then (whole_mark m) (λ x. wf unary upper w)
 
-whole_negation : (inner outer : Deeper) → Above inner outer → Whole (negation_text inner) (negation_text outer) (full_look (marked mark.Not ∷ []) (marked mark.Dot ∷ [])) []
+whole_negation : (inner outer : Deeper) → Above inner outer → Whole (negation_form inner) (negation_form outer) (full_look (marked mark.Not ∷ []) (marked mark.Dot ∷ [])) []
 whole_negation inner outer above =
     whole_here (λ place. whole_opened mark.Not inner outer above (λ unary upper w. whole_sequence w (λ operand. whole_checks (whole_gives _)) refl refl))
 
-whole_plain : (at : Place) (inner outer : Deeper) → Above inner outer → Whole (plain_text at inner) (plain_text at outer) (token_look (marked mark.Open ∷ [])) []
+whole_plain : (at : Place) (inner outer : Deeper) → Above inner outer → Whole (plain_form at inner) (plain_form at outer) (token_look (marked mark.Open ∷ [])) []
 whole_plain at inner outer above =
     whole_opened mark.Open inner outer above (λ unary upper w.
     whole_then (whole_enclosed (expression_of unary) (expression_of upper) (whole_expression unary upper w) at plain at.statement) (λ ps. whole_gives _))
 
 whole_call : (at : Place) (inner outer : Deeper) → Above inner outer → (called_as : List ℕ) (place : ℕ) (signature : Signature)
-    → Whole (call_text at inner called_as place signature) (call_text at outer called_as place signature) (token_look (marked mark.Open ∷ [])) []
+    → Whole (call_form at inner called_as place signature) (call_form at outer called_as place signature) (token_look (marked mark.Open ∷ [])) []
 whole_call at inner outer above called_as place signature =
     whole_checks
     (whole_opened mark.Open inner outer above (λ unary upper w.
     whole_then (whole_enclosed (expression_of unary) (expression_of upper) (whole_expression unary upper w) at (arguments signature.params) place) (λ ps. whole_gives _)))
 
-whole_behind_name : (at : Place) (inner outer : Deeper) → Above inner outer → (called_as : List ℕ) (place : ℕ) (s : Option Signature) → Whole (name_text at inner called_as place s) (name_text at outer called_as place s) behind_name []
+whole_behind_name : (at : Place) (inner outer : Deeper) → Above inner outer → (called_as : List ℕ) (place : ℕ) (s : Option Signature) → Whole (name_form at inner called_as place s) (name_form at outer called_as place s) behind_name []
 whole_behind_name at inner outer above called_as place (Some signature) = whole_wider (whole_call at inner outer above called_as place signature) refl refl
 whole_behind_name at inner outer above called_as place None = whole_wider (whole_checks (whole_gives _)) refl refl
 
-whole_named : (at : Place) (inner outer : Deeper) → Above inner outer → Whole (named_text at inner) (named_text at outer) (token_look (name ∷ [])) []
+whole_named : (at : Place) (inner outer : Deeper) → Above inner outer → Whole (named_form at inner) (named_form at outer) (token_look (name ∷ [])) []
 whole_named at inner outer above = whole_here (λ place. whole_then whole_name (λ called_as. whole_behind_name at inner outer above called_as place (called at called_as)))
 
 whole_roa_table : (at : Place) (place : ℕ) → Whole (roa_table at place) (roa_table at place) (token_look (name ∷ [])) []
 whole_roa_table at place = whole_here (λ left. whole_then whole_name (λ table. whole_checks (whole_gives _)))
 
-part_check_text : (at : Place) (inner outer : Deeper) → Above inner outer → Part (check_text at inner) (check_text at outer) (token_look checks_word) []
+part_check_text : (at : Place) (inner outer : Deeper) → Above inner outer → Part (check_form at inner) (check_form at outer) (token_look checks_word) []
 part_check_text at inner outer above =
     part_here (λ place.
     part_then (part_check at) (λ x.
@@ -335,12 +335,12 @@ part_check_text at inner outer above =
     whole_then (whole_mark mark.Comma) (λ y.
     whole_then (whole_enclosed (expression_of unary) (expression_of upper) (whole_expression unary upper w) at roa_values place) (λ ps. whole_gives _))))))
 
-whole_set : (at : Place) (inner outer : Deeper) → Above inner outer → Whole (set_text at inner) (set_text at outer) (token_look (marked mark.SetOpen ∷ [])) []
+whole_set : (at : Place) (inner outer : Deeper) → Above inner outer → Whole (set_form at inner) (set_form at outer) (token_look (marked mark.SetOpen ∷ [])) []
 whole_set at _ _ (first_level upper known text) = whole_then (whole_mark mark.SetOpen) (λ x. whole_then (whole_elements at.names false) (λ s. whole_gives _))
 whole_set at _ _ (next_level unary upper w) = whole_then (whole_mark mark.SetOpen) (λ x. whole_then (whole_elements at.names true) (λ s. whole_gives _))
 
-whole_operand : (at : Place) (inner outer : Deeper) → Above inner outer → Whole (operand_text at inner) (operand_text at outer) unary_look []
-unfolding operand_text
+whole_operand : (at : Place) (inner outer : Deeper) → Above inner outer → Whole (operand_form at inner) (operand_form at outer) unary_look []
+unfolding operand_form
 whole_operand at inner outer above =
     whole_wider
     (whole_right (part_of (whole_negation inner outer above))
@@ -353,19 +353,19 @@ whole_operand at inner outer above =
     refl refl
 
 -- a number is a text at any place and number of levels
-operand_has_text : (at : Place) (inner : Deeper) → HasText (operand_text at inner)
-unfolding operand_text
+operand_has_text : (at : Place) (inner : Deeper) → HasText (operand_form at inner)
+unfolding operand_form
 operand_has_text at inner p = (_, kind.Number 0 ∷ [], pred p, inr (inr (inr (inr (inl (refl, refl))))))
 
-unary_has_text : (at : Place) (levels : ℕ) → HasText (unary_text at levels)
+unary_has_text : (at : Place) (levels : ℕ) → HasText (unary_form at levels)
 unary_has_text at zero = operand_has_text at nothing
-unary_has_text at (suc levels) = operand_has_text at (deeper (unary_text at levels))
+unary_has_text at (suc levels) = operand_has_text at (deeper (unary_form at levels))
 
-whole_unary : (at : Place) (levels more : ℕ) → levels < more → Whole (unary_text at levels) (unary_text at more) unary_look []
+whole_unary : (at : Place) (levels more : ℕ) → levels < more → Whole (unary_form at levels) (unary_form at more) unary_look []
 whole_unary at levels zero less = absurd (omega arith)
-whole_unary at zero (suc more) less = whole_operand at nothing (deeper (unary_text at more)) (first_level (unary_text at more) (clear_unary at more) (unary_has_text at more))
+whole_unary at zero (suc more) less = whole_operand at nothing (deeper (unary_form at more)) (first_level (unary_form at more) (clear_unary at more) (unary_has_text at more))
 whole_unary at (suc levels) (suc more) less =
-    whole_operand at (deeper (unary_text at levels)) (deeper (unary_text at more)) (next_level (unary_text at levels) (unary_text at more) (whole_unary at levels more (omega arith)))
+    whole_operand at (deeper (unary_form at levels)) (deeper (unary_form at more)) (next_level (unary_form at levels) (unary_form at more) (whole_unary at levels more (omega arith)))
 
-pub whole_expression_text : (at : Place) (levels more : ℕ) → levels < more → Whole (expression_text at levels) (expression_text at more) expression_look expression_bars
-whole_expression_text at levels more less = whole_expression (unary_text at levels) (unary_text at more) (whole_unary at levels more less)
+pub whole_expression_text : (at : Place) (levels more : ℕ) → levels < more → Whole (expression_form at levels) (expression_form at more) expression_look expression_bars
+whole_expression_text at levels more less = whole_expression (unary_form at levels) (unary_form at more) (whole_unary at levels more less)

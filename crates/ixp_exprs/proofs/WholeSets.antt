@@ -1,5 +1,5 @@
 -- Sets and what stands in them, and what they are with more levels.
-use Rattle.std.proofs.Common.{ℕ, Bool, true, [], ◌∷◌, Option, Some, None, refl}
+use Rattle.std.proofs.Common.{ℕ, Bool, true, ◌||◌, [], ◌∷◌, Option, Some, None, refl}
 use Rattle.ixp_num.specs.declared.prefix.Prefix.{Prefix}
 use Rattle.ixp_tokens.specs.declared.token.Kind.TheVariants as kind
 use Rattle.ixp_tokens.specs.declared.token.Mark.TheVariants.{Comma, Range, Open, Close, BlockOpen, BlockClose, SetClose, Plus, Minus, Star}
@@ -12,7 +12,7 @@ use Rattle.ixp_tokens.proofs.Whole.{Whole, part_of, whole_gives, whole_takes, wh
 use Rattle.ixp_exprs.specs.declared.elements.Arity.{Arity}
 use Rattle.ixp_exprs.specs.declared.elements.Arity.TheVariants as arity
 use Rattle.ixp_exprs.specs.Names.{Names}
-use Rattle.ixp_exprs.specs.Sets.{numeral, range, prefix_in, bounded_length, bounds, pattern_text, pair_end, triple_end, tuple_end, tuple_text, may_be_pair, may_be_triple, elements}
+use Rattle.ixp_exprs.specs.Sets.{numeral, range, prefix_in, bounded_length, bounds, set_pattern_form, pair_end, triple_end, tuple_end, tuple_form, has_great_part, may_be_pair, may_be_triple, elements}
 use Rattle.ixp_exprs.proofs.ClearSets.{numeral_starts, range_look, pattern_look, tuple_look, elements_starts, clear_prefix}
 use Rattle.ixp_exprs.proofs.WholeLists.{whole_mark, whole_name, whole_number, whole_addr, a_prefix_there, part_never, part_only, whole_ended, whole_deepened, whole_listed}
 
@@ -34,7 +34,7 @@ whole_bounds : (p : Prefix) → Whole (bounds p) (bounds p) (token_look (number 
 whole_bounds p =
     whole_then (whole_length 0 _) (λ low. whole_then (whole_mark Comma) (λ x. whole_then (whole_length low _) (λ high. whole_ended BlockClose _)))
 
-pub whole_pattern : Whole pattern_text pattern_text pattern_look []
+pub whole_pattern : Whole set_pattern_form set_pattern_form pattern_look []
 whole_pattern =
     whole_wider
     (whole_then whole_prefix (λ p.
@@ -51,13 +51,14 @@ whole_triple_end names a b =
 
 -- the end of a tuple behind its second part: a pair's, or a triple's
 second_end : (names : Names) (wanted : Option Arity) (first at second at_second : ℕ)
-    → Whole (choice (only (may_be_triple wanted) (sequence (the_mark Comma) (λ x. triple_end names first second))) (only (may_be_pair wanted) (pair_end first at (Some second) at_second)))
-    (choice (only (may_be_triple wanted) (sequence (the_mark Comma) (λ x. triple_end names first second))) (only (may_be_pair wanted) (pair_end first at (Some second) at_second)))
+    → Whole (choice (only (may_be_triple wanted) (sequence (the_mark Comma) (λ x. triple_end names first second))) (only (may_be_pair wanted || has_great_part first second) (pair_end first at (Some second) at_second)))
+    (choice (only (may_be_triple wanted) (sequence (the_mark Comma) (λ x. triple_end names first second))) (only (may_be_pair wanted || has_great_part first second) (pair_end first at (Some second) at_second)))
     (token_look (marked Comma ∷ marked Close ∷ [])) []
 second_end names None first at second at_second =
     whole_choice (whole_then (whole_mark Comma) (λ x. whole_triple_end names first second)) (whole_pair_end first at (Some second) at_second) refl refl
 second_end names (Some arity.Triple) first at second at_second =
-    whole_left (whole_then (whole_mark Comma) (λ x. whole_triple_end names first second)) (part_never (token_look (marked Close ∷ [])) []) refl refl
+    whole_left (whole_then (whole_mark Comma) (λ x. whole_triple_end names first second))
+    (part_only (has_great_part first second) (part_of (whole_pair_end first at (Some second) at_second))) refl refl
 second_end names (Some arity.Pair) first at second at_second =
     whole_right (part_never (token_look (marked Comma ∷ [])) []) (whole_pair_end first at (Some second) at_second) refl refl
 
@@ -67,7 +68,7 @@ whole_tuple_end names wanted first at =
     whole_right (part_only (may_be_pair wanted) (part_of (whole_then (whole_mark Star) (λ x. whole_pair_end first at None at_second))))
     (whole_then (whole_numeral names) (λ second. second_end names wanted first at second at_second)) refl refl)
 
-pub whole_tuple : (names : Names) (is_level_left : Bool) (wanted : Option Arity) → Whole (tuple_text names is_level_left wanted) (tuple_text names true wanted) tuple_look []
+pub whole_tuple : (names : Names) (is_level_left : Bool) (wanted : Option Arity) → Whole (tuple_form names is_level_left wanted) (tuple_form names true wanted) tuple_look []
 whole_tuple names is_level_left wanted =
     whole_deepened is_level_left Open
     (whole_here (λ at. whole_then (whole_numeral names) (λ first. whole_then (whole_mark Comma) (λ x. whole_tuple_end names wanted first at))))

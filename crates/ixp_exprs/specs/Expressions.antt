@@ -103,8 +103,8 @@ abbrev pub bare_attribute : Attr → Operand
 bare_attribute attr = record { tree = attribute attr; ty = attribute_type attr; is_open = has_parts attr; misfit = None }
 
 -- an attribute, which a dot and a word make another one
-abbrev pub attribute_text : Attr → Grammar Operand
-attribute_text attr =
+abbrev pub attribute_form : Attr → Grammar Operand
+attribute_form attr =
     choice (only (has_parts attr) (sequence (the_mark mark.Dot) (λ tt. sequence (takes (word_in (part_in attr))) (λ part. gives (closed (attribute part) (attribute_type part))))))
     (gives (bare_attribute attr))
 
@@ -195,11 +195,11 @@ part_ending shape place left before operand =
     checks (fits_next shape before is_last operand left place) (gives (ends_with is_last (with_part before operand))))
 
 -- one part, and what ends it
-abbrev pub part_text : Grammar Operand → Shape → ℕ → Parts → Grammar (Step Parts Parts)
-part_text expression shape place before = here (λ left. sequence expression (λ operand. part_ending shape place left before operand))
+abbrev pub part_form : Grammar Operand → Shape → ℕ → Parts → Grammar (Step Parts Parts)
+part_form expression shape place before = here (λ left. sequence expression (λ operand. part_ending shape place left before operand))
 
 abbrev pub some_parts : Grammar Operand → Shape → ℕ → Grammar Parts
-some_parts expression shape place = here (λ left. rounds (part_text expression shape place) (no_parts left))
+some_parts expression shape place = here (λ left. rounds (part_form expression shape place) (no_parts left))
 
 -- what an operand may begin with, as far as the first token tells
 abbrev pub is_front_word : List ℕ → Bool
@@ -352,31 +352,31 @@ abbrev pub opened : {A : Type 0} → Mark → Deeper → (Grammar Operand → Gr
 opened mark (deeper unary) f = sequence (the_mark mark) (λ tt. f unary)
 opened mark nothing f = bars (is_next (is_mark mark)) Deep never
 
-abbrev pub negation_text : Deeper → Grammar Operand
-negation_text inner =
+abbrev pub negation_form : Deeper → Grammar Operand
+negation_form inner =
     here (λ place.
     opened mark.Not inner (λ unary.
     sequence unary (λ operand. checks (refused_now operand (same_type operand.ty Truth) place) (gives (negated operand place)))))
 
 -- an expression in parentheses, a pair or a triple
-abbrev pub plain_text : Place → Deeper → Grammar Operand
-plain_text at inner =
+abbrev pub plain_form : Place → Deeper → Grammar Operand
+plain_form at inner =
     opened mark.Open inner (λ unary. sequence (enclosed at (expression_of unary) plain at.statement) (λ parts. gives (plain_operand parts)))
 
-abbrev pub call_text : Place → Deeper → List ℕ → ℕ → Signature → Grammar Operand
-call_text at inner name place signature =
+abbrev pub call_form : Place → Deeper → List ℕ → ℕ → Signature → Grammar Operand
+call_form at inner name place signature =
     checks (if_missing signature.returns (misfit_at place))
     (opened mark.Open inner (λ unary.
     sequence (enclosed at (expression_of unary) (arguments signature.params) place) (λ parts.
     gives (closed (call name (exprs parts.trees)) (type_or signature.returns)))))
 
-abbrev pub name_text : Place → Deeper → List ℕ → ℕ → Option Signature → Grammar Operand
-name_text at inner name place (Some signature) = call_text at inner name place signature
-name_text at inner name place None = named_value at name place
+abbrev pub name_form : Place → Deeper → List ℕ → ℕ → Option Signature → Grammar Operand
+name_form at inner name place (Some signature) = call_form at inner name place signature
+name_form at inner name place None = named_value at name place
 
 -- a value that has a name, or a call
-abbrev pub named_text : Place → Deeper → Grammar Operand
-named_text at inner = here (λ place. sequence a_name (λ name. name_text at inner name place (called at name)))
+abbrev pub named_form : Place → Deeper → Grammar Operand
+named_form at inner = here (λ place. sequence a_name (λ name. name_form at inner name place (called at name)))
 
 -- the words that stand in no definition
 abbrev pub outside_define : {A : Type 0} → Place → (List ℕ → Option A) → List ℕ → Option A
@@ -386,36 +386,36 @@ abbrev pub check_word : List ℕ → Option (Unit {0})
 check_word word = if_so (same_word word (codes "roa_check"))
 
 -- what stands behind `roa_check`
-abbrev pub checked_text : Place → Deeper → ℕ → Grammar Operand
-checked_text at inner place =
+abbrev pub checked_form : Place → Deeper → ℕ → Grammar Operand
+checked_form at inner place =
     opened mark.Open inner (λ unary.
     sequence (roa_table at place) (λ table.
     sequence (the_mark mark.Comma) (λ tt.
     sequence (enclosed at (expression_of unary) roa_values place) (λ parts. gives (closed (check_tree table parts.trees) State)))))
 
-abbrev pub check_text : Place → Deeper → Grammar Operand
-check_text at inner = here (λ place. sequence (takes (word_in (outside_define at check_word))) (λ tt. checked_text at inner place))
+abbrev pub check_form : Place → Deeper → Grammar Operand
+check_form at inner = here (λ place. sequence (takes (word_in (outside_define at check_word))) (λ tt. checked_form at inner place))
 
-abbrev pub set_text : Place → Deeper → Grammar Operand
-set_text at inner =
+abbrev pub set_form : Place → Deeper → Grammar Operand
+set_form at inner =
     sequence (the_mark mark.SetOpen) (λ tt. sequence (elements at.names (is_left inner)) (λ s. gives (closed (set_literal s.0) s.1)))
 
 -- what stands alone
-unfoldable pub operand_text : Place → Deeper → Grammar Operand
-operand_text at inner =
-    choice (negation_text inner)
-    (choice (plain_text at inner)
-    (choice (check_text at inner)
-    (choice (named_text at inner)
+unfoldable pub operand_form : Place → Deeper → Grammar Operand
+operand_form at inner =
+    choice (negation_form inner)
+    (choice (plain_form at inner)
+    (choice (check_form at inner)
+    (choice (named_form at inner)
     (choice (takes literal_in)
-    (choice (sequence (takes (word_in (outside_define at attribute_in))) attribute_text)
-    (set_text at inner))))))
+    (choice (sequence (takes (word_in (outside_define at attribute_in))) attribute_form)
+    (set_form at inner))))))
 
 -- what stands alone, with so many levels below it at most
-abbrev pub unary_text : Place → ℕ → Grammar Operand
-unary_text at zero = operand_text at nothing
-unary_text at (suc levels) = operand_text at (deeper (unary_text at levels))
+abbrev pub unary_form : Place → ℕ → Grammar Operand
+unary_form at zero = operand_form at nothing
+unary_form at (suc levels) = operand_form at (deeper (unary_form at levels))
 
 -- an expression, with so many levels below it at most
-abbrev pub expression_text : Place → ℕ → Grammar Operand
-expression_text at levels = expression_of (unary_text at levels)
+abbrev pub expression_form : Place → ℕ → Grammar Operand
+expression_form at levels = expression_of (unary_form at levels)

@@ -23,7 +23,7 @@ use Rattle.ixp_exprs.specs.Names.{names_of}
 use Rattle.ixp_exprs.specs.Lists.{never}
 use Rattle.ixp_exprs.specs.Sets.{elements}
 use Rattle.ixp_exprs.specs.Operands.{Operand, closed, misfit_at, literal_number}
-use Rattle.ixp_exprs.specs.Expressions.{Place, Shape, plain, arguments, roa_values, Parts, no_parts, enclosed, plain_operand, check_tree, type_or, Deeper, nothing, deeper, unary_text, literal_in, word_in, outside_define, attribute_in, attribute_text, named_value, called, is_left, plain_text, check_text, named_text, expression_text, ends_with}
+use Rattle.ixp_exprs.specs.Expressions.{Place, Shape, plain, arguments, roa_values, Parts, no_parts, enclosed, plain_operand, check_tree, type_or, Deeper, nothing, deeper, unary_form, literal_in, word_in, outside_define, attribute_in, attribute_form, named_value, called, is_left, plain_form, check_form, named_form, expression_form, ends_with}
 
 abbrev pub place_of : Context → Place
 place_of cx = record { names = names_of cx.env.now; scope = cx.scope; statement = cx.statement }
@@ -104,22 +104,22 @@ below_if true unary = nothing
 below_if false unary = deeper unary
 
 abbrev pub below : Place → ℕ → Deeper
-below at depth = below_if (depth == 0) (unary_text at (depth - 1))
+below at depth = below_if (depth == 0) (unary_form at (depth - 1))
 
 abbrev pub set_in : Place → Bool → Grammar Operand
 set_in at is_level_left = sequence (the_mark mark.SetOpen) (λ tt. sequence (elements at.names is_level_left) (λ s. gives (closed (set_literal s.0) s.1)))
 
 abbrev pub attribute_or_set : Place → Bool → Grammar Operand
-attribute_or_set at is_level_left = choice (sequence (takes (word_in (outside_define at attribute_in))) attribute_text) (set_in at is_level_left)
+attribute_or_set at is_level_left = choice (sequence (takes (word_in (outside_define at attribute_in))) attribute_form) (set_in at is_level_left)
 
 -- literals, attributes and sets
-abbrev pub leaf_text : Place → Bool → Grammar Operand
-leaf_text at is_level_left = choice (takes literal_in) (attribute_or_set at is_level_left)
+abbrev pub leaf_form : Place → Bool → Grammar Operand
+leaf_form at is_level_left = choice (takes literal_in) (attribute_or_set at is_level_left)
 
 -- the same, or the name of a value
-abbrev pub atom_text : Place → Bool → Grammar Operand
-atom_text at is_level_left =
-    choice (here (λ place. sequence a_name (λ name. named_value at name place))) (leaf_text at is_level_left)
+abbrev pub atom_form : Place → Bool → Grammar Operand
+atom_form at is_level_left =
+    choice (here (λ place. sequence a_name (λ name. named_value at name place))) (leaf_form at is_level_left)
 
 -- the function that is next, where an expression may call one
 abbrev pub call_in : Place → List Kind → Option (List ℕ × Signature × List Kind)
@@ -129,18 +129,18 @@ call_in at (_ ∷ tokens) = None
 
 -- a call, the name of a value, or what has no name
 abbrev pub call_or : Place → Deeper → Grammar Operand
-call_or at inner = choice (named_text at inner) (leaf_text at (is_left inner))
+call_or at inner = choice (named_form at inner) (leaf_form at (is_left inner))
 
 -- or `roa_check`
 abbrev pub check_or : Place → Deeper → Grammar Operand
-check_or at inner = choice (check_text at inner) (call_or at inner)
+check_or at inner = choice (check_form at inner) (call_or at inner)
 
 -- or what is in parentheses
 abbrev pub plain_or : Place → Deeper → Grammar Operand
-plain_or at inner = choice (plain_text at inner) (check_or at inner)
+plain_or at inner = choice (plain_form at inner) (check_or at inner)
 
 -- what is left to be read where a group begins, and where none does
 abbrev pub from_opening : Place → ℕ → List Kind → Option Opened → Read Operand
-from_opening at depth tokens None = read (atom_text at (nat_lt 0 depth)) tokens
+from_opening at depth tokens None = read (atom_form at (nat_lt 0 depth)) tokens
 from_opening at depth tokens (Some opened) =
-    finishing opened.opening (read (enclosed at (expression_text at (depth - 1)) (shape_of (shape_in opened.opening)) opened.place) (kinds opened.behind.now))
+    finishing opened.opening (read (enclosed at (expression_form at (depth - 1)) (shape_of (shape_in opened.opening)) opened.place) (kinds opened.behind.now))

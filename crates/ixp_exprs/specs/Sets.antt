@@ -1,5 +1,5 @@
 -- Sets: all elements of one kind (BIRD 2 User's Guide, chapter "Filters", data types).
-use Rattle.std.specs.Prelude.{ℕ, Bool, true, false, ◌&&◌, nat_le, nat_lt, List, [], ◌∷◌, ◌++◌, Option, Some, None, if◌then◌else◌}
+use Rattle.std.specs.Prelude.{ℕ, Bool, true, false, ◌&&◌, ◌||◌, nat_le, nat_lt, List, [], ◌∷◌, ◌++◌, Option, Some, None, if◌then◌else◌}
 use Rattle.std.specs.Option.{is_none}
 use Rattle.ixp_num.specs.declared.prefix.Prefix.{Prefix}
 use Rattle.ixp_num.specs.declared.pattern.Pattern.{Pattern}
@@ -74,8 +74,8 @@ pattern_end prefix =
     (choice (ended Minus (made_pattern prefix 0 prefix.len))
     (gives (made_pattern prefix prefix.len prefix.len))))
 
-abbrev pub pattern_text : Grammar Pattern
-pattern_text = sequence (takes prefix_in) pattern_end
+abbrev pub set_pattern_form : Grammar Pattern
+set_pattern_form = sequence (takes prefix_in) pattern_end
 
 -- Pairs and triples.
 
@@ -86,6 +86,10 @@ too_great n left = unless_so (nat_le n 65535) (Number, left)
 abbrev pub part_too_great : Option ℕ → ℕ → Option (Cause × ℕ)
 part_too_great None left = None
 part_too_great (Some n) left = too_great n left
+
+-- a number is too great for a part of a pair
+abbrev pub has_great_part : ℕ → ℕ → Bool
+has_great_part first second = nat_lt 65535 first || nat_lt 65535 second
 
 -- the end of a pair of these parts, at whose places so many tokens were left
 abbrev pub pair_end : ℕ → ℕ → Option ℕ → ℕ → Grammar Tuple
@@ -107,11 +111,12 @@ abbrev pub may_be_triple : Option Arity → Bool
 may_be_triple (Some arity.Pair) = false
 may_be_triple _ = true
 
--- what is behind the second part, a number
+-- What is behind the second part, a number. A pair among triples is out of place at its end, unless a part is too great for
+-- any pair, which has the lower code.
 abbrev pub second_end : Names → Option Arity → ℕ → ℕ → ℕ → ℕ → Grammar Tuple
 second_end names wanted first at second at_second =
     choice (only (may_be_triple wanted) (sequence (the_mark Comma) (λ tt. triple_end names first second)))
-    (only (may_be_pair wanted) (pair_end first at (Some second) at_second))
+    (only (may_be_pair wanted || has_great_part first second) (pair_end first at (Some second) at_second))
 
 -- what follows a star as the second part of a pair, if one is next
 abbrev pub star_in : Option Arity → List Kind → Option (List Kind)
@@ -125,8 +130,8 @@ tuple_end names wanted first at =
     (sequence (numeral names) (λ second. second_end names wanted first at second at_second)))
 
 -- a tuple; its parenthesis is a level
-abbrev pub tuple_text : Names → Bool → Option Arity → Grammar Tuple
-tuple_text names is_level_left wanted =
+abbrev pub tuple_form : Names → Bool → Option Arity → Grammar Tuple
+tuple_form names is_level_left wanted =
     deepened is_level_left Open (here (λ at. sequence (numeral names) (λ first. sequence (the_mark Comma) (λ tt. tuple_end names wanted first at))))
 
 -- which tuples a set has, by those read so far
@@ -156,11 +161,11 @@ abbrev pub addr_set : Grammar (SetLit × ValueType)
 addr_set = sequence (listed (λ before. an_addr)) (λ addrs. ended SetClose (set.Ips addrs, IpSet))
 
 abbrev pub pattern_set : Grammar (SetLit × ValueType)
-pattern_set = sequence (listed (λ before. pattern_text)) (λ ts. ended SetClose (set.Prefixes ts, PrefixSet))
+pattern_set = sequence (listed (λ before. set_pattern_form)) (λ ts. ended SetClose (set.Prefixes ts, PrefixSet))
 
 abbrev pub tuple_set : Names → Bool → Grammar (SetLit × ValueType)
 tuple_set names is_level_left =
-    sequence (listed (λ before. tuple_text names is_level_left (arity_of before))) (λ ts. ended SetClose (tuples_set (arity_of ts) ts))
+    sequence (listed (λ before. tuple_form names is_level_left (arity_of before))) (λ ts. ended SetClose (tuples_set (arity_of ts) ts))
 
 -- the elements of a set and its end, with the set's type
 abbrev pub elements : Names → Bool → Grammar (SetLit × ValueType)

@@ -9,8 +9,8 @@ ghost use Rattle.ixp_exprs.specs.Types.{same_type, takes_right};
 ghost use Rattle.ixp_exprs.specs.Operands.{operand_of, waiting, refused_now, negated, fits, fits_left, compared, misfit_at};
 ghost use Rattle.ixp_exprs.specs.Groups.{least, limit, place_of, shape_of, parts_of};
 ghost use Rattle.ixp_exprs.specs.Joints.{joint_mark, other_mark, joined_by, chain_of, ended_chain, linked};
-ghost use Rattle.ixp_exprs.specs.Expressions.{part_misfit, begun_with, longer, chained, part_joint, unary_text, comparison_of};
-ghost use Rattle.ixp_exprs.specs.Expressions.{expression_text, enclosed, arguments};
+ghost use Rattle.ixp_exprs.specs.Expressions.{part_misfit, begun_with, longer, chained, part_joint, unary_form, comparison_of};
+ghost use Rattle.ixp_exprs.specs.Expressions.{expression_form, enclosed, arguments};
 
 use crate::context::{deep, misfit};
 use crate::group::{Group, Shape, no_parts_at, opening_at};
@@ -210,7 +210,7 @@ fn unary<'t>(
     depth: u32,
     tokens: &'t [Token],
 ) -> Result<(Typed, &'t [Token]), Fault>
-    ensures reads { Gives (λ x. (operand_of x.0, kinds x.1.now)) result (read (unary_text (place_of cx.entry) depth) (kinds tokens.now)) }
+    ensures reads { Gives (λ x. (operand_of x.0, kinds x.1.now)) result (read (unary_form (place_of cx.entry) depth) (kinds tokens.now)) }
     ensures shorter { IfOk result (λ x. length x.1.now < length tokens.now) }
 {
     if let Some(behind) = after_mark(Mark::Not, tokens) {
@@ -239,7 +239,7 @@ fn comparison<'t>(
     depth: u32,
     tokens: &'t [Token],
 ) -> Result<(Typed, &'t [Token]), Fault>
-    ensures reads { Gives (λ x. (operand_of x.0, kinds x.1.now)) result (read (comparison_of (unary_text (place_of cx.entry) depth)) (kinds tokens.now)) }
+    ensures reads { Gives (λ x. (operand_of x.0, kinds x.1.now)) result (read (comparison_of (unary_form (place_of cx.entry) depth)) (kinds tokens.now)) }
     ensures shorter { IfOk result (λ x. length x.1.now < length tokens.now) }
 {
     let (left, rest) = unary(cx, depth, tokens)?;
@@ -259,7 +259,7 @@ pub fn expression<'t>(
     depth: u32,
     tokens: &'t [Token],
 ) -> Result<(Typed, &'t [Token]), Fault>
-    ensures reads { Gives (λ x. (operand_of x.0, kinds x.1.now)) result (read (expression_text (place_of cx.entry) depth) (kinds tokens.now)) }
+    ensures reads { Gives (λ x. (operand_of x.0, kinds x.1.now)) result (read (expression_form (place_of cx.entry) depth) (kinds tokens.now)) }
     ensures shorter { IfOk result (λ x. length x.1.now < length tokens.now) }
 {
     let (first, rest) = comparison(cx, depth, tokens)?;
@@ -286,7 +286,7 @@ fn parts_at<'t>(
     group: Group<'_>,
     tokens: &'t [Token],
 ) -> Result<(Parts, &'t [Token]), Fault>
-    ensures reads { Gives (λ x. (parts_of x.0, kinds x.1.now)) result (read (enclosed (place_of cx.entry) (expression_text (place_of cx.entry) depth) (shape_of group.entry.shape) group.entry.place) (kinds tokens.now)) }
+    ensures reads { Gives (λ x. (parts_of x.0, kinds x.1.now)) result (read (enclosed (place_of cx.entry) (expression_form (place_of cx.entry) depth) (shape_of group.entry.shape) group.entry.place) (kinds tokens.now)) }
     ensures enough { IfOk result (λ x. least group.entry.shape ≤ length x.0.exprs.items) }
     ensures room { IfOk result (λ x. length x.0.exprs.items < limit group.entry.shape (length x.0.exprs.items)) }
     ensures shorter { IfOk result (λ x. length x.1.now < length tokens.now) }
@@ -314,7 +314,7 @@ pub fn arguments<'t>(
     place: usize,
     tokens: &'t [Token],
 ) -> Result<(Vec<Expr>, &'t [Token]), Fault>
-    ensures reads { Gives (λ x. (exprs_view x.0.items, kinds x.1.now)) result (read (sequence (enclosed (place_of cx.entry) (expression_text (place_of cx.entry) depth) (arguments signature.now.params) place) (λ parts. gives parts.trees)) (kinds tokens.now)) }
+    ensures reads { Gives (λ x. (exprs_view x.0.items, kinds x.1.now)) result (read (sequence (enclosed (place_of cx.entry) (expression_form (place_of cx.entry) depth) (arguments signature.now.params) place) (λ parts. gives parts.trees)) (kinds tokens.now)) }
     ensures shorter { IfOk result (λ x. length x.1.now < length tokens.now) }
 {
     let shape = Shape::Call(signature);

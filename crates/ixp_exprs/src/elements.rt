@@ -3,8 +3,8 @@ ghost use Rattle.std.specs.Prelude.{◌≡◌, ◌<◌, ◌≤◌, length, IfOk,
 ghost use Rattle.ixp_tokens.specs.Reading.{read, kinds, Gives};
 ghost use Rattle.ixp_exprs.specs.Names.{names_at};
 ghost use Rattle.ixp_exprs.specs.Answers.{Refuses};
-ghost use Rattle.ixp_exprs.specs.Sets.{numeral, range, bounded_length, bounds, pattern_end, pattern_text, too_great};
-ghost use Rattle.ixp_exprs.specs.Sets.{star_in, part_too_great, pair_end, triple_end, may_be_pair, may_be_triple, second_end, tuple_end, tuple_text};
+ghost use Rattle.ixp_exprs.specs.Sets.{numeral, range, bounded_length, bounds, pattern_end, set_pattern_form, too_great};
+ghost use Rattle.ixp_exprs.specs.Sets.{star_in, part_too_great, has_great_part, pair_end, triple_end, may_be_pair, may_be_triple, second_end, tuple_end, tuple_form};
 
 use crate::Context;
 use crate::context::{deep, unknown};
@@ -97,7 +97,7 @@ fn pattern_with(prefix: Prefix, tokens: &[Token]) -> Result<(Pattern, &[Token]),
 
 /// A prefix, with or without bounds.
 pub(crate) fn pattern_at(tokens: &[Token]) -> Result<(Pattern, &[Token]), Fault>
-    ensures reads { Gives (λ x. (x.0, kinds x.1.now)) result (read (pattern_text) (kinds tokens.now)) }
+    ensures reads { Gives (λ x. (x.0, kinds x.1.now)) result (read (set_pattern_form) (kinds tokens.now)) }
     ensures shorter { IfOk result (λ x. length x.1.now < length tokens.now) }
 {
     let [first, rest @ ..] = tokens else {
@@ -153,6 +153,13 @@ pub(crate) fn small_part(part: Option<u32>, place: usize) -> Result<(), Fault>
     }
 }
 
+/// Whether a number is too great for a part of a pair.
+fn has_great_part(first: u32, second: u32) -> bool
+    ensures { result ≡ has_great_part first second }
+{
+    first > PART_LIMIT || second > PART_LIMIT
+}
+
 /// The end of a pair of these parts, which must be small enough. Their places are how many tokens were left.
 fn pair_end<'t>(
     first: (u32, usize),
@@ -203,7 +210,7 @@ fn second_end<'t>(
     {
         return triple_end(cx, first.0, second.0, rest);
     }
-    if may_be_pair(wanted) {
+    if may_be_pair(wanted) || has_great_part(first.0, second.0) {
         pair_end(first, (Some(second.0), second.1), tokens)
     } else {
         Err(unexpected(tokens))
@@ -247,7 +254,7 @@ pub(crate) fn tuple_at<'t>(
     wanted: Option<Arity>,
     tokens: &'t [Token],
 ) -> Result<(Tuple, &'t [Token]), Fault>
-    ensures reads { Gives (λ x. (x.0, kinds x.1.now)) result (read (tuple_text (names_at cx.entry) (nat_lt 0 depth) wanted) (kinds tokens.now)) }
+    ensures reads { Gives (λ x. (x.0, kinds x.1.now)) result (read (tuple_form (names_at cx.entry) (nat_lt 0 depth) wanted) (kinds tokens.now)) }
     ensures shorter { IfOk result (λ x. length x.1.now < length tokens.now) }
 {
     let rest = mark_at(Mark::Open, tokens)?;

@@ -8,8 +8,8 @@ ghost use Rattle.ixp_exprs.specs.Lists.{never, first_in};
 ghost use Rattle.ixp_exprs.specs.Groups.{least, limit, place_of, shape_of, shape_in, partless, below, call_in, call_or};
 ghost use Rattle.ixp_exprs.specs.Groups.{check_or, plain_or, from_opening, finishing};
 ghost use Rattle.ixp_exprs.specs.Expressions.{may_go_on, may_end, is_front_mark, front_in, is_operand_name, front};
-ghost use Rattle.ixp_exprs.specs.Expressions.{enclosed, no_parts, arguments, no_roa_table, roa_table, call_text};
-ghost use Rattle.ixp_exprs.specs.Expressions.{outside_define, check_word, checked_text, expression_text, roa_values, word_in, called};
+ghost use Rattle.ixp_exprs.specs.Expressions.{enclosed, no_parts, arguments, no_roa_table, roa_table, call_form};
+ghost use Rattle.ixp_exprs.specs.Expressions.{outside_define, check_word, checked_form, expression_form, roa_values, word_in, called};
 
 use crate::context::{deep, misfit, unknown};
 use crate::leaf::{begins_operand, no_value};
@@ -208,7 +208,7 @@ fn check_group_at<'t>(
     place: usize,
     tokens: &'t [Token],
 ) -> Result<(&'t Name, &'t [Token]), Fault>
-    ensures reads { Leads (λ x. finishing (Check x.0) (read (enclosed (place_of cx.entry) (expression_text (place_of cx.entry) (depth - 1)) roa_values place) (kinds x.1.now))) result (read (checked_text (place_of cx.entry) (below (place_of cx.entry) depth) place) (kinds tokens.now)) }
+    ensures reads { Leads (λ x. finishing (Check x.0) (read (enclosed (place_of cx.entry) (expression_form (place_of cx.entry) (depth - 1)) roa_values place) (kinds x.1.now))) result (read (checked_form (place_of cx.entry) (below (place_of cx.entry) depth) place) (kinds tokens.now)) }
     ensures deep { IfOk result (λ _. 0 < depth) }
     ensures shorter { IfOk result (λ x. length x.1.now < length tokens.now) }
 {
@@ -229,7 +229,7 @@ fn call_group_at<'t>(
     place: usize,
     tokens: &'t [Token],
 ) -> Result<&'t [Token], Fault>
-    ensures reads { Leads (λ r. finishing (Call call.entry.0 call.entry.1) (read (enclosed (place_of cx.entry) (expression_text (place_of cx.entry) (depth - 1)) (arguments call.entry.1.now.params) place) (kinds r.now))) result (read (call_text (place_of cx.entry) (below (place_of cx.entry) depth) call.entry.0.now place call.entry.1.now) (kinds tokens.now)) }
+    ensures reads { Leads (λ r. finishing (Call call.entry.0 call.entry.1) (read (enclosed (place_of cx.entry) (expression_form (place_of cx.entry) (depth - 1)) (arguments call.entry.1.now.params) place) (kinds r.now))) result (read (call_form (place_of cx.entry) (below (place_of cx.entry) depth) call.entry.0.now place call.entry.1.now) (kinds tokens.now)) }
     ensures deep { IfOk result (λ _. 0 < depth) }
     ensures shorter { IfOk result (λ r. length r.now < length tokens.now) }
 {

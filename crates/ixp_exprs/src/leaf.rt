@@ -7,12 +7,12 @@ ghost use Rattle.ixp_tokens.specs.Grammars.{takes, sequence, gives};
 ghost use Rattle.ixp_tokens.specs.Reading.{read, kinds, Gives};
 ghost use Rattle.ixp_exprs.specs.Types.{attribute_type};
 ghost use Rattle.ixp_exprs.specs.Lists.{first_in};
-ghost use Rattle.ixp_exprs.specs.Groups.{place_of, set_in, attribute_or_set, leaf_text, atom_text};
+ghost use Rattle.ixp_exprs.specs.Groups.{place_of, set_in, attribute_or_set, leaf_form, atom_form};
 ghost use Rattle.ixp_exprs.specs.Answers.{fault_of};
 ghost use Rattle.ixp_exprs.specs.Expressions.{literal_word, literal_in, outside_define, no_value, named_value};
 ghost use Rattle.ixp_exprs.specs.Operands.{operand_of, closed};
 ghost use Rattle.ixp_exprs.specs.Expressions.{truth_in, state_in, attribute_in, is_front_word, has_parts, length_of};
-ghost use Rattle.ixp_exprs.specs.Expressions.{is_path, part_in, word_in, bare_attribute, attribute_text};
+ghost use Rattle.ixp_exprs.specs.Expressions.{is_path, part_in, word_in, bare_attribute, attribute_form};
 
 use crate::context::unknown;
 use crate::set::set_at;
@@ -174,7 +174,7 @@ fn bare_attribute(attr: Attr) -> Typed
 
 /// The attribute, which a dot and a word make another one.
 fn attribute_at(attr: Attr, tokens: &[Token]) -> Result<(Typed, &[Token]), Fault>
-    ensures reads { Gives (λ x. (operand_of x.0, kinds x.1.now)) result (read (attribute_text attr) (kinds tokens.now)) }
+    ensures reads { Gives (λ x. (operand_of x.0, kinds x.1.now)) result (read (attribute_form attr) (kinds tokens.now)) }
     ensures shorter { IfOk result (λ x. length x.1.now ≤ length tokens.now) }
 {
     if has_parts(attr)
@@ -307,7 +307,7 @@ fn leaf_at<'t>(
     depth: u32,
     tokens: &'t [Token],
 ) -> Result<(Typed, &'t [Token]), Fault>
-    ensures reads { Gives (λ x. (operand_of x.0, kinds x.1.now)) result (read (leaf_text (place_of cx.entry) (nat_lt 0 depth)) (kinds tokens.now)) }
+    ensures reads { Gives (λ x. (operand_of x.0, kinds x.1.now)) result (read (leaf_form (place_of cx.entry) (nat_lt 0 depth)) (kinds tokens.now)) }
     ensures shorter { IfOk result (λ x. length x.1.now < length tokens.now) }
 {
     let [first, rest @ ..] = tokens else {
@@ -325,7 +325,7 @@ pub(crate) fn atom_at<'t>(
     depth: u32,
     tokens: &'t [Token],
 ) -> Result<(Typed, &'t [Token]), Fault>
-    ensures reads { Gives (λ x. (operand_of x.0, kinds x.1.now)) result (read (atom_text (place_of cx.entry) (nat_lt 0 depth)) (kinds tokens.now)) }
+    ensures reads { Gives (λ x. (operand_of x.0, kinds x.1.now)) result (read (atom_form (place_of cx.entry) (nat_lt 0 depth)) (kinds tokens.now)) }
     ensures shorter { IfOk result (λ x. length x.1.now < length tokens.now) }
 {
     let [first, rest @ ..] = tokens else {

@@ -9,7 +9,7 @@ ghost use Rattle.ixp_exprs.specs.Answers.{Makes};
 ghost use Rattle.ixp_exprs.specs.Groups.{closing};
 ghost use Rattle.ixp_exprs.specs.Lists.{list_round, listed};
 ghost use Rattle.ixp_exprs.specs.Operands.{operand_of, closed};
-ghost use Rattle.ixp_exprs.specs.Sets.{range, pattern_text, tuple_text, arity_of, pairs_in, triples_in, tuples_set};
+ghost use Rattle.ixp_exprs.specs.Sets.{range, set_pattern_form, tuple_form, arity_of, pairs_in, triples_in, tuples_set};
 ghost use Rattle.ixp_exprs.specs.Sets.{range_set, addr_set, pattern_set, tuple_set, elements};
 
 use crate::elements::{Arity, Tuple, pattern_at, range_at, tuple_at};
@@ -118,7 +118,7 @@ fn pattern_round<'t>(
     patterns: &mut Items<Pattern>,
     tokens: &'t [Token],
 ) -> Result<(bool, &'t [Token]), Fault>
-    ensures reads { Gives (λ x. (closing x.0 patterns.new, kinds x.1.now)) result (read (list_round (λ before. pattern_text) patterns.old) (kinds tokens.now)) }
+    ensures reads { Gives (λ x. (closing x.0 patterns.new, kinds x.1.now)) result (read (list_round (λ before. set_pattern_form) patterns.old) (kinds tokens.now)) }
     ensures shorter { IfOk result (λ x. length x.1.now < length tokens.now) }
 {
     let (pattern, rest) = pattern_at(tokens)?;
@@ -134,7 +134,7 @@ fn patterns_at<'t>(
     cx: Context<'_>,
     tokens: &'t [Token],
 ) -> Result<(Items<Pattern>, &'t [Token]), Fault>
-    ensures reads { Gives (λ x. (x.0, kinds x.1.now)) result (read (listed (λ before. pattern_text)) (kinds tokens.now)) }
+    ensures reads { Gives (λ x. (x.0, kinds x.1.now)) result (read (listed (λ before. set_pattern_form)) (kinds tokens.now)) }
     ensures shorter { IfOk result (λ x. length x.1.now < length tokens.now) }
 {
     let mut patterns = Items::new(cx.alloc);
@@ -187,7 +187,7 @@ fn tuple_round<'t>(
     tuples: &mut Items<Tuple>,
     tokens: &'t [Token],
 ) -> Result<(bool, &'t [Token]), Fault>
-    ensures reads { Gives (λ x. (closing x.0 tuples.new, kinds x.1.now)) result (read (list_round (λ before. tuple_text (names_at cx.entry) (nat_lt 0 depth) (arity_of before)) tuples.old) (kinds tokens.now)) }
+    ensures reads { Gives (λ x. (closing x.0 tuples.new, kinds x.1.now)) result (read (list_round (λ before. tuple_form (names_at cx.entry) (nat_lt 0 depth) (arity_of before)) tuples.old) (kinds tokens.now)) }
     ensures shorter { IfOk result (λ x. length x.1.now < length tokens.now) }
 {
     let arity = arity_of(tuples.as_slice());
@@ -205,7 +205,7 @@ fn tuples_at<'t>(
     depth: u32,
     tokens: &'t [Token],
 ) -> Result<(Items<Tuple>, &'t [Token]), Fault>
-    ensures reads { Gives (λ x. (x.0, kinds x.1.now)) result (read (listed (λ before. tuple_text (names_at cx.entry) (nat_lt 0 depth) (arity_of before))) (kinds tokens.now)) }
+    ensures reads { Gives (λ x. (x.0, kinds x.1.now)) result (read (listed (λ before. tuple_form (names_at cx.entry) (nat_lt 0 depth) (arity_of before))) (kinds tokens.now)) }
     ensures shorter { IfOk result (λ x. length x.1.now < length tokens.now) }
 {
     let mut tuples = Items::new(cx.alloc);

@@ -10,20 +10,20 @@ use Rattle.ixp_tokens.proofs.ClearLooks.{clear_gives, clear_takes, clear_mark, c
 use Rattle.ixp_exprs.specs.Names.{Names}
 use Rattle.ixp_exprs.proofs.ClearLists.{clear_ended}
 use Rattle.ixp_exprs.proofs.Sure.{First, clear_word, clear_free_name}
-use Rattle.ixp_protocols.specs.Protocols.{filter_name, use_text, ways_text, Owner, filler, peer_pipe, session, owned_table, device_end, ends_text, pipe_end, asn_text, local_text, neighbor_text, client_text, string_in, password_text, limit_text, family_text, channel_text, peering_text, bgp_end, protocol_end}
+use Rattle.ixp_protocols.specs.Protocols.{filter_name, use_form, ways_form, Owner, filler, peer_pipe, session, owned_table, device_end, ends_form, pipe_end, as_number_form, local_form, neighbor_form, client_form, string_in, password_form, limit_form, family_form, channel_form, peering_form, bgp_end, protocol_end}
 
 -- What is let through.
 
 first_filter_name : (names : Names) → First (filter_name names) (token_look (name ∷ []))
 first_filter_name names = clear_here (λ left. clear_then clear_name (λ found. clear_checks (clear_gives _)))
 
-first_use : (names : Names) → First (use_text names) (token_look (keyword (codes "all") ∷ keyword (codes "none") ∷ keyword (codes "filter") ∷ []))
+first_use : (names : Names) → First (use_form names) (token_look (keyword (codes "all") ∷ keyword (codes "none") ∷ keyword (codes "filter") ∷ []))
 first_use names =
     clear_choice (clear_then (clear_word (codes "all")) (λ x. clear_ended mark.Semicolon _))
     (clear_choice (clear_then (clear_word (codes "none")) (λ x. clear_ended mark.Semicolon _))
     (clear_then (clear_word (codes "filter")) (λ x. clear_then (first_filter_name names) (λ found. clear_ended mark.Semicolon _))) refl refl) refl refl
 
-first_ways : (names : Names) → First (ways_text names) (token_look (keyword (codes "import") ∷ []))
+first_ways : (names : Names) → First (ways_form names) (token_look (keyword (codes "import") ∷ []))
 first_ways names =
     clear_then (clear_word (codes "import")) (λ x.
     clear_then (first_use names) (λ inward. clear_then (clear_word (codes "export")) (λ y. clear_then (first_use names) (λ outward. clear_gives _))))
@@ -39,7 +39,7 @@ first_device names =
     clear_choice (clear_then (clear_mark mark.BlockOpen) (λ y. clear_ended mark.BlockClose _))
     (clear_then (clear_free_name names) (λ found. clear_then (clear_mark mark.BlockOpen) (λ y. clear_ended mark.BlockClose _))) refl refl
 
-first_ends : (names : Names) → First (ends_text names) (token_look (keyword (codes "table") ∷ []))
+first_ends : (names : Names) → First (ends_form names) (token_look (keyword (codes "table") ∷ []))
 first_ends names =
     clear_then (first_owned filler names) (λ table. clear_then (clear_word (codes "peer")) (λ x. clear_then (first_owned peer_pipe table.names) (λ peer. clear_gives _)))
 
@@ -50,35 +50,35 @@ first_pipe names =
 
 -- Sessions.
 
-first_asn : First asn_text (token_look (keyword (codes "as") ∷ []))
+first_asn : First as_number_form (token_look (keyword (codes "as") ∷ []))
 first_asn = clear_then (clear_word (codes "as")) (λ x. clear_then clear_number (λ n. clear_ended mark.Semicolon _))
 
-first_local : First local_text (token_look (keyword (codes "local") ∷ []))
+first_local : First local_form (token_look (keyword (codes "local") ∷ []))
 first_local =
     clear_then (clear_word (codes "local")) (λ x.
     clear_choice (clear_then clear_addr (λ a. clear_then first_asn (λ asn. clear_gives _))) (clear_then first_asn (λ asn. clear_gives _)) refl refl)
 
-first_neighbor : First neighbor_text (token_look (keyword (codes "neighbor") ∷ []))
+first_neighbor : First neighbor_form (token_look (keyword (codes "neighbor") ∷ []))
 first_neighbor = clear_then (clear_word (codes "neighbor")) (λ x. clear_then clear_addr (λ a. clear_then first_asn (λ asn. clear_gives _)))
 
 -- what begins with the keyword, or is left out
 abbrev pub left_out : List ℕ → Look
 left_out w = record { leads = false; full = false; starts = keyword w ∷ []; ends = keyword w ∷ [] }
 
-first_client : First client_text (left_out (codes "rs"))
+first_client : First client_form (left_out (codes "rs"))
 first_client = clear_choice (clear_then (clear_word (codes "rs")) (λ x. clear_then (clear_word (codes "client")) (λ y. clear_ended mark.Semicolon true))) (clear_gives false) refl refl
 
 pub string_front : (k : Kind) → is_some (string_in k) ≡ true → one_of (text ∷ []) k ≡ true
 string_front (kind.Text t) e = refl
 string_front k e = absurd cc
 
-first_password : First password_text (left_out (codes "password"))
+first_password : First password_form (left_out (codes "password"))
 first_password =
     clear_choice
     (clear_then (clear_word (codes "password")) (λ x. clear_then (clear_takes string_in (text ∷ []) string_front) (λ t. clear_ended mark.Semicolon _)))
     (clear_gives None) refl refl
 
-first_limit : First limit_text (left_out (codes "import"))
+first_limit : First limit_form (left_out (codes "import"))
 first_limit =
     clear_choice
     (clear_then (clear_word (codes "import")) (λ x.
@@ -87,10 +87,10 @@ first_limit =
     clear_then (clear_word (codes "action")) (λ z. clear_then (clear_word (codes "block")) (λ w. clear_ended mark.Semicolon _))))))
     (clear_gives None) refl refl
 
-first_family : First family_text (token_look (keyword (codes "ipv4") ∷ keyword (codes "ipv6") ∷ []))
+first_family : First family_form (token_look (keyword (codes "ipv4") ∷ keyword (codes "ipv6") ∷ []))
 first_family = clear_choice (clear_then (clear_word (codes "ipv4")) (λ x. clear_gives _)) (clear_then (clear_word (codes "ipv6")) (λ x. clear_gives _)) refl refl
 
-first_channel : (names : Names) → First (channel_text names) (token_look (keyword (codes "ipv4") ∷ keyword (codes "ipv6") ∷ []))
+first_channel : (names : Names) → First (channel_form names) (token_look (keyword (codes "ipv4") ∷ keyword (codes "ipv6") ∷ []))
 first_channel names =
     clear_then first_family (λ family.
     clear_then (clear_mark mark.BlockOpen) (λ x.
@@ -98,7 +98,7 @@ first_channel names =
     clear_then (first_ways table.names) (λ ways.
     clear_sequence first_limit (λ limit. clear_then (clear_mark mark.BlockClose) (λ y. clear_ended mark.Semicolon _)) refl))))
 
-first_peering : First peering_text (full_look (keyword (codes "local") ∷ []) (keyword (codes "password") ∷ keyword (codes "rs") ∷ []))
+first_peering : First peering_form (full_look (keyword (codes "local") ∷ []) (keyword (codes "password") ∷ keyword (codes "rs") ∷ []))
 first_peering =
     clear_wider
     (clear_then first_local (λ here_.

@@ -37,8 +37,8 @@ abbrev pub named_use : Names → Grammar Use
 named_use names = sequence (the_word (codes "filter")) (λ tt. sequence (filter_name names) (λ name. ended Semicolon (Named name)))
 
 -- `all`, `none` or a filter, and the semicolon
-abbrev pub use_text : Names → Grammar Use
-use_text names =
+abbrev pub use_form : Names → Grammar Use
+use_form names =
     choice (sequence (the_word (codes "all")) (λ tt. ended Semicolon All))
     (choice (sequence (the_word (codes "none")) (λ tt. ended Semicolon Nothing)) (named_use names))
 
@@ -46,12 +46,12 @@ pub record Ways : Type 0 where
   pub inward : Use
   pub outward : Use
 
-abbrev pub ways_text : Names → Grammar Ways
-ways_text names =
+abbrev pub ways_form : Names → Grammar Ways
+ways_form names =
     sequence (the_word (codes "import")) (λ tt.
-    sequence (use_text names) (λ inward.
+    sequence (use_form names) (λ inward.
     sequence (the_word (codes "export")) (λ tt.
-    sequence (use_text names) (λ outward. gives (record { inward = inward; outward = outward })))))
+    sequence (use_form names) (λ outward. gives (record { inward = inward; outward = outward })))))
 
 -- Tables.
 
@@ -113,8 +113,8 @@ pub record Ends : Type 0 where
 abbrev pub ends_with : List ℕ → Owned → Ends
 ends_with table peer = record { table = table; peer = peer.name; names = peer.names }
 
-abbrev pub ends_text : Names → Grammar Ends
-ends_text names =
+abbrev pub ends_form : Names → Grammar Ends
+ends_form names =
     sequence (owned_table filler names) (λ table.
     sequence (the_word (codes "peer")) (λ tt. sequence (owned_table peer_pipe table.names) (λ peer. gives (ends_with table.name peer))))
 
@@ -126,11 +126,11 @@ abbrev pub pipe_end : Names → Grammar Declares
 pipe_end names =
     sequence (free_name names) (λ name.
     sequence (the_mark BlockOpen) (λ tt.
-    sequence (ends_text names) (λ ends. sequence (ways_text ends.names) (λ ways. ended BlockClose (piped name ends ways)))))
+    sequence (ends_form names) (λ ends. sequence (ways_form ends.names) (λ ways. ended BlockClose (piped name ends ways)))))
 
 -- `as NUM;`
-abbrev pub asn_text : Grammar Asn
-asn_text = sequence (the_word (codes "as")) (λ tt. sequence a_number (λ n. ended Semicolon (record { 0 = n })))
+abbrev pub as_number_form : Grammar Asn
+as_number_form = sequence (the_word (codes "as")) (λ tt. sequence a_number (λ n. ended Semicolon (record { 0 = n })))
 
 -- this end of a session, with or without its address
 pub record Local : Type 0 where
@@ -140,31 +140,31 @@ pub record Local : Type 0 where
 abbrev pub local_with : Option Addr → Asn → Local
 local_with addr asn = record { addr = addr; asn = asn }
 
-abbrev pub local_text : Grammar Local
-local_text =
+abbrev pub local_form : Grammar Local
+local_form =
     sequence (the_word (codes "local")) (λ tt.
-    choice (sequence an_addr (λ addr. sequence asn_text (λ asn. gives (local_with (Some addr) asn)))) (sequence asn_text (λ asn. gives (local_with None asn))))
+    choice (sequence an_addr (λ addr. sequence as_number_form (λ asn. gives (local_with (Some addr) asn)))) (sequence as_number_form (λ asn. gives (local_with None asn))))
 
 pub record Neighbor : Type 0 where
   pub addr : Addr
   pub asn : Asn
 
-abbrev pub neighbor_text : Grammar Neighbor
-neighbor_text =
-    sequence (the_word (codes "neighbor")) (λ tt. sequence an_addr (λ addr. sequence asn_text (λ asn. gives (record { addr = addr; asn = asn }))))
+abbrev pub neighbor_form : Grammar Neighbor
+neighbor_form =
+    sequence (the_word (codes "neighbor")) (λ tt. sequence an_addr (λ addr. sequence as_number_form (λ asn. gives (record { addr = addr; asn = asn }))))
 
-abbrev pub client_text : Grammar Bool
-client_text = choice (sequence (the_word (codes "rs")) (λ tt. sequence (the_word (codes "client")) (λ tt. ended Semicolon true))) (gives false)
+abbrev pub client_form : Grammar Bool
+client_form = choice (sequence (the_word (codes "rs")) (λ tt. sequence (the_word (codes "client")) (λ tt. ended Semicolon true))) (gives false)
 
 abbrev pub string_in : Kind → Option (List ℕ)
 string_in (kind.Text text) = Some text
 string_in _ = None
 
-abbrev pub password_text : Grammar (Option (List ℕ))
-password_text = choice (sequence (the_word (codes "password")) (λ tt. sequence (takes string_in) (λ text. ended Semicolon (Some text)))) (gives None)
+abbrev pub password_form : Grammar (Option (List ℕ))
+password_form = choice (sequence (the_word (codes "password")) (λ tt. sequence (takes string_in) (λ text. ended Semicolon (Some text)))) (gives None)
 
-abbrev pub limit_text : Grammar (Option ℕ)
-limit_text =
+abbrev pub limit_form : Grammar (Option ℕ)
+limit_form =
     choice
     (sequence (the_word (codes "import")) (λ tt.
     sequence (the_word (codes "limit")) (λ tt.
@@ -173,8 +173,8 @@ limit_text =
     sequence (the_word (codes "block")) (λ tt. ended Semicolon (Some n)))))))
     (gives None)
 
-abbrev pub family_text : Grammar Family
-family_text = choice (sequence (the_word (codes "ipv4")) (λ tt. gives V4)) (sequence (the_word (codes "ipv6")) (λ tt. gives V6))
+abbrev pub family_form : Grammar Family
+family_form = choice (sequence (the_word (codes "ipv4")) (λ tt. gives V4)) (sequence (the_word (codes "ipv6")) (λ tt. gives V6))
 
 -- a session's channel, and what names stand for behind it
 pub record Channel : Type 0 where
@@ -184,13 +184,13 @@ pub record Channel : Type 0 where
   pub limit : Option ℕ
   pub names : Names
 
-abbrev pub channel_text : Names → Grammar Channel
-channel_text names =
-    sequence family_text (λ family.
+abbrev pub channel_form : Names → Grammar Channel
+channel_form names =
+    sequence family_form (λ family.
     sequence (the_mark BlockOpen) (λ tt.
     sequence (owned_table session names) (λ table.
-    sequence (ways_text table.names) (λ ways.
-    sequence limit_text (λ limit.
+    sequence (ways_form table.names) (λ ways.
+    sequence limit_form (λ limit.
     sequence (the_mark BlockClose) (λ tt.
     ended Semicolon (record { family = family; table = table.name; ways = ways; limit = limit; names = table.names })))))))
 
@@ -201,12 +201,12 @@ pub record Peering : Type 0 where
   pub rs_client : Bool
   pub password : Option (List ℕ)
 
-abbrev pub peering_text : Grammar Peering
-peering_text =
-    sequence local_text (λ here_.
-    sequence neighbor_text (λ there.
-    sequence client_text (λ rs_client.
-    sequence password_text (λ password. gives (record { here_ = here_; there = there; rs_client = rs_client; password = password })))))
+abbrev pub peering_form : Grammar Peering
+peering_form =
+    sequence local_form (λ here_.
+    sequence neighbor_form (λ there.
+    sequence client_form (λ rs_client.
+    sequence password_form (λ password. gives (record { here_ = here_; there = there; rs_client = rs_client; password = password })))))
 
 abbrev pub session_with : List ℕ → Peering → Channel → Bgp
 session_with name peering channel = record {
@@ -232,7 +232,7 @@ abbrev pub bgp_end : Names → Grammar Declares
 bgp_end names =
     sequence (free_name names) (λ name.
     sequence (the_mark BlockOpen) (λ tt.
-    sequence peering_text (λ peering. sequence (channel_text names) (λ channel. ended BlockClose (peered name peering channel)))))
+    sequence peering_form (λ peering. sequence (channel_form names) (λ channel. ended BlockClose (peered name peering channel)))))
 
 -- what follows `protocol`
 abbrev pub protocol_end : Names → Grammar Declares

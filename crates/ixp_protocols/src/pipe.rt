@@ -3,7 +3,7 @@ ghost use Rattle.std.specs.Prelude.{◌<◌, length, IfOk};
 ghost use Rattle.ixp_lang.specs.Views.{item_view};
 ghost use Rattle.ixp_tokens.specs.Reading.{read, kinds, Gives};
 ghost use Rattle.ixp_exprs.specs.Names.{names_of};
-ghost use Rattle.ixp_protocols.specs.Protocols.{ends_text, pipe_end, device_end};
+ghost use Rattle.ixp_protocols.specs.Protocols.{ends_form, pipe_end, device_end};
 ghost use Rattle.ixp_protocols.specs.Views.{ends_of};
 
 use crate::tables::{Owner, table_of_at};
@@ -27,7 +27,7 @@ fn ends_at<'t>(
     env: &mut Env,
     tokens: &'t [Token],
 ) -> Result<(Ends, &'t [Token]), Fault>
-    ensures reads { Gives (λ x. (ends_of x.0 (names_of env.new), kinds x.1.now)) result (read (ends_text (names_of env.old)) (kinds tokens.now)) }
+    ensures reads { Gives (λ x. (ends_of x.0 (names_of env.new), kinds x.1.now)) result (read (ends_form (names_of env.old)) (kinds tokens.now)) }
     ensures shorter { IfOk result (λ x. length x.1.now < length tokens.now) }
 {
     let (table, rest) = table_of_at(alloc, env, Owner::Pipe, tokens)?;

@@ -4,7 +4,7 @@ ghost use Rattle.ixp_tokens.specs.Pieces.{addr_in};
 ghost use Rattle.ixp_tokens.specs.Reading.{read, kinds, Gives};
 ghost use Rattle.ixp_lang.specs.Views.{item_view};
 ghost use Rattle.ixp_exprs.specs.Names.{names_of};
-ghost use Rattle.ixp_protocols.specs.Protocols.{asn_text, local_text, neighbor_text, client_text, password_text, limit_text, family_text, channel_text, peering_text, bgp_end};
+ghost use Rattle.ixp_protocols.specs.Protocols.{as_number_form, local_form, neighbor_form, client_form, password_form, limit_form, family_form, channel_form, peering_form, bgp_end};
 ghost use Rattle.ixp_protocols.specs.Views.{local_of, neighbor_of, channel_of, peering_of, a_string};
 
 use crate::tables::{Owner, table_of_at};
@@ -19,7 +19,7 @@ use std::alloc::Global;
 
 /// `as NUM;`
 fn asn_at(tokens: &[Token]) -> Result<(Asn, &[Token]), Fault>
-    ensures reads { Gives (λ x. (x.0, kinds x.1.now)) result (read asn_text (kinds tokens.now)) }
+    ensures reads { Gives (λ x. (x.0, kinds x.1.now)) result (read as_number_form (kinds tokens.now)) }
     ensures shorter { IfOk result (λ x. length x.1.now < length tokens.now) }
 {
     let rest = word_at(b"as", tokens)?;
@@ -47,7 +47,7 @@ fn address_in(kind: &Kind) -> Option<Addr>
 
 /// `local IP as NUM;`, the address being left out where the system is to choose it.
 fn local_at(tokens: &[Token]) -> Result<(Local, &[Token]), Fault>
-    ensures reads { Gives (λ x. (local_of x.0, kinds x.1.now)) result (read local_text (kinds tokens.now)) }
+    ensures reads { Gives (λ x. (local_of x.0, kinds x.1.now)) result (read local_form (kinds tokens.now)) }
     ensures shorter { IfOk result (λ x. length x.1.now < length tokens.now) }
 {
     let rest = word_at(b"local", tokens)?;
@@ -69,7 +69,7 @@ struct Neighbor {
 
 /// `neighbor IP as NUM;`
 fn neighbor_at(tokens: &[Token]) -> Result<(Neighbor, &[Token]), Fault>
-    ensures reads { Gives (λ x. (neighbor_of x.0, kinds x.1.now)) result (read neighbor_text (kinds tokens.now)) }
+    ensures reads { Gives (λ x. (neighbor_of x.0, kinds x.1.now)) result (read neighbor_form (kinds tokens.now)) }
     ensures shorter { IfOk result (λ x. length x.1.now < length tokens.now) }
 {
     let rest = word_at(b"neighbor", tokens)?;
@@ -80,7 +80,7 @@ fn neighbor_at(tokens: &[Token]) -> Result<(Neighbor, &[Token]), Fault>
 
 /// `rs client;`, if it is there.
 fn client_at(tokens: &[Token]) -> Result<(bool, &[Token]), Fault>
-    ensures reads { Gives (λ x. (x.0, kinds x.1.now)) result (read client_text (kinds tokens.now)) }
+    ensures reads { Gives (λ x. (x.0, kinds x.1.now)) result (read client_form (kinds tokens.now)) }
     ensures shorter { IfOk result (λ x. length x.1.now ≤ length tokens.now) }
 {
     let Some(rest) = after_word(b"rs", tokens) else {
@@ -110,7 +110,7 @@ fn text_at(alloc: Global, tokens: &[Token]) -> Result<(Items<u8>, &[Token]), Fau
 
 /// `password STRING;`, if it is there.
 fn password_at(alloc: Global, tokens: &[Token]) -> Result<(Option<Items<u8>>, &[Token]), Fault>
-    ensures reads { Gives (λ x. (x.0, kinds x.1.now)) result (read password_text (kinds tokens.now)) }
+    ensures reads { Gives (λ x. (x.0, kinds x.1.now)) result (read password_form (kinds tokens.now)) }
     ensures shorter { IfOk result (λ x. length x.1.now ≤ length tokens.now) }
 {
     let Some(rest) = after_word(b"password", tokens) else {
@@ -123,7 +123,7 @@ fn password_at(alloc: Global, tokens: &[Token]) -> Result<(Option<Items<u8>>, &[
 
 /// `import limit NUM action block;`, if it is there.
 fn limit_at(tokens: &[Token]) -> Result<(Option<u32>, &[Token]), Fault>
-    ensures reads { Gives (λ x. (x.0, kinds x.1.now)) result (read limit_text (kinds tokens.now)) }
+    ensures reads { Gives (λ x. (x.0, kinds x.1.now)) result (read limit_form (kinds tokens.now)) }
     ensures shorter { IfOk result (λ x. length x.1.now ≤ length tokens.now) }
 {
     let Some(rest) = after_word(b"import", tokens) else {
@@ -148,7 +148,7 @@ struct Channel {
 
 /// The family of a channel.
 fn family_at(tokens: &[Token]) -> Result<(Family, &[Token]), Fault>
-    ensures reads { Gives (λ x. (x.0, kinds x.1.now)) result (read family_text (kinds tokens.now)) }
+    ensures reads { Gives (λ x. (x.0, kinds x.1.now)) result (read family_form (kinds tokens.now)) }
     ensures shorter { IfOk result (λ x. length x.1.now < length tokens.now) }
 {
     if let Some(rest) = after_word(b"ipv4", tokens) {
@@ -164,7 +164,7 @@ fn channel_at<'t>(
     env: &mut Env,
     tokens: &'t [Token],
 ) -> Result<(Channel, &'t [Token]), Fault>
-    ensures reads { Gives (λ x. (channel_of x.0 (names_of env.new), kinds x.1.now)) result (read (channel_text (names_of env.old)) (kinds tokens.now)) }
+    ensures reads { Gives (λ x. (channel_of x.0 (names_of env.new), kinds x.1.now)) result (read (channel_form (names_of env.old)) (kinds tokens.now)) }
     ensures shorter { IfOk result (λ x. length x.1.now < length tokens.now) }
 {
     let (family, rest) = family_at(tokens)?;
@@ -193,7 +193,7 @@ struct Peering {
 }
 
 fn peering_at(alloc: Global, tokens: &[Token]) -> Result<(Peering, &[Token]), Fault>
-    ensures reads { Gives (λ x. (peering_of x.0, kinds x.1.now)) result (read peering_text (kinds tokens.now)) }
+    ensures reads { Gives (λ x. (peering_of x.0, kinds x.1.now)) result (read peering_form (kinds tokens.now)) }
     ensures shorter { IfOk result (λ x. length x.1.now < length tokens.now) }
 {
     let (local, rest) = local_at(tokens)?;

@@ -2,7 +2,7 @@
 ghost use Rattle.std.specs.Prelude.{◌≡◌, ◌<◌, length, IfOk, Some, option_map};
 ghost use Rattle.ixp_tokens.specs.Reading.{read, kinds, Gives};
 ghost use Rattle.ixp_exprs.specs.Names.{names_of};
-ghost use Rattle.ixp_protocols.specs.Protocols.{is_filter, filter_name, named_use, use_text, ways_text};
+ghost use Rattle.ixp_protocols.specs.Protocols.{is_filter, filter_name, named_use, use_form, ways_form};
 ghost use Rattle.ixp_protocols.specs.Views.{ways_of};
 
 use ixp_exprs::{Declared, Env, own_name_at};
@@ -54,7 +54,7 @@ fn named_use_at<'t>(
 
 /// `all`, `none` or a filter, and the semicolon.
 fn use_at<'t>(alloc: Global, env: &Env, tokens: &'t [Token]) -> Result<(Use, &'t [Token]), Fault>
-    ensures reads { Gives (λ x. (x.0, kinds x.1.now)) result (read (use_text (names_of env.now)) (kinds tokens.now)) }
+    ensures reads { Gives (λ x. (x.0, kinds x.1.now)) result (read (use_form (names_of env.now)) (kinds tokens.now)) }
     ensures shorter { IfOk result (λ x. length x.1.now < length tokens.now) }
 {
     if let Some(rest) = after_word(b"all", tokens) {
@@ -81,7 +81,7 @@ pub(crate) fn ways_at<'t>(
     env: &Env,
     tokens: &'t [Token],
 ) -> Result<(Ways, &'t [Token]), Fault>
-    ensures reads { Gives (λ x. (ways_of x.0, kinds x.1.now)) result (read (ways_text (names_of env.now)) (kinds tokens.now)) }
+    ensures reads { Gives (λ x. (ways_of x.0, kinds x.1.now)) result (read (ways_form (names_of env.now)) (kinds tokens.now)) }
     ensures shorter { IfOk result (λ x. length x.1.now < length tokens.now) }
 {
     let rest = word_at(b"import", tokens)?;

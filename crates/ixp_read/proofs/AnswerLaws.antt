@@ -9,7 +9,7 @@ use Rattle.ixp_tokens.specs.Reading.{Read, read, kinds}
 use Rattle.ixp_tokens.proofs.TokenLaws.{one_tokens}
 use Rattle.ixp_read.specs.declared.fault.ReadFault.{ReadFault}
 use Rattle.ixp_read.specs.declared.fault.ReadFault.TheVariants.{Byte, Number, Unexpected, UnknownName, NameTwice, MixedLogic, WrongType, TooDeep, OutOfProfile, NoMemory}
-use Rattle.ixp_read.specs.Items.{config_text}
+use Rattle.ixp_read.specs.Items.{config_form}
 use Rattle.ixp_read.specs.Answers.{SpellsText, fault_at, IsStop, ConfigAnswer, IsTold, SameAnswer}
 use Rattle.ixp_read.proofs.ConfigurationLaws.{config_read, one_config}
 
@@ -29,7 +29,7 @@ pub one_spelling : (text : List ℕ) (c d : List ItemTree) → SpellsText text c
 one_spelling text c d (tokens, (placed, have, same), took) (others, (found, hold, is), reads) =
     let all : placed ≡ found = one_tokens text placed found have hold in
     let e : others ≡ tokens = sym is ∙ sym (ap kinds all) ∙ same in
-    one_config tokens c d took (subst (λ t. Took config_text d t []) e reads)
+    one_config tokens c d took (subst (λ t. Took config_form d t []) e reads)
 
 read_apart : (r : Read (List ItemTree)) (c : List ItemTree) (fault : Cause × ℕ) → r ≡ Ok (c, []) → r ≡ Err fault → ⊥
 read_apart r c fault e f = absurd cc
@@ -37,7 +37,7 @@ read_apart r c fault e f = absurd cc
 apart : (text : List ℕ) (c : List ItemTree) (f : ReadFault) → SpellsText text c → IsStop text f → ⊥
 apart text c f (tokens, (placed, have, same), took) stop =
     let all : kinds placed ≡ kinds stop.tokens = ap kinds (one_tokens text placed stop.tokens have stop.are) in
-    read_apart (read config_text tokens) c (stop.cause, stop.left) (config_read tokens c took) (subst (λ ts. read config_text ts ≡ Err (stop.cause, stop.left)) (sym all ∙ same) stop.stops)
+    read_apart (read config_form tokens) c (stop.cause, stop.left) (config_read tokens c took) (subst (λ ts. read config_form ts ≡ Err (stop.cause, stop.left)) (sym all ∙ same) stop.stops)
 
 one_end : (r : Read (List ItemTree)) (a b : Cause × ℕ) → r ≡ Err a → r ≡ Err b → a ≡ b
 one_end r a b e f = cc
@@ -45,8 +45,8 @@ one_end r a b e f = cc
 one_fault : (text : List ℕ) (f g : ReadFault) → IsStop text f → IsStop text g → f ≡ g
 one_fault text f g one other =
     let all : other.tokens ≡ one.tokens = one_tokens text other.tokens one.tokens other.are one.are in
-    let same = one_end (read config_text (kinds one.tokens)) (one.cause, one.left) (other.cause, other.left) one.stops
-    (subst (λ ts. read config_text (kinds ts) ≡ Err (other.cause, other.left)) all other.stops) in
+    let same = one_end (read config_form (kinds one.tokens)) (one.cause, one.left) (other.cause, other.left) one.stops
+    (subst (λ ts. read config_form (kinds ts) ≡ Err (other.cause, other.left)) all other.stops) in
     one.is ∙ ap (λ a. fault_at text one.tokens a.0 a.1) same ∙ ap (λ ts. fault_at text ts other.cause other.left) (sym all) ∙ sym other.is
 
 pub answers_agree : (text : List ℕ) (one other : Result Config ReadFault) → IsTold one → IsTold other → ConfigAnswer text one → ConfigAnswer text other → SameAnswer one other

@@ -17,7 +17,7 @@ use Rattle.ixp_exprs.specs.Names.{Names}
 use Rattle.ixp_exprs.specs.Declarations.{Declares}
 use Rattle.ixp_exprs.proofs.Sure.{behind_else}
 use Rattle.ixp_read.specs.Functions.{levels_inside}
-use Rattle.ixp_read.specs.Items.{define_levels, Levels, all_levels, item_within, declaration_text, table_or, item_text, config_text}
+use Rattle.ixp_read.specs.Items.{define_levels, Levels, all_levels, item_within, declaration_form, table_or, item_form, config_form}
 use Rattle.ixp_read.specs.Stops.{config_with, IsRefused, NoneGoesOn}
 use Rattle.ixp_read.proofs.SureItems.{sure_item_within, clear_config, config_clear}
 use Rattle.ixp_read.proofs.SteadyItems.{item_begins_within, item_steady_within, steady_config, config_steady}
@@ -54,13 +54,13 @@ levels_with more = record { of_define = define_levels + more; inside = levels_in
 with_fewer : (more : ℕ) → 0 < more → Fewer all_levels (levels_with more)
 with_fewer more some = record { of_define = omega arith; inside = omega arith }
 
-text_supplied : (levels : Levels) → Fewer all_levels levels → (number : ℕ) (names : Names) → Supplied Declares (item_text number names) (item_within levels number names)
-unfolding item_text table_or declaration_text
+text_supplied : (levels : Levels) → Fewer all_levels levels → (number : ℕ) (names : Names) → Supplied Declares (item_form number names) (item_within levels number names)
+unfolding item_form table_or declaration_form
 text_supplied levels fewer number names = item_supplied all_levels levels fewer number names
 
-with_supplied : (more : ℕ) → 0 < more → Supplied (List ItemTree) config_text (config_with more)
+with_supplied : (more : ℕ) → 0 < more → Supplied (List ItemTree) config_form (config_with more)
 with_supplied more some =
-    config_supplied item_text (item_within (levels_with more)) (text_supplied (levels_with more) (with_fewer more some)) (item_exchanges all_levels (levels_with more) (with_fewer more some))
+    config_supplied item_form (item_within (levels_with more)) (text_supplied (levels_with more) (with_fewer more some)) (item_exchanges all_levels (levels_with more) (with_fewer more some))
 
 with_clear : (more : ℕ) → ClearBy (IsSeen behind_else) (config_with more)
 with_clear more = clear_config (item_within (levels_with more)) (sure_item_within (levels_with more))
@@ -68,21 +68,21 @@ with_clear more = clear_config (item_within (levels_with more)) (sure_item_withi
 with_steady : (more : ℕ) → Steady (config_with more)
 with_steady more = steady_config (item_within (levels_with more)) (sure_item_within (levels_with more)) (item_begins_within (levels_with more)) (item_steady_within (levels_with more))
 
-stop_is : (tokens : List Kind) (cause : Cause) (rest : List Kind) → scan config_text (spot (length tokens) tokens) ≡ stopped cause rest → NoneGoesOn tokens cause (length rest)
+stop_is : (tokens : List Kind) (cause : Cause) (rest : List Kind) → scan config_form (spot (length tokens) tokens) ≡ stopped cause rest → NoneGoesOn tokens cause (length rest)
 stop_is tokens cause rest e more some =
     let n = length tokens in
     let supplied = with_supplied more some in
-    let text = config_has_text item_text (item_within (levels_with more)) (text_supplied (levels_with more) (with_fewer more some)) (item_exchanges all_levels (levels_with more) (with_fewer more some)) in
+    let text = config_has_text item_form (item_within (levels_with more)) (text_supplied (levels_with more) (with_fewer more some)) (item_exchanges all_levels (levels_with more) (with_fewer more some)) in
     let front = viable supplied text n tokens cause rest e in (
-      stop_of config_text (config_with more) config_clear config_steady tokens n cause rest e front,
+      stop_of config_form (config_with more) config_clear config_steady tokens n cause rest e front,
       λ levels.
           stop_of (config_with more) (config_with more) (with_clear more) (with_steady more) tokens n cause rest
-          (stops_both (scan config_text (spot n tokens)) (scan (config_with more) (spot n tokens)) cause rest (goes supplied (spot n tokens)) e levels) front,
+          (stops_both (scan config_form (spot n tokens)) (scan (config_with more) (spot n tokens)) cause rest (goes supplied (spot n tokens)) e levels) front,
     )
 
-pub config_stops : (tokens : List Kind) (cause : Cause) (left : ℕ) → read config_text tokens ≡ Err (cause, left) → IsRefused tokens ⊎ NoneGoesOn tokens cause left
-config_stops tokens cause left e = by_end (subst (λ r. Agrees r (scan config_text (spot (length tokens) tokens))) e (agrees config_text tokens))
+pub config_stops : (tokens : List Kind) (cause : Cause) (left : ℕ) → read config_form tokens ≡ Err (cause, left) → IsRefused tokens ⊎ NoneGoesOn tokens cause left
+config_stops tokens cause left e = by_end (subst (λ r. Agrees r (scan config_form (spot (length tokens) tokens))) e (agrees config_form tokens))
   where
-    by_end : ((rest : List Kind) × (scan config_text (spot (length tokens) tokens) ≡ stopped cause rest) × (left ≡ length rest)) ⊎ (scan config_text (spot (length tokens) tokens) ≡ refused) → IsRefused tokens ⊎ NoneGoesOn tokens cause left
+    by_end : ((rest : List Kind) × (scan config_form (spot (length tokens) tokens) ≡ stopped cause rest) × (left ≡ length rest)) ⊎ (scan config_form (spot (length tokens) tokens) ≡ refused) → IsRefused tokens ⊎ NoneGoesOn tokens cause left
     by_end (inr refuses) = inl refuses
     by_end (inl (rest, at, is)) = inr (subst (NoneGoesOn tokens cause) (sym is) (stop_is tokens cause rest at))

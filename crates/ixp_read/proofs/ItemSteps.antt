@@ -9,8 +9,8 @@ use Rattle.ixp_exprs.specs.Names.{Names}
 use Rattle.ixp_exprs.specs.Declarations.{Declares}
 use Rattle.ixp_protocols.specs.Protocols.{protocol_end}
 use Rattle.ixp_protocols.proofs.Words.{word_next, other_next}
-use Rattle.ixp_read.specs.Functions.{function_end, filter_end}
-use Rattle.ixp_read.specs.Items.{router_id_end, table_end, define_end, declaration_text, table_or, item_text}
+use Rattle.ixp_read.specs.Functions.{function_form, filter_form}
+use Rattle.ixp_read.specs.Items.{router_id_end, table_end, define_end, declaration_form, table_or, item_form}
 
 abbrev pub IsNext : List ℕ → List Kind → List Kind → Type 0
 IsNext word ts rest = Some rest ≡ behind (is_word word) ts
@@ -23,13 +23,13 @@ module _ (number place : ℕ) (names : Names) where
   protocol_part = sequence (the_word (codes "protocol")) (λ tt. protocol_end names)
 
   abbrev pub filter_part : Grammar Declares
-  filter_part = choice (sequence (the_word (codes "filter")) (λ tt. filter_end names)) protocol_part
+  filter_part = choice (sequence (the_word (codes "filter")) (λ tt. filter_form names)) protocol_part
 
   abbrev pub function_part : Grammar Declares
-  function_part = choice (sequence (the_word (codes "function")) (λ tt. function_end number names)) filter_part
+  function_part = choice (sequence (the_word (codes "function")) (λ tt. function_form number names)) filter_part
 
   abbrev pub roa6_part : Grammar Declares
-  roa6_part = choice (sequence (the_word (codes "roa6")) (λ tt. table_end Roa6 names)) (declaration_text number place names)
+  roa6_part = choice (sequence (the_word (codes "roa6")) (λ tt. table_end Roa6 names)) (declaration_form number place names)
 
   abbrev pub roa4_part : Grammar Declares
   roa4_part = choice (sequence (the_word (codes "roa4")) (λ tt. table_end Roa4 names)) roa6_part
@@ -38,30 +38,30 @@ module _ (number place : ℕ) (names : Names) where
   ipv6_part = choice (sequence (the_word (codes "ipv6")) (λ tt. table_end Ipv6 names)) roa4_part
 
 module _ (number place : ℕ) (names : Names) (ts rest : List Kind) where
-  pub define_next : IsNext (codes "define") ts rest → read (declaration_text number place names) ts ≡ read (define_end place names) rest
-  unfolding declaration_text
+  pub define_next : IsNext (codes "define") ts rest → read (declaration_form number place names) ts ≡ read (define_end place names) rest
+  unfolding declaration_form
   define_next e = word_next (codes "define") (λ tt. define_end place names) (function_part number place names) ts rest e
 
-  pub function_next : IsOther (codes "define") ts → IsNext (codes "function") ts rest → read (declaration_text number place names) ts ≡ read (function_end number names) rest
-  unfolding declaration_text
+  pub function_next : IsOther (codes "define") ts → IsNext (codes "function") ts rest → read (declaration_form number place names) ts ≡ read (function_form number names) rest
+  unfolding declaration_form
   function_next d e =
       other_next (codes "define") (λ tt. define_end place names) (function_part number place names) ts d
-      ∙ word_next (codes "function") (λ tt. function_end number names) (filter_part number place names) ts rest e
+      ∙ word_next (codes "function") (λ tt. function_form number names) (filter_part number place names) ts rest e
 
-  pub filter_next : IsOther (codes "define") ts → IsOther (codes "function") ts → IsNext (codes "filter") ts rest → read (declaration_text number place names) ts ≡ read (filter_end names) rest
-  unfolding declaration_text
+  pub filter_next : IsOther (codes "define") ts → IsOther (codes "function") ts → IsNext (codes "filter") ts rest → read (declaration_form number place names) ts ≡ read (filter_form names) rest
+  unfolding declaration_form
   filter_next d f e =
       other_next (codes "define") (λ tt. define_end place names) (function_part number place names) ts d
-      ∙ other_next (codes "function") (λ tt. function_end number names) (filter_part number place names) ts f
-      ∙ word_next (codes "filter") (λ tt. filter_end names) (protocol_part number place names) ts rest e
+      ∙ other_next (codes "function") (λ tt. function_form number names) (filter_part number place names) ts f
+      ∙ word_next (codes "filter") (λ tt. filter_form names) (protocol_part number place names) ts rest e
 
   pub protocol_left : IsOther (codes "define") ts → IsOther (codes "function") ts → IsOther (codes "filter") ts
-      → read (declaration_text number place names) ts ≡ (read (the_word (codes "protocol")) ts >>= λ a. read (protocol_end names) a.1)
-  unfolding declaration_text
+      → read (declaration_form number place names) ts ≡ (read (the_word (codes "protocol")) ts >>= λ a. read (protocol_end names) a.1)
+  unfolding declaration_form
   protocol_left d f g =
       other_next (codes "define") (λ tt. define_end place names) (function_part number place names) ts d
-      ∙ other_next (codes "function") (λ tt. function_end number names) (filter_part number place names) ts f
-      ∙ other_next (codes "filter") (λ tt. filter_end names) (protocol_part number place names) ts g
+      ∙ other_next (codes "function") (λ tt. function_form number names) (filter_part number place names) ts f
+      ∙ other_next (codes "filter") (λ tt. filter_form names) (protocol_part number place names) ts g
 
   pub ipv4_next : IsNext (codes "ipv4") ts rest → read (table_or number place names) ts ≡ read (table_end Ipv4 names) rest
   unfolding table_or
@@ -84,22 +84,22 @@ module _ (number place : ℕ) (names : Names) (ts rest : List Kind) where
       other_next (codes "ipv4") (λ tt. table_end Ipv4 names) (ipv6_part number place names) ts a
       ∙ other_next (codes "ipv6") (λ tt. table_end Ipv6 names) (roa4_part number place names) ts b
       ∙ other_next (codes "roa4") (λ tt. table_end Roa4 names) (roa6_part number place names) ts c
-      ∙ word_next (codes "roa6") (λ tt. table_end Roa6 names) (declaration_text number place names) ts rest e
+      ∙ word_next (codes "roa6") (λ tt. table_end Roa6 names) (declaration_form number place names) ts rest e
 
   pub declaration_left : IsOther (codes "ipv4") ts → IsOther (codes "ipv6") ts → IsOther (codes "roa4") ts → IsOther (codes "roa6") ts
-      → read (table_or number place names) ts ≡ read (declaration_text number place names) ts
+      → read (table_or number place names) ts ≡ read (declaration_form number place names) ts
   unfolding table_or
   declaration_left a b c d =
       other_next (codes "ipv4") (λ tt. table_end Ipv4 names) (ipv6_part number place names) ts a
       ∙ other_next (codes "ipv6") (λ tt. table_end Ipv6 names) (roa4_part number place names) ts b
       ∙ other_next (codes "roa4") (λ tt. table_end Roa4 names) (roa6_part number place names) ts c
-      ∙ other_next (codes "roa6") (λ tt. table_end Roa6 names) (declaration_text number place names) ts d
+      ∙ other_next (codes "roa6") (λ tt. table_end Roa6 names) (declaration_form number place names) ts d
 
-  pub router_next : IsNext (codes "router") ts rest → read (item_text number names) ts ≡ read (router_id_end names) rest
-  unfolding item_text
+  pub router_next : IsNext (codes "router") ts rest → read (item_form number names) ts ≡ read (router_id_end names) rest
+  unfolding item_form
   router_next e = word_next (codes "router") (λ tt. router_id_end names) (table_or number (length ts) names) ts rest e
 
-  pub table_left : place ≡ length ts → IsOther (codes "router") ts → read (item_text number names) ts ≡ read (table_or number place names) ts
-  unfolding item_text
+  pub table_left : place ≡ length ts → IsOther (codes "router") ts → read (item_form number names) ts ≡ read (table_or number place names) ts
+  unfolding item_form
   table_left same e =
       other_next (codes "router") (λ tt. router_id_end names) (table_or number (length ts) names) ts e ∙ ap (λ n. read (table_or number n names) ts) (sym same)

@@ -17,8 +17,8 @@ use Rattle.ixp_exprs.specs.Declarations.{Declares, free_name}
 use Rattle.ixp_exprs.specs.declared.context.Scope.TheVariants as scope
 use Rattle.ixp_exprs.proofs.Sure.{Sure, behind_else, clear_free_name}
 use Rattle.ixp_stmts.proofs.QuietStatements.{body_steady}
-use Rattle.ixp_read.specs.Functions.{written_text, as_written, frame_in, head_text, body_within, function_within, filter_within}
-use Rattle.ixp_read.specs.Items.{router_id_end, table_end, define_within, Levels, all_levels, declaration_text, table_or, declaration_within, table_before, item_within, item_text, Begun, with_item, is_more, item_then, round_of, config_of, config_text}
+use Rattle.ixp_read.specs.Functions.{written_form, as_written, frame_in, head_form, body_within, function_within, filter_within}
+use Rattle.ixp_read.specs.Items.{router_id_end, table_end, define_within, Levels, all_levels, declaration_form, table_or, declaration_within, table_before, item_within, item_form, Begun, with_item, is_more, item_then, round_of, config_of, config_form}
 use Rattle.ixp_protocols.specs.Protocols.{protocol_end}
 use Rattle.ixp_protocols.proofs.SureProtocols.{first_protocol_end}
 use Rattle.ixp_read.proofs.SureFunctions.{first_written, first_head}
@@ -27,13 +27,13 @@ use Rattle.ixp_read.proofs.SureItems.{item_starts, first_router_id, first_table,
 body_steady_within : (levels number : ℕ) (names : Names) → Steady (body_within levels number names)
 body_steady_within levels number names =
     here_steady _ (λ place.
-    sequence_alike first_alone written_text _ (steady written_text first_written.clear) (λ written.
+    sequence_alike first_alone written_form _ (steady written_form first_written.clear) (λ written.
     sequence_alike first_alone (the_mark mark.BlockOpen) _ (steady (the_mark mark.BlockOpen) tt) (λ x.
     sequence_alike first_alone _ _ (body_steady (frame_in number names) levels (as_written written)) (λ body. checks_alike first_alone (gives _) _ (steady (gives _) tt)))))
 
 function_steady : (levels number : ℕ) (names : Names) → Steady (function_within levels number names)
 function_steady levels number names =
-    sequence_alike first_alone (head_text number names) _ (steady (head_text number names) (first_head number names).clear) (λ head.
+    sequence_alike first_alone (head_form number names) _ (steady (head_form number names) (first_head number names).clear) (λ head.
     sequence_alike first_alone (body_within levels number head.params.names) _ (body_steady_within levels number head.params.names) (λ body. steady (gives _) tt))
 
 filter_steady : (levels : ℕ) (names : Names) → Steady (filter_within levels names)
@@ -65,8 +65,8 @@ item_steady_within levels number names =
     (or_steady (codes "filter") (filter_within levels.inside names) (sequence (the_word (codes "protocol")) (λ x. protocol_end names)) (filter_steady levels.inside names)
     (begun_steady (codes "protocol") (protocol_end names) (steady (protocol_end names) (first_protocol_end names).clear))))))))))
 
-item_steady : (number : ℕ) (names : Names) → Steady (item_text number names)
-unfolding item_text table_or declaration_text
+item_steady : (number : ℕ) (names : Names) → Steady (item_form number names)
+unfolding item_form table_or declaration_form
 item_steady number names = item_steady_within all_levels number names
 
 abbrev at_end : Begun → Grammar (Step Begun (List ItemTree))
@@ -91,9 +91,9 @@ module _ (item : ℕ → Names → Grammar Declares) (known : (number : ℕ) (na
 pub item_begins_within : (levels : Levels) (number : ℕ) (names : Names) → BeginsAlike first_alone (item_within levels number names)
 item_begins_within levels number names p k r s h = refl
 
-item_begins : (number : ℕ) (names : Names) → BeginsAlike first_alone (item_text number names)
-unfolding item_text table_or declaration_text
+item_begins : (number : ℕ) (names : Names) → BeginsAlike first_alone (item_form number names)
+unfolding item_form table_or declaration_form
 item_begins number names p k r s h = refl
 
-pub config_steady : Steady config_text
-config_steady = steady_config item_text sure_item item_begins item_steady
+pub config_steady : Steady config_form
+config_steady = steady_config item_form sure_item item_begins item_steady

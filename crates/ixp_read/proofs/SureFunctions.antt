@@ -14,7 +14,7 @@ use Rattle.ixp_exprs.specs.Expressions.{word_in}
 use Rattle.ixp_exprs.proofs.ClearLists.{clear_only, clear_ended}
 use Rattle.ixp_exprs.proofs.KnownTokens.{word_front}
 use Rattle.ixp_exprs.proofs.Sure.{Sure, First, sure_of, clear_word, clear_free_name}
-use Rattle.ixp_read.specs.Functions.{type_in, has_sets, type_text, Params, no_params, param_text, params_text, written_text, as_written, head_text, frame_in, body_within, function_within, filter_within}
+use Rattle.ixp_read.specs.Functions.{type_in, has_sets, type_form, Params, no_params, param_form, params_form, written_form, as_written, head_form, frame_in, body_within, function_within, filter_within}
 use Rattle.ixp_stmts.proofs.Several.{clear_joined}
 use Rattle.ixp_stmts.proofs.SureStatements.{sure_body}
 
@@ -32,30 +32,30 @@ type_front w =
 abbrev pub type_look : Look
 type_look = full_look types (keyword (codes "set") ∷ [])
 
-first_type : First type_text type_look
+first_type : First type_form type_look
 first_type =
     clear_then (clear_takes (word_in type_in) types (word_front type_in types type_front)) (λ t.
     clear_choice (clear_only (has_sets t) (clear_then (clear_word (codes "set")) (λ x. clear_gives _))) (clear_gives t) refl refl)
 
 -- Parameters.
 
-pub first_param : (number : ℕ) (before : Params) → First (param_text number before) (token_look types)
+pub first_param : (number : ℕ) (before : Params) → First (param_form number before) (token_look types)
 first_param number before = clear_sequence first_type (λ t. clear_here (λ left. clear_then clear_name (λ found. clear_checks (clear_gives _)))) refl
 
-first_params : (number : ℕ) (names : Names) → First (params_text number names) (token_look (marked mark.Open ∷ []))
+first_params : (number : ℕ) (names : Names) → First (params_form number names) (token_look (marked mark.Open ∷ []))
 first_params number names =
     clear_then (clear_mark mark.Open) (λ x.
     clear_choice (clear_ended mark.Close (no_params names))
     (clear_sequence
-    (clear_joined (param_text number) mark.Semicolon (λ before params. params) (λ before params. params) types [] (first_param number) refl (no_params names))
+    (clear_joined (param_form number) mark.Semicolon (λ before params. params) (λ before params. params) types [] (first_param number) refl (no_params names))
     (λ params. clear_ended mark.Close params) refl) refl refl)
 
 -- Functions and filters.
 
-pub first_written : First written_text (record { leads = false; full = false; starts = marked mark.Arrow ∷ []; ends = keyword (codes "set") ∷ marked mark.Arrow ∷ [] })
+pub first_written : First written_form (record { leads = false; full = false; starts = marked mark.Arrow ∷ []; ends = keyword (codes "set") ∷ marked mark.Arrow ∷ [] })
 first_written = clear_choice (clear_then (clear_mark mark.Arrow) (λ x. clear_sequence first_type (λ t. clear_gives _) refl)) (clear_gives None) refl refl
 
-pub first_head : (number : ℕ) (names : Names) → First (head_text number names) (token_look (name ∷ []))
+pub first_head : (number : ℕ) (names : Names) → First (head_form number names) (token_look (name ∷ []))
 first_head number names = clear_then (clear_free_name names) (λ found. clear_then (first_params number _) (λ params. clear_gives _))
 
 sure_body_within : (levels number : ℕ) (names : Names) → Sure (body_within levels number names) (record { leads = false; full = true; starts = marked mark.Arrow ∷ marked mark.BlockOpen ∷ []; ends = [] })

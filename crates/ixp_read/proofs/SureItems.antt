@@ -16,7 +16,7 @@ use Rattle.ixp_exprs.specs.Declarations.{Declares}
 use Rattle.ixp_exprs.proofs.ClearLists.{clear_ended}
 use Rattle.ixp_exprs.proofs.Sure.{behind_else, Sure, First, sure_of, clear_word, clear_free_name}
 use Rattle.ixp_exprs.proofs.KnownExpressions.{operand_starts, clear_expression_text}
-use Rattle.ixp_read.specs.Items.{v4_addr_in, router_id_end, table_end, define_place, value_within, define_within, Levels, all_levels, item_within, declaration_text, table_or, item_text, Begun, is_more, item_then, round_of, config_of, config_text}
+use Rattle.ixp_read.specs.Items.{v4_addr_in, router_id_end, table_end, define_place, value_within, define_within, Levels, all_levels, item_within, declaration_form, table_or, item_form, Begun, is_more, item_then, round_of, config_of, config_form}
 use Rattle.ixp_read.proofs.SureFunctions.{sure_function, sure_filter}
 use Rattle.ixp_protocols.proofs.SureProtocols.{first_protocol_end}
 
@@ -58,8 +58,8 @@ sure_item_within levels number names =
     refl refl) refl refl) refl refl) refl refl) refl refl) refl refl) refl refl) refl refl))
     refl refl
 
-pub sure_item : (number : ℕ) (names : Names) → Sure (item_text number names) (token_look item_starts)
-unfolding item_text table_or declaration_text
+pub sure_item : (number : ℕ) (names : Names) → Sure (item_form number names) (token_look item_starts)
+unfolding item_form table_or declaration_form
 sure_item number names = sure_item_within all_levels number names
 
 more_seen : IsSeen behind_else is_more
@@ -85,5 +85,5 @@ module _ (item : ℕ → Names → Grammar Declares) (known : (number : ℕ) (na
   pub clear_config : ClearBy (IsSeen behind_else) (config_of item)
   clear_config = (round_clear, round_full, λ t u rest p q. round_ends t u rest q)
 
-pub config_clear : ClearBy (IsSeen behind_else) config_text
-config_clear = clear_config item_text sure_item
+pub config_clear : ClearBy (IsSeen behind_else) config_form
+config_clear = clear_config item_form sure_item

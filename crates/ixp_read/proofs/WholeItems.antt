@@ -31,25 +31,25 @@ use Rattle.ixp_exprs.proofs.KnownTokens.{word_front}
 use Rattle.ixp_exprs.proofs.KnownExpressions.{operand_starts}
 use Rattle.ixp_exprs.proofs.WholeLists.{part_only, whole_mark, whole_word, whole_name, whole_ended}
 use Rattle.ixp_exprs.proofs.WholeExpressions.{whole_expression_text}
-use Rattle.ixp_stmts.specs.Statements.{Frame, Said, body_text}
+use Rattle.ixp_stmts.specs.Statements.{Frame, Said, body_form}
 use Rattle.ixp_stmts.proofs.Several.{clear_joined}
 use Rattle.ixp_stmts.proofs.ExchangeStatements.{free_first, before_gives, before_checks}
 use Rattle.ixp_stmts.proofs.SuppliedStatements.{supply_first, text_first, body_supplied, body_exchanges, body_has_text}
 use Rattle.ixp_protocols.specs.Protocols.{protocol_end}
 use Rattle.ixp_protocols.proofs.WholeProtocols.{whole_free_name, whole_protocol_end}
-use Rattle.ixp_read.specs.Functions.{type_in, has_sets, type_text, Params, no_params, param_text, param_round, params_text, written_text, as_written, head_text, Body, body_with, frame_in, body_within, Head, function_with, function_within, filter_with, filter_within}
+use Rattle.ixp_read.specs.Functions.{type_in, has_sets, type_form, Params, no_params, param_form, param_round, params_form, written_form, as_written, head_form, Body, body_with, frame_in, body_within, Head, function_with, function_within, filter_with, filter_within}
 use Rattle.ixp_read.specs.Items.{v4_addr_in, router_id_end, table_end, define_place, value_within, define_within, Levels, declaration_within, table_before, item_within, Begun, with_item, is_more, item_then, round_of, config_of}
 use Rattle.ixp_read.proofs.SureFunctions.{types, type_front, type_look, first_param}
 use Rattle.ixp_read.proofs.SureItems.{v4_front}
 
 -- Types and parameters.
 
-whole_type : Whole type_text type_text type_look []
+whole_type : Whole type_form type_form type_look []
 whole_type =
     whole_then (whole_takes (token.Word (codes "int")) ty.Int refl (clear_takes (word_in type_in) types (word_front type_in types type_front))) (λ t.
     whole_right (part_only (has_sets t) (part_of (whole_then (whole_word (codes "set")) (λ x. whole_gives _)))) (whole_gives t) refl refl)
 
-whole_param : (number : ℕ) (before : Params) → Whole (param_text number before) (param_text number before) (token_look types) []
+whole_param : (number : ℕ) (before : Params) → Whole (param_form number before) (param_form number before) (token_look types) []
 whole_param number before = whole_sequence whole_type (λ t. whole_here (λ left. whole_then whole_name (λ found. whole_checks (whole_gives _)))) refl refl
 
 abbrev params_look : Look
@@ -63,7 +63,7 @@ whole_param_round number before =
 last_param : (number : ℕ) (before : Params) → HasText (rounds (param_round number) before)
 last_param number before p = by_text ((whole_param number before).text p)
   where
-    by_text : (v : Params) × (ts : List Token) × (q : ℕ) × Fine (param_text number before) v (spot p ts) (spot q []) → (v : Params) × (ts : List Token) × (q : ℕ) × Fine (rounds (param_round number) before) v (spot p ts) (spot q [])
+    by_text : (v : Params) × (ts : List Token) × (q : ℕ) × Fine (param_form number before) v (spot p ts) (spot q []) → (v : Params) × (ts : List Token) × (q : ℕ) × Fine (rounds (param_round number) before) v (spot p ts) (spot q [])
     by_text (v, ts, q, fine) = (v, ts, q, (zero, (v, spot q [], fine, inr (refl, refl))))
 
 whole_param_rounds : (number : ℕ) (before : Params) → Whole (rounds (param_round number) before) (rounds (param_round number) before) params_look []
@@ -74,21 +74,21 @@ whole_param_rounds number before = record {
       can_end (param_round number t) (rounds (param_round number) u) (whole_param_round number t).clearly.clear (onward u)
       (text_free (param_round number t) (rounds (param_round number) u) params_look (whole_param_round number t).clearly (last_param number u) (onward u)))
       (λ t u i j. can_follow (param_round number t) (rounds (param_round number) u) (whole_param_round number t).clearly.clear (onward u));
-  clearly = clear_joined (param_text number) mark.Semicolon (λ before params. params) (λ before params. params) types [] (first_param number) refl before;
+  clearly = clear_joined (param_form number) mark.Semicolon (λ before params. params) (λ before params. params) types [] (first_param number) refl before;
   text = last_param number before;
 }
 
-whole_params : (number : ℕ) (names : Names) → Whole (params_text number names) (params_text number names) (token_look (marked mark.Open ∷ [])) []
+whole_params : (number : ℕ) (names : Names) → Whole (params_form number names) (params_form number names) (token_look (marked mark.Open ∷ [])) []
 whole_params number names =
     whole_then (whole_mark mark.Open) (λ x.
     whole_choice (whole_ended mark.Close (no_params names)) (whole_sequence (whole_param_rounds number (no_params names)) (λ params. whole_ended mark.Close params) refl refl) refl refl)
 
 -- Functions and filters.
 
-whole_written : Whole written_text written_text (record { leads = false; full = false; starts = marked mark.Arrow ∷ []; ends = keyword (codes "set") ∷ marked mark.Arrow ∷ [] }) []
+whole_written : Whole written_form written_form (record { leads = false; full = false; starts = marked mark.Arrow ∷ []; ends = keyword (codes "set") ∷ marked mark.Arrow ∷ [] }) []
 whole_written = whole_choice (whole_then (whole_mark mark.Arrow) (λ x. whole_sequence whole_type (λ t. whole_gives _) refl refl)) (whole_gives None) refl refl
 
-whole_head : (number : ℕ) (names : Names) → Whole (head_text number names) (head_text number names) (token_look (name ∷ [])) []
+whole_head : (number : ℕ) (names : Names) → Whole (head_form number names) (head_form number names) (token_look (name ∷ [])) []
 whole_head number names = whole_then (whole_free_name names) (λ found. whole_then (whole_params number _) (λ params. whole_gives _))
 
 -- what a type that is written asks of the body
@@ -97,20 +97,20 @@ met_by written place body = unless_so (not (is_some written && not body.returned
 
 abbrev checked : ℕ → ℕ → Names → ℕ → Option ValueType → Unit {0} → Grammar Body
 checked levels number names place written x =
-    sequence (body_text (frame_in number names) levels (as_written written)) (λ body. checks (met_by written place body) (gives (body_with body)))
+    sequence (body_form (frame_in number names) levels (as_written written)) (λ body. checks (met_by written place body) (gives (body_with body)))
 
 abbrev opened : ℕ → ℕ → Names → ℕ → Option ValueType → Grammar Body
 opened levels number names place written = sequence (the_mark mark.BlockOpen) (checked levels number names place written)
 
 checked_exchanges : (levels number : ℕ) (names : Names) (place : ℕ) (written : Option ValueType) (x : Unit {0}) → Exchanges whatever (checked levels number names place written x)
-checked_exchanges levels number names place written x = before_checks whatever (body_text (frame_in number names) levels (as_written written)) (met_by written place) body_with (body_exchanges (frame_in number names) levels (as_written written))
+checked_exchanges levels number names place written x = before_checks whatever (body_form (frame_in number names) levels (as_written written)) (met_by written place) body_with (body_exchanges (frame_in number names) levels (as_written written))
 
 checked_has_text : (levels number : ℕ) (names : Names) (place : ℕ) (written : Option ValueType) (x : Unit {0}) → HasText (checked levels number names place written x)
 checked_has_text levels number names place written x =
-    text_then (body_text (frame_in number names) levels (as_written written)) (λ body. checks (unless_so (not (is_some written && not body.returned.is_met)) (misfit_at place)) (gives (body_with body)))
+    text_then (body_form (frame_in number names) levels (as_written written)) (λ body. checks (unless_so (not (is_some written && not body.returned.is_met)) (misfit_at place)) (gives (body_with body)))
     (body_has_text (frame_in number names) levels (as_written written))
     (λ b.
-    ends_all (body_text (frame_in number names) levels (as_written written)) (checks (unless_so (not (is_some written && not b.returned.is_met)) (misfit_at place)) (gives (body_with b)))
+    ends_all (body_form (frame_in number names) levels (as_written written)) (checks (unless_so (not (is_some written && not b.returned.is_met)) (misfit_at place)) (gives (body_with b)))
     (body_exchanges (frame_in number names) levels (as_written written)) (λ p. (body_with b, [], p, (refl, refl))) b)
 
 opened_has_text : (levels number : ℕ) (names : Names) (place : ℕ) (written : Option ValueType) → HasText (opened levels number names place written)
@@ -118,8 +118,8 @@ opened_has_text levels number names place written = text_first (checked levels n
 
 body_exchanges_within : (levels number : ℕ) (names : Names) → Exchanges whatever (body_within levels number names)
 body_exchanges_within levels number names =
-    here_exchanges whatever (λ place. sequence written_text (opened levels number names place)) (λ place.
-    free_first whatever written_text (opened levels number names place) (clearly_exchanges whole_written.clearly) (λ written.
+    here_exchanges whatever (λ place. sequence written_form (opened levels number names place)) (λ place.
+    free_first whatever written_form (opened levels number names place) (clearly_exchanges whole_written.clearly) (λ written.
     free_first whatever (the_mark mark.BlockOpen) (checked levels number names place written) (clearly_exchanges (whole_mark mark.BlockOpen).clearly) (checked_exchanges levels number names place written)))
 
 body_text_within : (levels number : ℕ) (names : Names) → HasText (body_within levels number names)
@@ -127,10 +127,10 @@ body_text_within levels number names p = text_first (opened levels number names 
 
 body_supplied_within : (levels more : ℕ) → levels < more → (number : ℕ) (names : Names) → Supplied Body (body_within levels number names) (body_within more number names)
 body_supplied_within levels more less number names =
-    supplied_here (λ place. sequence written_text (opened levels number names place)) (λ place. sequence written_text (opened more number names place)) (λ place.
+    supplied_here (λ place. sequence written_form (opened levels number names place)) (λ place. sequence written_form (opened more number names place)) (λ place.
     supply_first (opened levels number names place) (opened more number names place) whole_written (λ written.
     supply_first (checked levels number names place written) (checked more number names place written) (whole_mark mark.BlockOpen) (λ x.
-    supplied_and_checks whatever (body_text (frame_in number names) levels (as_written written)) (body_text (frame_in number names) more (as_written written)) (met_by written place) body_with
+    supplied_and_checks whatever (body_form (frame_in number names) levels (as_written written)) (body_form (frame_in number names) more (as_written written)) (met_by written place) body_with
     (body_supplied (frame_in number names) levels more less (as_written written)) (body_exchanges (frame_in number names) more (as_written written)) (λ rest. tt))
     (checked_has_text more number names place written))
     (opened_has_text more number names place))
@@ -152,7 +152,7 @@ function_supplied levels more less number names =
 
 function_exchanges : (levels number : ℕ) (names : Names) → Exchanges whatever (function_within levels number names)
 function_exchanges levels number names =
-    free_first whatever (head_text number names) (behind_head levels number) (clearly_exchanges (whole_head number names).clearly) (λ head.
+    free_first whatever (head_form number names) (behind_head levels number) (clearly_exchanges (whole_head number names).clearly) (λ head.
     before_gives whatever (body_within levels number head.params.names) (function_with head) (body_exchanges_within levels number head.params.names))
 
 function_has_text : (levels number : ℕ) (names : Names) → HasText (function_within levels number names)
@@ -160,7 +160,7 @@ function_has_text levels number names = text_first (behind_head levels number) (
 
 abbrev filtered : ℕ → Names → List ℕ → Unit {0} → Grammar Declares
 filtered levels names found x =
-    sequence (body_text (record { names = names; scope = scope.Filter }) levels (as_written None)) (λ body. gives (filter_with names found body))
+    sequence (body_form (record { names = names; scope = scope.Filter }) levels (as_written None)) (λ body. gives (filter_with names found body))
 
 abbrev filter_opened : ℕ → Names → List ℕ → Grammar Declares
 filter_opened levels names found = sequence (the_mark mark.BlockOpen) (filtered levels names found)
@@ -168,8 +168,8 @@ filter_opened levels names found = sequence (the_mark mark.BlockOpen) (filtered 
 filtered_has_text : (levels : ℕ) (names : Names) (found : List ℕ) (x : Unit {0}) → HasText (filtered levels names found x)
 filtered_has_text levels names found x =
     let frame : Frame = record { names = names; scope = scope.Filter } in
-    text_then (body_text frame levels (as_written None)) (λ body. gives (filter_with names found body)) (body_has_text frame levels (as_written None))
-    (λ b. ends_all (body_text frame levels (as_written None)) (gives (filter_with names found b)) (body_exchanges frame levels (as_written None)) (λ p. (filter_with names found b, [], p, (refl, refl))) b)
+    text_then (body_form frame levels (as_written None)) (λ body. gives (filter_with names found body)) (body_has_text frame levels (as_written None))
+    (λ b. ends_all (body_form frame levels (as_written None)) (gives (filter_with names found b)) (body_exchanges frame levels (as_written None)) (λ p. (filter_with names found b, [], p, (refl, refl))) b)
 
 filter_opened_text : (levels : ℕ) (names : Names) (found : List ℕ) → HasText (filter_opened levels names found)
 filter_opened_text levels names found = text_first (filtered levels names found) (whole_mark mark.BlockOpen) (filtered_has_text levels names found)
@@ -179,7 +179,7 @@ filter_supplied levels more less names =
     let frame : Frame = record { names = names; scope = scope.Filter } in
     supply_first (filter_opened levels names) (filter_opened more names) (whole_free_name names) (λ found.
     supply_first (filtered levels names found) (filtered more names found) (whole_mark mark.BlockOpen) (λ x.
-    supplied_and_gives whatever (body_text frame levels (as_written None)) (body_text frame more (as_written None)) (filter_with names found) (body_supplied frame levels more less (as_written None))
+    supplied_and_gives whatever (body_form frame levels (as_written None)) (body_form frame more (as_written None)) (filter_with names found) (body_supplied frame levels more less (as_written None))
     (body_exchanges frame more (as_written None)) (λ rest. tt))
     (filtered_has_text more names found))
     (filter_opened_text more names)
@@ -188,7 +188,7 @@ filter_exchanges : (levels : ℕ) (names : Names) → Exchanges whatever (filter
 filter_exchanges levels names =
     free_first whatever (free_name names) (filter_opened levels names) (clearly_exchanges (whole_free_name names).clearly) (λ found.
     free_first whatever (the_mark mark.BlockOpen) (filtered levels names found) (clearly_exchanges (whole_mark mark.BlockOpen).clearly) (λ x.
-    before_gives whatever (body_text (record { names = names; scope = scope.Filter }) levels (as_written None)) (filter_with names found)
+    before_gives whatever (body_form (record { names = names; scope = scope.Filter }) levels (as_written None)) (filter_with names found)
     (body_exchanges (record { names = names; scope = scope.Filter }) levels (as_written None))))
 
 filter_has_text : (levels : ℕ) (names : Names) → HasText (filter_within levels names)

@@ -16,7 +16,7 @@ use Rattle.ixp_tokens.specs.Grammars.{Took}
 use Rattle.ixp_tokens.specs.Reading.{read, kinds}
 use Rattle.ixp_read.specs.declared.fault.ReadFault.{ReadFault}
 use Rattle.ixp_read.specs.declared.fault.ReadFault.TheVariants.{Byte, Number, Unexpected, UnknownName, NameTwice, MixedLogic, WrongType, TooDeep, OutOfProfile, NoMemory}
-use Rattle.ixp_read.specs.Items.{config_text}
+use Rattle.ixp_read.specs.Items.{config_form}
 
 -- the text has these tokens, each at some place
 abbrev pub HasTokens : List ℕ → List Kind → Type 0
@@ -24,7 +24,7 @@ HasTokens text tokens = (placed : List Token) × Tokens text placed × (kinds pl
 
 -- the text has tokens that spell this configuration, with nothing behind them
 abbrev pub SpellsText : List ℕ → List ItemTree → Type 0
-SpellsText text configuration = (tokens : List Kind) × HasTokens text tokens × Took config_text configuration tokens []
+SpellsText text configuration = (tokens : List Kind) × HasTokens text tokens × Took config_form configuration tokens []
 
 -- marks that BIRD 2 has and the profile leaves out
 abbrev pub is_foreign_mark : Mark → Bool
@@ -72,7 +72,7 @@ pub record IsStop (text : List ℕ) (fault : ReadFault) : Type 0 where
   pub are : Tokens text tokens
   pub cause : Cause
   pub left : ℕ
-  pub stops : read config_text (kinds tokens) ≡ Err (cause, left)
+  pub stops : read config_form (kinds tokens) ≡ Err (cause, left)
   pub is : fault ≡ fault_at text tokens cause left
 
 -- the configuration that the text spells, or where its reading stops; want of memory is free

@@ -19,7 +19,7 @@ use Rattle.ixp_exprs.specs.Lists.{only, ended}
 use Rattle.ixp_exprs.specs.Sets.{unless_so}
 use Rattle.ixp_exprs.specs.Operands.{misfit_at}
 use Rattle.ixp_exprs.specs.Expressions.{word_in}
-use Rattle.ixp_stmts.specs.Statements.{Frame, Returned, Said, body_text}
+use Rattle.ixp_stmts.specs.Statements.{Frame, Returned, Said, body_form}
 
 -- Types as they are written.
 
@@ -45,8 +45,8 @@ abbrev pub has_sets : Ty → Bool
 has_sets ty.Bool = false
 has_sets _ = true
 
-abbrev pub type_text : Grammar Ty
-type_text =
+abbrev pub type_form : Grammar Ty
+type_form =
     sequence (takes (word_in type_in)) (λ t. choice (only (has_sets t) (sequence (the_word (codes "set")) (λ tt. gives (set_of t)))) (gives t))
 
 -- Functions.
@@ -64,9 +64,9 @@ with_param before number t name = record {
   names = standing before.names name (Parameter number (type_of t));
 }
 
-abbrev pub param_text : ℕ → Params → Grammar Params
-param_text number before =
-    sequence type_text (λ t.
+abbrev pub param_form : ℕ → Params → Grammar Params
+param_form number before =
+    sequence type_form (λ t.
     here (λ left.
     sequence a_name (λ name.
     checks (unless_so (is_free_in (before.names name) number) (Twice, left)) (gives (with_param before number t name)))))
@@ -76,17 +76,17 @@ no_params names = record { params = []; types = []; names = names }
 
 -- one parameter behind those before it, and a semicolon where another one follows
 abbrev pub param_round : ℕ → Params → Grammar (Step Params Params)
-param_round number before = sequence (param_text number before) (λ params. choice (ended Semicolon (onward params)) (gives (done params)))
+param_round number before = sequence (param_form number before) (λ params. choice (ended Semicolon (onward params)) (gives (done params)))
 
 -- the parameters of the function that has this number, in parentheses
-abbrev pub params_text : ℕ → Names → Grammar Params
-params_text number names =
+abbrev pub params_form : ℕ → Names → Grammar Params
+params_form number names =
     sequence (the_mark Open) (λ tt.
     choice (ended Close (no_params names)) (sequence (rounds (param_round number) (no_params names)) (λ params. ended Close params)))
 
 -- the type that a function is said to return, if one is
-abbrev pub written_text : Grammar (Option ValueType)
-written_text = choice (sequence (the_mark Arrow) (λ tt. sequence type_text (λ t. gives (Some (type_of t))))) (gives None)
+abbrev pub written_form : Grammar (Option ValueType)
+written_form = choice (sequence (the_mark Arrow) (λ tt. sequence type_form (λ t. gives (Some (type_of t))))) (gives None)
 
 abbrev pub as_written : Option ValueType → Returned
 as_written written = record { ty = written; is_met = false }
@@ -104,9 +104,9 @@ abbrev pub head_with : List ℕ → Params → Head
 head_with name params = record { name = name; params = params }
 
 -- nothing may use the function in its own body
-abbrev pub head_text : ℕ → Names → Grammar Head
-head_text number names =
-    sequence (free_name names) (λ name. sequence (params_text number (standing names name Begun)) (λ params. gives (head_with name params)))
+abbrev pub head_form : ℕ → Names → Grammar Head
+head_form number names =
+    sequence (free_name names) (λ name. sequence (params_form number (standing names name Begun)) (λ params. gives (head_with name params)))
 
 -- a function's body, and what it returns
 pub record Body : Type 0 where
@@ -123,9 +123,9 @@ frame_in number names = record { names = names; scope = scope.Function number }
 abbrev pub body_within : ℕ → ℕ → Names → Grammar Body
 body_within levels number names =
     here (λ place.
-    sequence written_text (λ written.
+    sequence written_form (λ written.
     sequence (the_mark BlockOpen) (λ tt.
-    sequence (body_text (frame_in number names) levels (as_written written)) (λ body.
+    sequence (body_form (frame_in number names) levels (as_written written)) (λ body.
     checks (unless_so (not (is_some written && not body.returned.is_met)) (misfit_at place)) (gives (body_with body))))))
 
 abbrev pub body_end : ℕ → Names → Grammar Body
@@ -141,10 +141,10 @@ function_with head body =
 -- what follows `function`, before which there are so many items, with so many levels in its block at most
 abbrev pub function_within : ℕ → ℕ → Names → Grammar Declares
 function_within levels number names =
-    sequence (head_text number names) (λ head. sequence (body_within levels number head.params.names) (λ body. gives (function_with head body)))
+    sequence (head_form number names) (λ head. sequence (body_within levels number head.params.names) (λ body. gives (function_with head body)))
 
-abbrev pub function_end : ℕ → Names → Grammar Declares
-function_end number names = function_within levels_inside number names
+abbrev pub function_form : ℕ → Names → Grammar Declares
+function_form number names = function_within levels_inside number names
 
 abbrev pub filter_with : Names → List ℕ → Said (List StmtTree) → Declares
 filter_with names name body = (filter_item name (stmts body.it), standing names name Filter)
@@ -154,8 +154,8 @@ abbrev pub filter_within : ℕ → Names → Grammar Declares
 filter_within levels names =
     sequence (free_name names) (λ name.
     sequence (the_mark BlockOpen) (λ tt.
-    sequence (body_text (record { names = names; scope = scope.Filter }) levels (as_written None)) (λ body.
+    sequence (body_form (record { names = names; scope = scope.Filter }) levels (as_written None)) (λ body.
     gives (filter_with names name body))))
 
-abbrev pub filter_end : Names → Grammar Declares
-filter_end names = filter_within levels_inside names
+abbrev pub filter_form : Names → Grammar Declares
+filter_form names = filter_within levels_inside names

@@ -17,7 +17,7 @@ use Rattle.ixp_exprs.specs.declared.context.Scope.TheVariants as scope
 use Rattle.ixp_exprs.specs.Names.{Names, defined_number}
 use Rattle.ixp_exprs.specs.Lists.{ended}
 use Rattle.ixp_exprs.specs.Operands.{Operand, settled}
-use Rattle.ixp_exprs.specs.Expressions.{Place, expression_text}
+use Rattle.ixp_exprs.specs.Expressions.{Place, expression_form}
 use Rattle.ixp_exprs.specs.Declarations.{nothing_declared, Declares, standing, free_name}
 use Rattle.ixp_read.specs.Functions.{levels_inside, function_within, filter_within}
 use Rattle.ixp_protocols.specs.Protocols.{protocol_end}
@@ -60,7 +60,7 @@ define_place statement names = record { names = names; scope = scope.Define; sta
 -- a definition's value with so many levels at most, built of literals and defined names alone, and the semicolon
 abbrev pub value_within : ℕ → ℕ → Names → Grammar Operand
 value_within levels statement names =
-    sequence (expression_text (define_place statement names) levels) (λ value.
+    sequence (expression_form (define_place statement names) levels) (λ value.
     sequence (the_mark Semicolon) (λ tt. checks (settled value) (gives value)))
 
 abbrev pub defined_value : ℕ → Names → Grammar Operand
@@ -95,8 +95,8 @@ declaration_within levels number place names =
     (sequence (the_word (codes "protocol")) (λ tt. protocol_end names))))
 
 -- a definition, a function, a filter or a protocol, which stands at this place, and before which there are so many items
-unfoldable pub declaration_text : ℕ → ℕ → Names → Grammar Declares
-declaration_text number place names = declaration_within all_levels number place names
+unfoldable pub declaration_form : ℕ → ℕ → Names → Grammar Declares
+declaration_form number place names = declaration_within all_levels number place names
 
 -- a table, or what else may stand there
 abbrev pub table_before : Names → Grammar Declares → Grammar Declares
@@ -108,15 +108,15 @@ table_before names others =
 
 -- a table, or one of those
 unfoldable pub table_or : ℕ → ℕ → Names → Grammar Declares
-table_or number place names = table_before names (declaration_text number place names)
+table_or number place names = table_before names (declaration_form number place names)
 
 -- the router's identifier, or what else may stand there
 abbrev pub router_before : Names → Grammar Declares → Grammar Declares
 router_before names others = choice (sequence (the_word (codes "router")) (λ tt. router_id_end names)) others
 
 -- an item, before which there are so many
-unfoldable pub item_text : ℕ → Names → Grammar Declares
-item_text number names = here (λ place. router_before names (table_or number place names))
+unfoldable pub item_form : ℕ → Names → Grammar Declares
+item_form number names = here (λ place. router_before names (table_or number place names))
 
 -- an item that has so many levels at most, whatever the language allows
 abbrev pub item_within : Levels → ℕ → Names → Grammar Declares
@@ -147,10 +147,10 @@ module _ (item : ℕ → Names → Grammar Declares) where
   config_of = rounds round_of (record { items = []; names = nothing_declared })
 
 abbrev pub one_item : Begun → Grammar (Step Begun (List ItemTree))
-one_item = item_then item_text
+one_item = item_then item_form
 
 abbrev pub config_round : Begun → Grammar (Step Begun (List ItemTree))
-config_round = round_of item_text
+config_round = round_of item_form
 
-abbrev pub config_text : Grammar (List ItemTree)
-config_text = config_of item_text
+abbrev pub config_form : Grammar (List ItemTree)
+config_form = config_of item_form

@@ -7,7 +7,7 @@ use Rattle.ixp_tokens.specs.declared.token.Kind.{Kind}
 use Rattle.ixp_tokens.specs.Grammars.{Grammar}
 use Rattle.ixp_tokens.specs.Syntax.{spot, scan, refused, IsFineText, StopsAt}
 use Rattle.ixp_read.specs.Functions.{levels_inside}
-use Rattle.ixp_read.specs.Items.{define_levels, item_within, config_of, config_text}
+use Rattle.ixp_read.specs.Items.{define_levels, item_within, config_of, config_form}
 
 -- a configuration that may have so many levels more than others
 abbrev pub config_with : ℕ → Grammar (List ItemTree)
@@ -15,7 +15,7 @@ config_with more = config_of (item_within (record { of_define = define_levels + 
 
 -- the tokens are a configuration by their syntax; places are numbered from so many down
 abbrev pub IsFine : ℕ → List Kind → Type 0
-IsFine = IsFineText config_text
+IsFine = IsFineText config_form
 
 -- or one that has so many levels more
 abbrev pub IsFineWith : ℕ → ℕ → List Kind → Type 0
@@ -23,7 +23,7 @@ IsFineWith more = IsFineText (config_with more)
 
 -- the reading ends at something that isn't syntax
 abbrev pub IsRefused : List Kind → Type 0
-IsRefused tokens = scan config_text (spot (length tokens) tokens) ≡ refused
+IsRefused tokens = scan config_form (spot (length tokens) tokens) ≡ refused
 
 -- With so many tokens left no configuration goes on: some configuration begins with what is before the place, with a level more
 -- than there may be perhaps, and none with what is before it and the token there. If the cause isn't that there are too many

@@ -3,7 +3,7 @@ ghost use Rattle.std.specs.Prelude.{◌≡◌, ◌<◌, ◌≤◌, length, IfOk}
 ghost use Rattle.ixp_lang.specs.Views.{item_view};
 ghost use Rattle.ixp_tokens.specs.Reading.{read, kinds, Gives};
 ghost use Rattle.ixp_exprs.specs.Names.{names_of};
-ghost use Rattle.ixp_read.specs.Functions.{written_text, head_text, body_within, function_within, filter_within};
+ghost use Rattle.ixp_read.specs.Functions.{written_form, head_form, body_within, function_within, filter_within};
 ghost use Rattle.ixp_read.specs.Views.{head_of, body_of};
 
 use crate::params::{Params, params_at};
@@ -29,7 +29,7 @@ fn head_at<'t>(
     number: usize,
     tokens: &'t [Token],
 ) -> Result<(Head, &'t [Token]), Fault>
-    ensures reads { Gives (λ x. (head_of x.0 (names_of env.new), kinds x.1.now)) result (read (head_text number (names_of env.old)) (kinds tokens.now)) }
+    ensures reads { Gives (λ x. (head_of x.0 (names_of env.new), kinds x.1.now)) result (read (head_form number (names_of env.old)) (kinds tokens.now)) }
     ensures shorter { IfOk result (λ x. length x.1.now < length tokens.now) }
 {
     let (name, rest) = env.free_name_at(alloc, tokens)?;
@@ -40,7 +40,7 @@ fn head_at<'t>(
 
 /// The type that a function is said to return, if one is.
 fn written_at(tokens: &[Token]) -> Result<(Option<ValueType>, &[Token]), Fault>
-    ensures reads { Gives (λ x. (x.0, kinds x.1.now)) result (read written_text (kinds tokens.now)) }
+    ensures reads { Gives (λ x. (x.0, kinds x.1.now)) result (read written_form (kinds tokens.now)) }
     ensures shorter { IfOk result (λ x. length x.1.now ≤ length tokens.now) }
 {
     let Some(rest) = after_mark(Mark::Arrow, tokens) else {

@@ -5,7 +5,7 @@ ghost use Rattle.ixp_tokens.specs.Grammars.{takes};
 ghost use Rattle.ixp_tokens.specs.Reading.{read, kinds, Gives};
 ghost use Rattle.ixp_exprs.specs.Names.{Names, names_of};
 ghost use Rattle.ixp_exprs.specs.Operands.{operand_of};
-ghost use Rattle.ixp_read.specs.Items.{v4_addr_in, is_roa, router_id_end, table_end, defined_value, define_end, declaration_text, table_or, item_text, config_round, config_text};
+ghost use Rattle.ixp_read.specs.Items.{v4_addr_in, is_roa, router_id_end, table_end, defined_value, define_end, declaration_form, table_or, item_form, config_round, config_form};
 ghost use Rattle.ixp_read.specs.Views.{begun_of, round_says};
 
 use crate::function::{filter_at, function_at};
@@ -137,7 +137,7 @@ fn declaration_at<'t>(
     number: usize,
     tokens: &'t [Token],
 ) -> Result<(Item, &'t [Token]), Fault>
-    ensures reads { Gives (λ x. ((item_view x.0, names_of env.new), kinds x.1.now)) result (read (declaration_text number (length tokens.now) (names_of env.old)) (kinds tokens.now)) }
+    ensures reads { Gives (λ x. ((item_view x.0, names_of env.new), kinds x.1.now)) result (read (declaration_form number (length tokens.now) (names_of env.old)) (kinds tokens.now)) }
     ensures shorter { IfOk result (λ x. length x.1.now < length tokens.now) }
 {
     if let Some(rest) = after_word(b"define", tokens) {
@@ -185,7 +185,7 @@ fn item_at<'t>(
     number: usize,
     tokens: &'t [Token],
 ) -> Result<(Item, &'t [Token]), Fault>
-    ensures reads { Gives (λ x. ((item_view x.0, names_of env.new), kinds x.1.now)) result (read (item_text number (names_of env.old)) (kinds tokens.now)) }
+    ensures reads { Gives (λ x. ((item_view x.0, names_of env.new), kinds x.1.now)) result (read (item_form number (names_of env.old)) (kinds tokens.now)) }
     ensures shorter { IfOk result (λ x. length x.1.now < length tokens.now) }
 {
     if let Some(rest) = after_word(b"router", tokens) {
@@ -217,7 +217,7 @@ fn item_round<'t>(
 
 /// The items of all the tokens.
 pub(crate) fn items_at(alloc: Global, tokens: &[Token]) -> Result<Vec<Item>, Fault>
-    ensures reads { Gives (λ items. (map item_view items.items, [])) result (read config_text (kinds tokens.now)) }
+    ensures reads { Gives (λ items. (map item_view items.items, [])) result (read config_form (kinds tokens.now)) }
 {
     let mut env = Env::new(alloc);
     let mut items = Vec::new(alloc);

@@ -8,30 +8,30 @@ ghost use Rattle.ixp_tokens.specs.Grammars.{Took};
 ghost use Rattle.ixp_tokens.specs.Reading.{read};
 ghost use Rattle.ixp_read.specs.declared.fault.ReadFault.{ReadFault};
 ghost use Rattle.ixp_read.specs.Answers.{ConfigAnswer, IsTold, SameAnswer};
-ghost use Rattle.ixp_read.specs.Items.{config_text};
+ghost use Rattle.ixp_read.specs.Items.{config_form};
 ghost use Rattle.ixp_read.specs.Stops.{IsRefused, NoneGoesOn};
 
 /// A text is the configuration of one tree at most: its tokens are of the grammar in one way.
 pub fn one_tree()
-    ensures { (tokens : List Kind) (c d : List ItemTree) → Took config_text c tokens [] → Took config_text d tokens [] → c ≡ d }
+    ensures { (tokens : List Kind) (c d : List ItemTree) → Took config_form c tokens [] → Took config_form d tokens [] → c ≡ d }
 {}
 
 /// What is a configuration is read as its tree, with nothing left behind it.
 pub fn spelt_is_read()
-    ensures { (tokens : List Kind) (c : List ItemTree) → Took config_text c tokens [] → read config_text tokens ≡ Ok (c, []) }
+    ensures { (tokens : List Kind) (c : List ItemTree) → Took config_form c tokens [] → read config_form tokens ≡ Ok (c, []) }
 {}
 
 /// What is read to the end is a configuration, and nothing is left behind it.
 pub fn read_is_spelt()
-    ensures whole { (tokens : List Kind) (c : List ItemTree) (rest : List Kind) → read config_text tokens ≡ Ok (c, rest) → rest ≡ [] }
-    ensures spelt { (tokens : List Kind) (c : List ItemTree) (rest : List Kind) → read config_text tokens ≡ Ok (c, rest) → Took config_text c tokens [] }
+    ensures whole { (tokens : List Kind) (c : List ItemTree) (rest : List Kind) → read config_form tokens ≡ Ok (c, rest) → rest ≡ [] }
+    ensures spelt { (tokens : List Kind) (c : List ItemTree) (rest : List Kind) → read config_form tokens ≡ Ok (c, rest) → Took config_form c tokens [] }
 {}
 
 /// A reading that fails ends at a type, a name or a range of numbers; or syntax ends it, at the first place where no
 /// configuration goes on: some configuration, with a level more perhaps, begins with the tokens before it, none with
 /// these and the one that is there.
 pub fn none_goes_on()
-    ensures { (tokens : List Kind) (cause : Cause) (left : ℕ) → read config_text tokens ≡ Err (cause, left) → IsRefused tokens ⊎ NoneGoesOn tokens cause left }
+    ensures { (tokens : List Kind) (cause : Cause) (left : ℕ) → read config_form tokens ≡ Err (cause, left) → IsRefused tokens ⊎ NoneGoesOn tokens cause left }
 {}
 
 /// A text has one answer: one configuration, or one fault at one place. So what [`crate::read_config`] ensures says exactly

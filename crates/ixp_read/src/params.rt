@@ -4,7 +4,7 @@ ghost use Rattle.ixp_tokens.specs.Grammars.{rounds};
 ghost use Rattle.ixp_tokens.specs.Reading.{read, kinds, Gives};
 ghost use Rattle.ixp_exprs.specs.Groups.{closing};
 ghost use Rattle.ixp_exprs.specs.Names.{names_of};
-ghost use Rattle.ixp_read.specs.Functions.{no_params, param_text, param_round, params_text};
+ghost use Rattle.ixp_read.specs.Functions.{no_params, param_form, param_round, params_form};
 ghost use Rattle.ixp_read.specs.Views.{params_of};
 
 use crate::ty::type_at;
@@ -42,7 +42,7 @@ fn parameter_at<'t>(
     params: &mut Params,
     tokens: &'t [Token],
 ) -> Result<&'t [Token], Fault>
-    ensures reads { Gives (λ r. (params_of params.new (names_of env.new), kinds r.now)) result (read (param_text number (params_of params.old (names_of env.old))) (kinds tokens.now)) }
+    ensures reads { Gives (λ r. (params_of params.new (names_of env.new), kinds r.now)) result (read (param_form number (params_of params.old (names_of env.old))) (kinds tokens.now)) }
     ensures shorter { IfOk result (λ r. length r.now < length tokens.now) }
 {
     let (ty, name_tokens) = type_at(tokens)?;
@@ -102,7 +102,7 @@ pub(crate) fn params_at<'t>(
     number: usize,
     tokens: &'t [Token],
 ) -> Result<(Params, &'t [Token]), Fault>
-    ensures reads { Gives (λ x. (params_of x.0 (names_of env.new), kinds x.1.now)) result (read (params_text number (names_of env.old)) (kinds tokens.now)) }
+    ensures reads { Gives (λ x. (params_of x.0 (names_of env.new), kinds x.1.now)) result (read (params_form number (names_of env.old)) (kinds tokens.now)) }
     ensures shorter { IfOk result (λ x. length x.1.now < length tokens.now) }
 {
     let rest = mark_at(Mark::Open, tokens)?;

@@ -2,7 +2,7 @@
 ghost use Rattle.std.specs.Prelude.{◌≡◌, ◌<◌, length, IfOk};
 ghost use Rattle.ixp_tokens.specs.Reading.{read, kinds, Gives};
 ghost use Rattle.ixp_exprs.specs.Expressions.{word_in};
-ghost use Rattle.ixp_read.specs.Functions.{type_in, set_of, has_sets, type_text};
+ghost use Rattle.ixp_read.specs.Functions.{type_in, set_of, has_sets, type_form};
 
 use ixp_lang::Ty;
 use ixp_tokens::{Fault, Kind, Token, after_word, unexpected};
@@ -68,7 +68,7 @@ fn has_sets(ty: Ty) -> bool
 
 /// A type.
 pub(crate) fn type_at(tokens: &[Token]) -> Result<(Ty, &[Token]), Fault>
-    ensures reads { Gives (λ x. (x.0, kinds x.1.now)) result (read type_text (kinds tokens.now)) }
+    ensures reads { Gives (λ x. (x.0, kinds x.1.now)) result (read type_form (kinds tokens.now)) }
     ensures shorter { IfOk result (λ x. length x.1.now < length tokens.now) }
 {
     let [first, rest @ ..] = tokens else {

@@ -5,7 +5,7 @@ use Rattle.ixp_tokens.specs.declared.token.Kind.TheVariants as kind
 use Rattle.ixp_tokens.specs.declared.token.Mark.TheVariants as mark
 use Rattle.ixp_tokens.specs.Reading.{begins}
 use Rattle.ixp_tokens.specs.Pieces.{is_next, if_so, same_word, same_mark}
-use Rattle.ixp_stmts.specs.Statements.{Frame, Returned, change_text, statement_with, statement_text}
+use Rattle.ixp_stmts.specs.Statements.{Frame, Returned, change_form, statement_with, statement_form}
 use Rattle.ixp_stmts.specs.Views.{begins_with}
 
 deep_brace : (b : Bool) → ((b || false) || false) ≡ b
@@ -36,8 +36,8 @@ deep_nine : (a b c d e f g h i : Bool)
 deep_nine a true c d e f g h i = nine a true c d e f g h i
 deep_nine a false c d e f g h i = nine a false c d e f g h i
 
-pub begins_same : (frame : Frame) (d : ℕ) (in_arm : Bool) (r : Returned) (ts : List Kind) → begins (statement_text frame d in_arm r) ts ≡ is_next begins_with ts
-unfolding statement_with change_text
+pub begins_same : (frame : Frame) (d : ℕ) (in_arm : Bool) (r : Returned) (ts : List Kind) → begins (statement_form frame d in_arm r) ts ≡ is_next begins_with ts
+unfolding statement_with change_form
 begins_same frame zero in_arm r [] = refl
 begins_same frame zero in_arm r (kind.Mark m ∷ ts) = deep_brace (same_mark m mark.BlockOpen)
 begins_same frame zero in_arm r (kind.Name n ∷ ts) = refl

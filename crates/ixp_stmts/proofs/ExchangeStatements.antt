@@ -21,7 +21,7 @@ use Rattle.ixp_tokens.proofs.Exchanges.{Swap, Exchanges, whatever, exchanges_all
 use Rattle.ixp_exprs.specs.Lists.{never, ended}
 use Rattle.ixp_exprs.proofs.ClearLists.{clear_never, clear_ended}
 use Rattle.ixp_exprs.proofs.Sure.{Barred, First, behind_else, clear_word, next_word}
-use Rattle.ixp_stmts.specs.Statements.{Frame, place_in, Returned, Said, said, Statements, with_statement, statements_of, block_end, Deeper, nothing, deeper, is_block, is_case_else, is_if_else, block_text, no_branch, branch_text, else_text, if_text, Arms, with_arm, arms_text, case_end, Subject, case_text, statement_with, statement_text, labels_text, test_end, subject_end, plain_text}
+use Rattle.ixp_stmts.specs.Statements.{Frame, place_in, Returned, Said, said, Statements, with_statement, statements_of, block_end, Deeper, nothing, deeper, is_block, is_case_else, is_if_else, block_form, no_branch, branch_form, else_form, if_form, Arms, with_arm, arms_form, case_end, Subject, case_form, statement_with, statement_form, labels_form, test_end, subject_end, plain_form}
 use Rattle.ixp_stmts.proofs.Pieces.{said_one, one_more, labelled, one_arm, next_arm, else_arm, alone, braced, taken_else, or_else, else_do, without, then_text, tested, finished, armed, subjected, case_or_plain, if_or_others}
 use Rattle.ixp_stmts.proofs.SureStatements.{statement_starts, else_word, IsSureStatement, IsSureBelow, sure_more, sure_more_arms, sure_block_end, sure_branch, sure_statement, case_else_seen, if_else_seen, first_labels, first_test, first_subject, first_plain, first_no_branch}
 
@@ -97,7 +97,7 @@ module _ (statement : Statements) (ks : IsSureStatement statement) (ke : IsExcha
   pub next_arm_exchanges : (is_of_states : Bool) (place : ℕ) (before : Arms) → Exchanges (Open true) (next_arm statement is_of_states place before)
   next_arm_exchanges is_of_states place before =
       choice_exchanges (Open true) (one_arm statement is_of_states place before) (gives (done before))
-      (free_first (Open true) (labels_text is_of_states place) (labelled statement before) (clearly_exchanges (first_labels is_of_states place)) (λ labels.
+      (free_first (Open true) (labels_form is_of_states place) (labelled statement before) (clearly_exchanges (first_labels is_of_states place)) (λ labels.
       before_gives (Open true) (statements_of statement true before.returned) (λ body. onward (with_arm before labels body)) (more_exchanges true (said before.returned []))))
       (gives_exchanges (Open true) (done before))
 
@@ -158,10 +158,10 @@ module _ (statement : Statements) (ks : IsSureStatement statement) (ke : IsExcha
 
   pub armed_exchanges : (returned : Returned) (place : ℕ) (subject : Subject) → Exchanges whatever (armed statement returned place subject)
   armed_exchanges returned place subject =
-      sequence_exchanges whatever (Open true) (arms_text statement subject.is_of_states place returned) (finished statement subject) (more_arms_exchange statement ks ke subject.is_of_states place (said returned []))
+      sequence_exchanges whatever (Open true) (arms_form statement subject.is_of_states place returned) (finished statement subject) (more_arms_exchange statement ks ke subject.is_of_states place (said returned []))
       (finished_exchanges subject) (λ some_arms. gives_meet whatever (Open true) (case_end statement some_arms.returned) _ (case_end_meets some_arms.returned))
 
-  case_exchanges : (frame : Frame) (levels : ℕ) (returned : Returned) → Exchanges whatever (case_text frame (deeper levels statement) returned)
+  case_exchanges : (frame : Frame) (levels : ℕ) (returned : Returned) → Exchanges whatever (case_form frame (deeper levels statement) returned)
   case_exchanges frame levels returned =
       here_exchanges whatever (λ place. sequence (the_word (codes "case")) (subjected frame levels statement returned place)) (λ place.
       free_first whatever (the_word (codes "case")) (subjected frame levels statement returned place) (word_exchanges (codes "case")) (λ x.
@@ -174,11 +174,11 @@ IsExchangedBelow (deeper levels statement) = IsExchanged statement
 first_deep : {A : Type 0} (test : Kind → Bool) (fs : List Front) → ((ts : List Kind) → is_next test ts ≡ true → Starts fs ts) → First (bars (is_next test) Deep (never {A = A})) (token_look (fs ++ []))
 first_deep test fs barred = clear_bars (is_next test) Deep fs barred (clear_never (token_look []) []) (first_asks test)
 
-case_text_exchanges : (frame : Frame) (inner : Deeper) → IsSureBelow inner → IsExchangedBelow inner → (returned : Returned) → Exchanges whatever (case_text frame inner returned)
+case_text_exchanges : (frame : Frame) (inner : Deeper) → IsSureBelow inner → IsExchangedBelow inner → (returned : Returned) → Exchanges whatever (case_form frame inner returned)
 case_text_exchanges frame nothing ki ke returned = clearly_exchanges (first_deep (is_word (codes "case")) (keyword (codes "case") ∷ []) (next_word (codes "case")))
 case_text_exchanges frame (deeper levels statement) ki ke returned = case_exchanges statement ki ke frame levels returned
 
-block_text_exchanges : (inner : Deeper) → IsSureBelow inner → IsExchangedBelow inner → (returned : Returned) → Exchanges whatever (block_text inner returned)
+block_text_exchanges : (inner : Deeper) → IsSureBelow inner → IsExchangedBelow inner → (returned : Returned) → Exchanges whatever (block_form inner returned)
 block_text_exchanges nothing ki ke returned = clearly_exchanges (first_deep (is_mark mark.BlockOpen) (marked mark.BlockOpen ∷ []) (next_mark mark.BlockOpen))
 block_text_exchanges (deeper levels statement) ki ke returned =
     free_first whatever (the_mark mark.BlockOpen) (λ x. sequence (block_end statement returned) (λ body. gives (said body.returned (block (stmts body.it))))) (mark_exchanges mark.BlockOpen)
@@ -195,7 +195,7 @@ first_again t first f known full v p (k ∷ ks) rest q other fine free = first.1
 sure_alone : (statement : Statements) → IsSureStatement statement → (in_arm : Bool) (returned : Returned) → Barred (alone statement in_arm returned) (token_look statement_starts) else_word
 sure_alone statement ks in_arm returned = clear_sequence (ks in_arm returned) (λ one. clear_gives _) refl
 
-pub branch_exchanges : (frame : Frame) (inner : Deeper) → IsSureBelow inner → IsExchangedBelow inner → (in_arm : Bool) (returned : Returned) → Exchanges (Open in_arm) (branch_text frame inner in_arm returned)
+pub branch_exchanges : (frame : Frame) (inner : Deeper) → IsSureBelow inner → IsExchangedBelow inner → (in_arm : Bool) (returned : Returned) → Exchanges (Open in_arm) (branch_form frame inner in_arm returned)
 branch_exchanges frame nothing ki ke in_arm returned = exchanges_all (Open in_arm) (no_branch frame) (clearly_exchanges (first_no_branch {A = Said (List StmtTree)} frame))
 branch_exchanges frame (deeper levels statement) ki ke in_arm returned =
     choice_exchanges (Open in_arm) (braced statement returned) (unless is_block (alone statement in_arm returned))
@@ -247,15 +247,15 @@ module _ (frame : Frame) (inner : Deeper) (ki : IsSureBelow inner) (ke : IsExcha
   sure_else_do test then_do = clear_sequence (sure_branch frame inner ki in_arm then_do.returned) (λ other. clear_gives _) refl
 
   else_do_exchanges : (test : ExprTree) (then_do : Said (List StmtTree)) → Exchanges (Open in_arm) (else_do frame inner in_arm test then_do)
-  else_do_exchanges test then_do = before_gives (Open in_arm) (branch_text frame inner in_arm then_do.returned) _ (branch_exchanges frame inner ki ke in_arm then_do.returned)
+  else_do_exchanges test then_do = before_gives (Open in_arm) (branch_form frame inner in_arm then_do.returned) _ (branch_exchanges frame inner ki ke in_arm then_do.returned)
 
   pub then_exchanges : (returned : Returned) (test : ExprTree) → Exchanges (Open in_arm) (then_text frame inner in_arm returned test)
   then_exchanges returned test =
-      sequence_exchanges (Open in_arm) (Open in_arm) (branch_text frame inner in_arm returned) (λ then_do. else_text frame inner in_arm test then_do) (branch_exchanges frame inner ki ke in_arm returned)
+      sequence_exchanges (Open in_arm) (Open in_arm) (branch_form frame inner in_arm returned) (λ then_do. else_form frame inner in_arm test then_do) (branch_exchanges frame inner ki ke in_arm returned)
       (λ then_do. or_else_exchanges in_arm (else_do frame inner in_arm test then_do) (sure_else_do test then_do) refl (else_do_exchanges test then_do) (without test then_do))
       (λ then_do. or_else_meets in_arm (else_do frame inner in_arm test then_do) (sure_else_do test then_do) refl (else_do_exchanges test then_do) (without test then_do))
 
-  if_exchanges : (levels : ℕ) (returned : Returned) → Exchanges (Open in_arm) (if_text frame levels inner in_arm returned)
+  if_exchanges : (levels : ℕ) (returned : Returned) → Exchanges (Open in_arm) (if_form frame levels inner in_arm returned)
   if_exchanges levels returned =
       here_exchanges (Open in_arm) (λ statement. sequence (the_word (codes "if")) (tested frame levels inner in_arm returned statement)) (λ statement.
       free_first (Open in_arm) (the_word (codes "if")) (tested frame levels inner in_arm returned statement) (word_exchanges (codes "if")) (λ x.
@@ -264,12 +264,12 @@ module _ (frame : Frame) (inner : Deeper) (ki : IsSureBelow inner) (ke : IsExcha
   with_exchanges : (levels : ℕ) (returned : Returned) → Exchanges (Open in_arm) (statement_with frame levels inner in_arm returned)
   unfolding statement_with
   with_exchanges levels returned =
-      choice_exchanges (Open in_arm) (block_text inner returned) (if_or_others frame levels inner in_arm returned) (exchanges_all (Open in_arm) (block_text inner returned) (block_text_exchanges inner ki ke returned))
-      (choice_exchanges (Open in_arm) (if_text frame levels inner in_arm returned) (case_or_plain frame levels inner returned) (if_exchanges levels returned)
-      (choice_exchanges (Open in_arm) (case_text frame inner returned) (plain_text frame levels returned) (exchanges_all (Open in_arm) (case_text frame inner returned) (case_text_exchanges frame inner ki ke returned))
-      (exchanges_all (Open in_arm) (plain_text frame levels returned) (clearly_exchanges (first_plain frame levels returned)))))
+      choice_exchanges (Open in_arm) (block_form inner returned) (if_or_others frame levels inner in_arm returned) (exchanges_all (Open in_arm) (block_form inner returned) (block_text_exchanges inner ki ke returned))
+      (choice_exchanges (Open in_arm) (if_form frame levels inner in_arm returned) (case_or_plain frame levels inner returned) (if_exchanges levels returned)
+      (choice_exchanges (Open in_arm) (case_form frame inner returned) (plain_form frame levels returned) (exchanges_all (Open in_arm) (case_form frame inner returned) (case_text_exchanges frame inner ki ke returned))
+      (exchanges_all (Open in_arm) (plain_form frame levels returned) (clearly_exchanges (first_plain frame levels returned)))))
 
-pub statement_exchanges : (frame : Frame) (levels : ℕ) → IsExchanged (statement_text frame levels)
+pub statement_exchanges : (frame : Frame) (levels : ℕ) → IsExchanged (statement_form frame levels)
 statement_exchanges frame zero in_arm returned = with_exchanges frame nothing tt tt in_arm zero returned
 statement_exchanges frame (suc levels) in_arm returned =
-    with_exchanges frame (deeper levels (statement_text frame levels)) (sure_statement frame levels) (statement_exchanges frame levels) in_arm (suc levels) returned
+    with_exchanges frame (deeper levels (statement_form frame levels)) (sure_statement frame levels) (statement_exchanges frame levels) in_arm (suc levels) returned

@@ -5,7 +5,7 @@ use Rattle.ixp_lang.specs.declared.stmt.Label.{Label}
 use Rattle.ixp_tokens.specs.declared.token.Mark.TheVariants as mark
 use Rattle.ixp_tokens.specs.Grammars.{Grammar, Step, onward, done, gives, sequence, choice, unless}
 use Rattle.ixp_tokens.specs.Pieces.{the_mark, the_word}
-use Rattle.ixp_stmts.specs.Statements.{Frame, place_in, Returned, Said, said, Statements, with_statement, statements_of, block_end, Deeper, is_case_else, is_if_else, branch_text, else_text, if_text, Arms, with_arm, arms, arms_text, case_end, Subject, case_text, labels_text, test_end, subject_end, plain_text}
+use Rattle.ixp_stmts.specs.Statements.{Frame, place_in, Returned, Said, said, Statements, with_statement, statements_of, block_end, Deeper, is_case_else, is_if_else, branch_form, else_form, if_form, Arms, with_arm, arms, arms_form, case_end, Subject, case_form, labels_form, test_end, subject_end, plain_form}
 
 -- one more statement, or none
 abbrev pub said_one : Statements → Bool → Said (List StmtTree) → Grammar (Step (Said (List StmtTree)) (Said (List StmtTree)))
@@ -19,7 +19,7 @@ abbrev pub labelled : Statements → Arms → List Label → Grammar (Step Arms 
 labelled statement before labels = sequence (statements_of statement true before.returned) (λ body. gives (onward (with_arm before labels body)))
 
 abbrev pub one_arm : Statements → Bool → ℕ → Arms → Grammar (Step Arms Arms)
-one_arm statement is_of_states place before = sequence (labels_text is_of_states place) (λ labels. labelled statement before labels)
+one_arm statement is_of_states place before = sequence (labels_form is_of_states place) (λ labels. labelled statement before labels)
 
 abbrev pub next_arm : Statements → Bool → ℕ → Arms → Grammar (Step Arms Arms)
 next_arm statement is_of_states place before = choice (one_arm statement is_of_states place before) (gives (done before))
@@ -34,7 +34,7 @@ finished statement subject some_arms = sequence (case_end statement some_arms.re
 
 -- and behind what it is about
 abbrev pub armed : Statements → Returned → ℕ → Subject → Grammar (Said StmtTree)
-armed statement returned place subject = sequence (arms_text statement subject.is_of_states place returned) (finished statement subject)
+armed statement returned place subject = sequence (arms_form statement subject.is_of_states place returned) (finished statement subject)
 
 -- and behind its keyword
 abbrev pub subjected : Frame → ℕ → Statements → Returned → ℕ → Unit {0} → Grammar (Said StmtTree)
@@ -58,7 +58,7 @@ or_else in_arm f v = choice (unless (is_case_else in_arm) (taken_else f)) (unles
 -- what follows the `else` of an `if`
 abbrev pub else_do : Frame → Deeper → Bool → ExprTree → Said (List StmtTree) → Grammar (Said StmtTree)
 else_do frame inner in_arm test then_do =
-    sequence (branch_text frame inner in_arm then_do.returned) (λ other. gives (said other.returned (if_then test (stmts then_do.it) (stmts other.it))))
+    sequence (branch_form frame inner in_arm then_do.returned) (λ other. gives (said other.returned (if_then test (stmts then_do.it) (stmts other.it))))
 
 -- an `if` without one
 abbrev pub without : ExprTree → Said (List StmtTree) → Said StmtTree
@@ -66,7 +66,7 @@ without test then_do = said then_do.returned (if_then test (stmts then_do.it) (s
 
 -- an `if` behind `then`
 abbrev pub then_text : Frame → Deeper → Bool → Returned → ExprTree → Grammar (Said StmtTree)
-then_text frame inner in_arm returned test = sequence (branch_text frame inner in_arm returned) (λ then_do. else_text frame inner in_arm test then_do)
+then_text frame inner in_arm returned test = sequence (branch_form frame inner in_arm returned) (λ then_do. else_form frame inner in_arm test then_do)
 
 -- and behind its keyword
 abbrev pub tested : Frame → ℕ → Deeper → Bool → Returned → ℕ → Unit {0} → Grammar (Said StmtTree)
@@ -74,7 +74,7 @@ tested frame levels inner in_arm returned statement x = sequence (test_end (plac
 
 -- the last kinds of statements
 abbrev pub case_or_plain : Frame → ℕ → Deeper → Returned → Grammar (Said StmtTree)
-case_or_plain frame levels inner returned = choice (case_text frame inner returned) (plain_text frame levels returned)
+case_or_plain frame levels inner returned = choice (case_form frame inner returned) (plain_form frame levels returned)
 
 abbrev pub if_or_others : Frame → ℕ → Deeper → Bool → Returned → Grammar (Said StmtTree)
-if_or_others frame levels inner in_arm returned = choice (if_text frame levels inner in_arm returned) (case_or_plain frame levels inner returned)
+if_or_others frame levels inner in_arm returned = choice (if_form frame levels inner in_arm returned) (case_or_plain frame levels inner returned)

@@ -23,7 +23,7 @@ use Rattle.ixp_tokens.proofs.Quiet.{Quiet, Steady, steady, quiet_of, turn_alike,
 use Rattle.ixp_exprs.specs.Lists.{ended}
 use Rattle.ixp_exprs.proofs.ClearLists.{clear_ended}
 use Rattle.ixp_exprs.proofs.Sure.{Barred, Sure, behind_else, sure_of, next_word}
-use Rattle.ixp_stmts.specs.Statements.{Frame, place_in, Returned, Said, said as saying, Statements, with_statement, statements_of, block_end, Deeper, nothing, deeper, is_block, is_case_else, is_if_else, block_text, no_branch, branch_text, else_text, if_text, Arms, with_arm, arms, arms_text, case_end, Subject, case_text, statement_with, statement_text, body_text, labels_text, test_end, subject_end, plain_text}
+use Rattle.ixp_stmts.specs.Statements.{Frame, place_in, Returned, Said, said as saying, Statements, with_statement, statements_of, block_end, Deeper, nothing, deeper, is_block, is_case_else, is_if_else, block_form, no_branch, branch_form, else_form, if_form, Arms, with_arm, arms, arms_form, case_end, Subject, case_form, statement_with, statement_form, body_form, labels_form, test_end, subject_end, plain_form}
 use Rattle.ixp_stmts.proofs.Pieces.{said_one, one_more, labelled, one_arm, next_arm, else_arm, alone, braced, taken_else, or_else, else_do, without, then_text, tested, finished, armed, subjected, case_or_plain, if_or_others}
 use Rattle.ixp_stmts.proofs.SureStatements.{else_word, IsSureStatement, IsSureBelow, sure_statements, sure_arms, sure_case_end, sure_branch, sure_statement, case_else_seen, first_labels, first_test as clear_test, first_subject, first_plain, first_no_branch}
 
@@ -104,14 +104,14 @@ module _ (statement : Statements) (ks : IsSureStatement statement) (kq : IsQuiet
   next_arm_quiet : (is_of_states : Bool) (place : ℕ) (before : Arms) → Quiet (next_arm statement is_of_states place before)
   next_arm_quiet is_of_states place before =
       let labels = first_labels is_of_states place in
-      choice_quiet (one_arm statement is_of_states place before) (gives (done before)) (clear_begins (labels_text is_of_states place) labels.clear)
-      (sequence_steady (labels_text is_of_states place) (labelled statement before) (steady (labels_text is_of_states place) labels.clear) (labelled_quiet is_of_states place before))
+      choice_quiet (one_arm statement is_of_states place before) (gives (done before)) (clear_begins (labels_form is_of_states place) labels.clear)
+      (sequence_steady (labels_form is_of_states place) (labelled statement before) (steady (labels_form is_of_states place) labels.clear) (labelled_quiet is_of_states place before))
       (gives_quiet _)
 
   next_arm_ends : (is_of_states : Bool) (place : ℕ) → EndsAtFork behind_else (next_arm statement is_of_states place)
   next_arm_ends is_of_states place before p k r fork = (before, if_left (begins_at (one_arm statement is_of_states place before) (spot p (k ∷ r))) _ _ (no_start (sure_of (first_labels is_of_states place)) refl p k r fork))
 
-  arms_quiet : (is_of_states : Bool) (place : ℕ) (returned : Returned) → Quiet (arms_text statement is_of_states place returned)
+  arms_quiet : (is_of_states : Bool) (place : ℕ) (returned : Returned) → Quiet (arms_form statement is_of_states place returned)
   arms_quiet is_of_states place returned =
       let clear = (sure_arms statement ks is_of_states place returned).clear in
       rounds_quiet behind_else (next_arm statement is_of_states place) clear.0 clear.1 (next_arm_quiet is_of_states place) (next_arm_ends is_of_states place) (saying returned [])
@@ -135,13 +135,13 @@ abbrev IsQuietBelow : Deeper → Type 1
 IsQuietBelow nothing = Unit {1}
 IsQuietBelow (deeper levels statement) = IsQuietStatement statement
 
-block_text_steady : (inner : Deeper) → IsSureBelow inner → IsQuietBelow inner → (returned : Returned) → Steady (block_text inner returned)
-block_text_steady nothing ki kq returned = steady (block_text nothing returned) (first_asks (is_mark mark.BlockOpen), tt)
+block_text_steady : (inner : Deeper) → IsSureBelow inner → IsQuietBelow inner → (returned : Returned) → Steady (block_form inner returned)
+block_text_steady nothing ki kq returned = steady (block_form nothing returned) (first_asks (is_mark mark.BlockOpen), tt)
 block_text_steady (deeper levels statement) ki kq returned =
     sequence_alike first_alone (the_mark mark.BlockOpen) (λ x. sequence (block_end statement returned) (λ body. gives (saying body.returned (block (stmts body.it))))) (mark_steady mark.BlockOpen)
     (λ x. sequence_alike first_alone (block_end statement returned) (λ body. gives (saying body.returned (block (stmts body.it)))) (block_steady statement ki kq returned) (λ body. gives_steady _))
 
-block_text_begins : (inner : Deeper) (returned : Returned) → BeginsAlike first_alone (block_text inner returned)
+block_text_begins : (inner : Deeper) (returned : Returned) → BeginsAlike first_alone (block_form inner returned)
 block_text_begins nothing returned p k r s h = refl
 block_text_begins (deeper levels statement) returned p k r s h = refl
 
@@ -151,7 +151,7 @@ braced_steady : (statement : Statements) → IsSureStatement statement → IsQui
 braced_steady statement ks kq returned =
     sequence_alike first_alone (the_mark mark.BlockOpen) (λ x. block_end statement returned) (mark_steady mark.BlockOpen) (λ x. block_steady statement ks kq returned)
 
-branch_quiet : (frame : Frame) (inner : Deeper) → IsSureBelow inner → IsQuietBelow inner → (in_arm : Bool) (returned : Returned) → Quiet (branch_text frame inner in_arm returned)
+branch_quiet : (frame : Frame) (inner : Deeper) → IsSureBelow inner → IsQuietBelow inner → (in_arm : Bool) (returned : Returned) → Quiet (branch_form frame inner in_arm returned)
 branch_quiet frame nothing ki kq in_arm returned = quiet_of (no_branch frame) (steady (no_branch frame) (first_no_branch {A = Said (List StmtTree)} frame).clear)
 branch_quiet frame (deeper levels statement) ki kq in_arm returned =
     choice_quiet (braced statement returned) (unless is_block (alone statement in_arm returned)) (λ p k r s h. refl) (quiet_of (braced statement returned) (braced_steady statement ki kq returned))
@@ -159,7 +159,7 @@ branch_quiet frame (deeper levels statement) ki kq in_arm returned =
     (sequence_quiet behind_else (statement in_arm returned) (λ one. gives (saying one.returned (one.it ∷ []))) (alike behind_else (statement in_arm returned) (ki in_arm returned).clear) (kq.stops in_arm returned)
     (λ one. gives_quiet _) (λ one. gives_passes behind_else _)) (λ x. refl))
 
-branch_steady : (frame : Frame) (inner : Deeper) → IsSureBelow inner → IsQuietBelow inner → (returned : Returned) → Steady (branch_text frame inner false returned)
+branch_steady : (frame : Frame) (inner : Deeper) → IsSureBelow inner → IsQuietBelow inner → (returned : Returned) → Steady (branch_form frame inner false returned)
 branch_steady frame nothing ki kq returned = steady (no_branch frame) (first_no_branch {A = Said (List StmtTree)} frame).clear
 branch_steady frame (deeper levels statement) ki kq returned =
     choice_alike first_alone (braced statement returned) (unless is_block (alone statement false returned)) (λ p k r s h. refl) (braced_steady statement ki kq returned)
@@ -239,39 +239,39 @@ or_else_steady f v steady_f =
 
 else_do_quiet : (frame : Frame) (inner : Deeper) → IsSureBelow inner → IsQuietBelow inner → (in_arm : Bool) (test : ExprTree) (then_do : Said (List StmtTree)) → Quiet (else_do frame inner in_arm test then_do)
 else_do_quiet frame inner ki kq in_arm test then_do =
-    sequence_quiet behind_else (branch_text frame inner in_arm then_do.returned) (λ other. gives (saying other.returned (if_then test (stmts then_do.it) (stmts other.it))))
-    (alike behind_else (branch_text frame inner in_arm then_do.returned) (sure_branch frame inner ki in_arm then_do.returned).clear) (branch_quiet frame inner ki kq in_arm then_do.returned)
+    sequence_quiet behind_else (branch_form frame inner in_arm then_do.returned) (λ other. gives (saying other.returned (if_then test (stmts then_do.it) (stmts other.it))))
+    (alike behind_else (branch_form frame inner in_arm then_do.returned) (sure_branch frame inner ki in_arm then_do.returned).clear) (branch_quiet frame inner ki kq in_arm then_do.returned)
     (λ other. gives_quiet _) (λ other. gives_passes behind_else _)
 
 else_do_steady : (frame : Frame) (inner : Deeper) → IsSureBelow inner → IsQuietBelow inner → (test : ExprTree) (then_do : Said (List StmtTree)) → Steady (else_do frame inner false test then_do)
 else_do_steady frame inner ki kq test then_do =
-    sequence_alike first_alone (branch_text frame inner false then_do.returned) (λ other. gives (saying other.returned (if_then test (stmts then_do.it) (stmts other.it)))) (branch_steady frame inner ki kq then_do.returned)
+    sequence_alike first_alone (branch_form frame inner false then_do.returned) (λ other. gives (saying other.returned (if_then test (stmts then_do.it) (stmts other.it)))) (branch_steady frame inner ki kq then_do.returned)
     (λ other. gives_steady _)
 
 -- Statements that hold others.
 
 then_quiet : (frame : Frame) (inner : Deeper) → IsSureBelow inner → IsQuietBelow inner → (in_arm : Bool) (returned : Returned) (test : ExprTree) → Quiet (then_text frame inner in_arm returned test)
 then_quiet frame inner ki kq in_arm returned test =
-    sequence_quiet behind_else (branch_text frame inner in_arm returned) (λ then_do. else_text frame inner in_arm test then_do)
-    (alike behind_else (branch_text frame inner in_arm returned) (sure_branch frame inner ki in_arm returned).clear) (branch_quiet frame inner ki kq in_arm returned)
+    sequence_quiet behind_else (branch_form frame inner in_arm returned) (λ then_do. else_form frame inner in_arm test then_do)
+    (alike behind_else (branch_form frame inner in_arm returned) (sure_branch frame inner ki in_arm returned).clear) (branch_quiet frame inner ki kq in_arm returned)
     (λ then_do. or_else_quiet in_arm (else_do frame inner in_arm test then_do) (else_do_quiet frame inner ki kq in_arm test then_do) (without test then_do))
     (λ then_do. or_else_passes in_arm (else_do frame inner in_arm test then_do) (else_do_quiet frame inner ki kq in_arm test then_do) (without test then_do))
 
 then_steady : (frame : Frame) (inner : Deeper) → IsSureBelow inner → IsQuietBelow inner → (returned : Returned) (test : ExprTree) → Steady (then_text frame inner false returned test)
 then_steady frame inner ki kq returned test =
-    sequence_alike first_alone (branch_text frame inner false returned) (λ then_do. else_text frame inner false test then_do) (branch_steady frame inner ki kq returned)
+    sequence_alike first_alone (branch_form frame inner false returned) (λ then_do. else_form frame inner false test then_do) (branch_steady frame inner ki kq returned)
     (λ then_do. or_else_steady (else_do frame inner false test then_do) (without test then_do) (else_do_steady frame inner ki kq test then_do))
 
 test_steady : (frame : Frame) (levels statement : ℕ) → Steady (test_end (place_in frame statement) levels)
 test_steady frame levels statement = steady (test_end (place_in frame statement) levels) (clear_test (place_in frame statement) levels).clear
 
-if_quiet : (frame : Frame) (levels : ℕ) (inner : Deeper) → IsSureBelow inner → IsQuietBelow inner → (in_arm : Bool) (returned : Returned) → Quiet (if_text frame levels inner in_arm returned)
+if_quiet : (frame : Frame) (levels : ℕ) (inner : Deeper) → IsSureBelow inner → IsQuietBelow inner → (in_arm : Bool) (returned : Returned) → Quiet (if_form frame levels inner in_arm returned)
 if_quiet frame levels inner ki kq in_arm returned =
     here_quiet (λ statement. sequence (the_word (codes "if")) (tested frame levels inner in_arm returned statement)) (λ statement.
     sequence_steady (the_word (codes "if")) (tested frame levels inner in_arm returned statement) (word_steady (codes "if")) (λ x.
     sequence_steady (test_end (place_in frame statement) levels) (then_text frame inner in_arm returned) (test_steady frame levels statement) (then_quiet frame inner ki kq in_arm returned)))
 
-if_steady : (frame : Frame) (levels : ℕ) (inner : Deeper) → IsSureBelow inner → IsQuietBelow inner → (returned : Returned) → Steady (if_text frame levels inner false returned)
+if_steady : (frame : Frame) (levels : ℕ) (inner : Deeper) → IsSureBelow inner → IsQuietBelow inner → (returned : Returned) → Steady (if_form frame levels inner false returned)
 if_steady frame levels inner ki kq returned =
     here_steady (λ statement. sequence (the_word (codes "if")) (tested frame levels inner false returned statement)) (λ statement.
     sequence_alike first_alone (the_word (codes "if")) (tested frame levels inner false returned statement) (word_steady (codes "if")) (λ x.
@@ -288,61 +288,61 @@ module _ (frame : Frame) (levels : ℕ) (statement : Statements) (ks : IsSureSta
 
   armed_steady : (place : ℕ) (subject : Subject) → Steady (armed statement returned place subject)
   armed_steady place subject =
-      sequence_full behind_else (arms_text statement subject.is_of_states place returned) (finished statement subject)
-      (alike behind_else (arms_text statement subject.is_of_states place returned) (sure_arms statement ks subject.is_of_states place returned).clear)
+      sequence_full behind_else (arms_form statement subject.is_of_states place returned) (finished statement subject)
+      (alike behind_else (arms_form statement subject.is_of_states place returned) (sure_arms statement ks subject.is_of_states place returned).clear)
       (arms_quiet statement ks kq subject.is_of_states place returned) (finished_steady subject)
       (λ some_arms. gives_behind behind_else (case_end statement some_arms.returned) _ (case_end_passes statement ks kq some_arms.returned))
       (λ some_arms. (finished_sure subject some_arms).clear) (λ some_arms. (finished_sure subject some_arms).full refl)
 
-  case_steady : Steady (case_text frame (deeper levels statement) returned)
+  case_steady : Steady (case_form frame (deeper levels statement) returned)
   case_steady =
       here_steady (λ place. sequence (the_word (codes "case")) (subjected frame levels statement returned place)) (λ place.
       sequence_alike first_alone (the_word (codes "case")) (subjected frame levels statement returned place) (word_steady (codes "case")) (λ x.
       sequence_alike first_alone (subject_end (place_in frame place) levels) (armed statement returned place)
       (steady (subject_end (place_in frame place) levels) (first_subject (place_in frame place) levels).clear) (armed_steady place)))
 
-case_text_steady : (frame : Frame) (inner : Deeper) → IsSureBelow inner → IsQuietBelow inner → (returned : Returned) → Steady (case_text frame inner returned)
-case_text_steady frame nothing ki kq returned = steady (case_text frame nothing returned) (first_asks (is_word (codes "case")), tt)
+case_text_steady : (frame : Frame) (inner : Deeper) → IsSureBelow inner → IsQuietBelow inner → (returned : Returned) → Steady (case_form frame inner returned)
+case_text_steady frame nothing ki kq returned = steady (case_form frame nothing returned) (first_asks (is_word (codes "case")), tt)
 case_text_steady frame (deeper levels statement) ki kq returned = case_steady frame levels statement ki kq returned
 
-case_text_begins : (frame : Frame) (inner : Deeper) (returned : Returned) → BeginsAlike first_alone (case_text frame inner returned)
+case_text_begins : (frame : Frame) (inner : Deeper) (returned : Returned) → BeginsAlike first_alone (case_form frame inner returned)
 case_text_begins frame nothing returned p k r s h = refl
 case_text_begins frame (deeper levels statement) returned p k r s h = refl
 
-plain_clear : (frame : Frame) (levels : ℕ) (returned : Returned) → Clear (plain_text frame levels returned)
+plain_clear : (frame : Frame) (levels : ℕ) (returned : Returned) → Clear (plain_form frame levels returned)
 plain_clear frame levels returned = (first_plain frame levels returned).clear
 
 module _ (frame : Frame) (levels : ℕ) (inner : Deeper) (ki : IsSureBelow inner) (kq : IsQuietBelow inner) where
   with_begins : (in_arm : Bool) (returned : Returned) → BeginsAlike first_alone (statement_with frame levels inner in_arm returned)
   unfolding statement_with
   with_begins in_arm returned =
-      choice_begins (block_text inner returned) (if_or_others frame levels inner in_arm returned) (block_text_begins inner returned)
-      (choice_begins (if_text frame levels inner in_arm returned) (case_or_plain frame levels inner returned) (λ p k r s h. refl)
-      (choice_begins (case_text frame inner returned) (plain_text frame levels returned) (case_text_begins frame inner returned) (clear_begins (plain_text frame levels returned) (plain_clear frame levels returned))))
+      choice_begins (block_form inner returned) (if_or_others frame levels inner in_arm returned) (block_text_begins inner returned)
+      (choice_begins (if_form frame levels inner in_arm returned) (case_or_plain frame levels inner returned) (λ p k r s h. refl)
+      (choice_begins (case_form frame inner returned) (plain_form frame levels returned) (case_text_begins frame inner returned) (clear_begins (plain_form frame levels returned) (plain_clear frame levels returned))))
 
   with_quiet : (in_arm : Bool) (returned : Returned) → Quiet (statement_with frame levels inner in_arm returned)
   unfolding statement_with
   with_quiet in_arm returned =
-      choice_quiet (block_text inner returned) (if_or_others frame levels inner in_arm returned) (block_text_begins inner returned) (quiet_of (block_text inner returned) (block_text_steady inner ki kq returned))
-      (choice_quiet (if_text frame levels inner in_arm returned) (case_or_plain frame levels inner returned) (λ p k r s h. refl) (if_quiet frame levels inner ki kq in_arm returned)
-      (choice_quiet (case_text frame inner returned) (plain_text frame levels returned) (case_text_begins frame inner returned) (quiet_of (case_text frame inner returned) (case_text_steady frame inner ki kq returned))
-      (quiet_of (plain_text frame levels returned) (steady (plain_text frame levels returned) (plain_clear frame levels returned)))))
+      choice_quiet (block_form inner returned) (if_or_others frame levels inner in_arm returned) (block_text_begins inner returned) (quiet_of (block_form inner returned) (block_text_steady inner ki kq returned))
+      (choice_quiet (if_form frame levels inner in_arm returned) (case_or_plain frame levels inner returned) (λ p k r s h. refl) (if_quiet frame levels inner ki kq in_arm returned)
+      (choice_quiet (case_form frame inner returned) (plain_form frame levels returned) (case_text_begins frame inner returned) (quiet_of (case_form frame inner returned) (case_text_steady frame inner ki kq returned))
+      (quiet_of (plain_form frame levels returned) (steady (plain_form frame levels returned) (plain_clear frame levels returned)))))
 
   with_steady : (returned : Returned) → Steady (statement_with frame levels inner false returned)
   unfolding statement_with
   with_steady returned =
-      choice_alike first_alone (block_text inner returned) (if_or_others frame levels inner false returned) (block_text_begins inner returned) (block_text_steady inner ki kq returned)
-      (choice_alike first_alone (if_text frame levels inner false returned) (case_or_plain frame levels inner returned) (λ p k r s h. refl) (if_steady frame levels inner ki kq returned)
-      (choice_alike first_alone (case_text frame inner returned) (plain_text frame levels returned) (case_text_begins frame inner returned) (case_text_steady frame inner ki kq returned)
-      (steady (plain_text frame levels returned) (plain_clear frame levels returned))))
+      choice_alike first_alone (block_form inner returned) (if_or_others frame levels inner false returned) (block_text_begins inner returned) (block_text_steady inner ki kq returned)
+      (choice_alike first_alone (if_form frame levels inner false returned) (case_or_plain frame levels inner returned) (λ p k r s h. refl) (if_steady frame levels inner ki kq returned)
+      (choice_alike first_alone (case_form frame inner returned) (plain_form frame levels returned) (case_text_begins frame inner returned) (case_text_steady frame inner ki kq returned)
+      (steady (plain_form frame levels returned) (plain_clear frame levels returned))))
 
   with_all : IsQuietStatement (statement_with frame levels inner)
   with_all = record { begins = with_begins; stops = with_quiet; says = with_steady }
 
-quiet_statement : (frame : Frame) (levels : ℕ) → IsQuietStatement (statement_text frame levels)
+quiet_statement : (frame : Frame) (levels : ℕ) → IsQuietStatement (statement_form frame levels)
 quiet_statement frame zero = with_all frame zero nothing tt tt
-quiet_statement frame (suc levels) = with_all frame (suc levels) (deeper levels (statement_text frame levels)) (sure_statement frame levels) (quiet_statement frame levels)
+quiet_statement frame (suc levels) = with_all frame (suc levels) (deeper levels (statement_form frame levels)) (sure_statement frame levels) (quiet_statement frame levels)
 
 -- a body says the same, and stops in the same place, whatever is behind the token that is next
-pub body_steady : (frame : Frame) (levels : ℕ) (returned : Returned) → Steady (body_text frame levels returned)
-body_steady frame levels returned = block_steady (statement_text frame levels) (sure_statement frame levels) (quiet_statement frame levels) returned
+pub body_steady : (frame : Frame) (levels : ℕ) (returned : Returned) → Steady (body_form frame levels returned)
+body_steady frame levels returned = block_steady (statement_form frame levels) (sure_statement frame levels) (quiet_statement frame levels) returned

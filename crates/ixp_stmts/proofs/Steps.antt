@@ -17,7 +17,7 @@ use Rattle.ixp_tokens.specs.declared.token.Mark.TheVariants as mark
 use Rattle.ixp_tokens.specs.Grammars.{Grammar, gives, sequence, choice, unless, onward, done, Step}
 use Rattle.ixp_tokens.specs.Reading.{Read, read, begins, taken, stop, ◌>>=◌, Gives}
 use Rattle.ixp_tokens.specs.Pieces.{is_mark, is_word, is_next, behind, if_so}
-use Rattle.ixp_stmts.specs.Statements.{Frame, Returned, Said, said, Deeper, nothing, deeper, place_in, is_block, is_there, branch_text, no_branch, else_text, if_text, if_end, case_text, case_body, plain_text, statement_with, statement_text, below, body_text, statement_round, with_statement, arm_round, with_arm, case_end, Statements, arms, Arms, statements_of, labels_text, label_text}
+use Rattle.ixp_stmts.specs.Statements.{Frame, Returned, Said, said, Deeper, nothing, deeper, place_in, is_block, is_there, branch_form, no_branch, else_form, if_form, if_end, case_form, case_body, plain_form, statement_with, statement_form, below, body_form, statement_round, with_statement, arm_round, with_arm, case_end, Statements, arms, Arms, statements_of, labels_form, label_form}
 use Rattle.ixp_stmts.specs.Views.{Stops, begins_with, unless_colon, behind_else, else_read, arms_list}
 use Rattle.ixp_stmts.proofs.Begins.{begins_same}
 use Rattle.ixp_stmts.proofs.Choices.{known, unknown, taken_first, taken_second, deep_known, deep_unknown, not_next}
@@ -37,83 +37,83 @@ abbrev pub branch_read : Said StmtTree × List Kind → Read (Said (List StmtTre
 branch_read a = Ok (said a.0.returned (a.0.it ∷ []), a.1)
 
 module _ (frame : Frame) (in_arm : Bool) (r : Returned) (ts : List Kind) where
-  pub block_known : (d b : ℕ) (rest : List Kind) → d ≡ suc b → behind (is_mark mark.BlockOpen) ts ≡ Some rest → read (statement_text frame d in_arm r) ts ≡ (read (body_text frame b r) rest >>= block_read)
+  pub block_known : (d b : ℕ) (rest : List Kind) → d ≡ suc b → behind (is_mark mark.BlockOpen) ts ≡ Some rest → read (statement_form frame d in_arm r) ts ≡ (read (body_form frame b r) rest >>= block_read)
   unfolding statement_with
   block_known d b rest same e =
-      ap (λ x. read (statement_text frame x in_arm r) ts) same
-      ∙ known (is_mark mark.BlockOpen) (sequence (body_text frame b r) (λ body. gives (said body.returned (block (stmts body.it)))))
-      (choice (if_text frame (suc b) (deeper b (statement_text frame b)) in_arm r) (choice (case_text frame (deeper b (statement_text frame b)) r) (plain_text frame (suc b) r))) ts rest e
+      ap (λ x. read (statement_form frame x in_arm r) ts) same
+      ∙ known (is_mark mark.BlockOpen) (sequence (body_form frame b r) (λ body. gives (said body.returned (block (stmts body.it)))))
+      (choice (if_form frame (suc b) (deeper b (statement_form frame b)) in_arm r) (choice (case_form frame (deeper b (statement_form frame b)) r) (plain_form frame (suc b) r))) ts rest e
 
-  pub block_deep : (d : ℕ) (rest : List Kind) → d ≡ 0 → behind (is_mark mark.BlockOpen) ts ≡ Some rest → read (statement_text frame d in_arm r) ts ≡ Err (Deep, length ts)
+  pub block_deep : (d : ℕ) (rest : List Kind) → d ≡ 0 → behind (is_mark mark.BlockOpen) ts ≡ Some rest → read (statement_form frame d in_arm r) ts ≡ Err (Deep, length ts)
   unfolding statement_with
   block_deep d rest none e =
-      ap (λ x. read (statement_text frame x in_arm r) ts) none
-      ∙ deep_known (is_mark mark.BlockOpen) (choice (if_text frame 0 nothing in_arm r) (choice (case_text frame nothing r) (plain_text frame 0 r))) ts rest e
+      ap (λ x. read (statement_form frame x in_arm r) ts) none
+      ∙ deep_known (is_mark mark.BlockOpen) (choice (if_form frame 0 nothing in_arm r) (choice (case_form frame nothing r) (plain_form frame 0 r))) ts rest e
 
   -- what is no block
   abbrev others : ℕ → Grammar (Said StmtTree)
-  others d = choice (if_text frame d (below frame d) in_arm r) (choice (case_text frame (below frame d) r) (plain_text frame d r))
+  others d = choice (if_form frame d (below frame d) in_arm r) (choice (case_form frame (below frame d) r) (plain_form frame d r))
 
-  no_block : (d : ℕ) → behind (is_mark mark.BlockOpen) ts ≡ None → read (statement_text frame d in_arm r) ts ≡ read (others d) ts
+  no_block : (d : ℕ) → behind (is_mark mark.BlockOpen) ts ≡ None → read (statement_form frame d in_arm r) ts ≡ read (others d) ts
   unfolding statement_with
   no_block zero e = deep_unknown (is_mark mark.BlockOpen) (others zero) ts e
-  no_block (suc b) e = unknown (is_mark mark.BlockOpen) (sequence (body_text frame b r) (λ body. gives (said body.returned (block (stmts body.it))))) (others (suc b)) ts e
+  no_block (suc b) e = unknown (is_mark mark.BlockOpen) (sequence (body_form frame b r) (λ body. gives (said body.returned (block (stmts body.it))))) (others (suc b)) ts e
 
   pub if_known : (d : ℕ) (rest : List Kind) → behind (is_mark mark.BlockOpen) ts ≡ None → behind (is_word (codes "if")) ts ≡ Some rest
-      → read (statement_text frame d in_arm r) ts ≡ read (if_end (place_in frame (length ts)) frame d (below frame d) in_arm r) rest
+      → read (statement_form frame d in_arm r) ts ≡ read (if_end (place_in frame (length ts)) frame d (below frame d) in_arm r) rest
   if_known d rest e p =
-      no_block d e ∙ known (is_word (codes "if")) (if_end (place_in frame (length ts)) frame d (below frame d) in_arm r) (choice (case_text frame (below frame d) r) (plain_text frame d r)) ts rest p
+      no_block d e ∙ known (is_word (codes "if")) (if_end (place_in frame (length ts)) frame d (below frame d) in_arm r) (choice (case_form frame (below frame d) r) (plain_form frame d r)) ts rest p
 
   -- nor an `if`
   no_if : (d : ℕ) → behind (is_mark mark.BlockOpen) ts ≡ None → behind (is_word (codes "if")) ts ≡ None
-      → read (statement_text frame d in_arm r) ts ≡ read (choice (case_text frame (below frame d) r) (plain_text frame d r)) ts
+      → read (statement_form frame d in_arm r) ts ≡ read (choice (case_form frame (below frame d) r) (plain_form frame d r)) ts
   no_if d e p =
-      no_block d e ∙ unknown (is_word (codes "if")) (if_end (place_in frame (length ts)) frame d (below frame d) in_arm r) (choice (case_text frame (below frame d) r) (plain_text frame d r)) ts p
+      no_block d e ∙ unknown (is_word (codes "if")) (if_end (place_in frame (length ts)) frame d (below frame d) in_arm r) (choice (case_form frame (below frame d) r) (plain_form frame d r)) ts p
 
   pub case_known : (d b : ℕ) (rest : List Kind) → d ≡ suc b → behind (is_mark mark.BlockOpen) ts ≡ None → behind (is_word (codes "if")) ts ≡ None → behind (is_word (codes "case")) ts ≡ Some rest
-      → read (statement_text frame d in_arm r) ts ≡ read (case_body (place_in frame (length ts)) b (statement_text frame b) r) rest
+      → read (statement_form frame d in_arm r) ts ≡ read (case_body (place_in frame (length ts)) b (statement_form frame b) r) rest
   case_known d b rest same e p q =
-      no_if d e p ∙ ap (λ x. read (choice (case_text frame (below frame x) r) (plain_text frame x r)) ts) same
-      ∙ known (is_word (codes "case")) (case_body (place_in frame (length ts)) b (statement_text frame b) r) (plain_text frame (suc b) r) ts rest q
+      no_if d e p ∙ ap (λ x. read (choice (case_form frame (below frame x) r) (plain_form frame x r)) ts) same
+      ∙ known (is_word (codes "case")) (case_body (place_in frame (length ts)) b (statement_form frame b) r) (plain_form frame (suc b) r) ts rest q
 
   pub case_deep : (d : ℕ) (rest : List Kind) → d ≡ 0 → behind (is_mark mark.BlockOpen) ts ≡ None → behind (is_word (codes "if")) ts ≡ None → behind (is_word (codes "case")) ts ≡ Some rest
-      → read (statement_text frame d in_arm r) ts ≡ Err (Deep, length ts)
+      → read (statement_form frame d in_arm r) ts ≡ Err (Deep, length ts)
   case_deep d rest none e p q =
-      no_if d e p ∙ ap (λ x. read (choice (case_text frame (below frame x) r) (plain_text frame x r)) ts) none
-      ∙ deep_known (is_word (codes "case")) (plain_text frame 0 r) ts rest q
+      no_if d e p ∙ ap (λ x. read (choice (case_form frame (below frame x) r) (plain_form frame x r)) ts) none
+      ∙ deep_known (is_word (codes "case")) (plain_form frame 0 r) ts rest q
 
-  no_case_by : (d : ℕ) → behind (is_word (codes "case")) ts ≡ None → read (choice (case_text frame (below frame d) r) (plain_text frame d r)) ts ≡ read (plain_text frame d r) ts
-  no_case_by zero q = deep_unknown (is_word (codes "case")) (plain_text frame 0 r) ts q
-  no_case_by (suc b) q = unknown (is_word (codes "case")) (case_body (place_in frame (length ts)) b (statement_text frame b) r) (plain_text frame (suc b) r) ts q
+  no_case_by : (d : ℕ) → behind (is_word (codes "case")) ts ≡ None → read (choice (case_form frame (below frame d) r) (plain_form frame d r)) ts ≡ read (plain_form frame d r) ts
+  no_case_by zero q = deep_unknown (is_word (codes "case")) (plain_form frame 0 r) ts q
+  no_case_by (suc b) q = unknown (is_word (codes "case")) (case_body (place_in frame (length ts)) b (statement_form frame b) r) (plain_form frame (suc b) r) ts q
 
   pub plain_known : (d : ℕ) → behind (is_mark mark.BlockOpen) ts ≡ None → behind (is_word (codes "if")) ts ≡ None → behind (is_word (codes "case")) ts ≡ None
-      → read (statement_text frame d in_arm r) ts ≡ read (plain_text frame d r) ts
+      → read (statement_form frame d in_arm r) ts ≡ read (plain_form frame d r) ts
   plain_known d e p q = no_if d e p ∙ no_case_by d q
 
   -- Branches.
 
   abbrev single : ℕ → Grammar (Said (List StmtTree))
-  single b = unless is_block (sequence (statement_text frame b in_arm r) (λ one. gives (said one.returned (one.it ∷ []))))
+  single b = unless is_block (sequence (statement_form frame b in_arm r) (λ one. gives (said one.returned (one.it ∷ []))))
 
-  pub branch_block : (d b : ℕ) (rest : List Kind) → d ≡ suc b → behind (is_mark mark.BlockOpen) ts ≡ Some rest → read (branch_text frame (below frame d) in_arm r) ts ≡ read (body_text frame b r) rest
+  pub branch_block : (d b : ℕ) (rest : List Kind) → d ≡ suc b → behind (is_mark mark.BlockOpen) ts ≡ Some rest → read (branch_form frame (below frame d) in_arm r) ts ≡ read (body_form frame b r) rest
   branch_block d b rest same e =
-      ap (λ x. read (branch_text frame (below frame x) in_arm r) ts) same
-      ∙ known (is_mark mark.BlockOpen) (body_text frame b r) (single b) ts rest e
+      ap (λ x. read (branch_form frame (below frame x) in_arm r) ts) same
+      ∙ known (is_mark mark.BlockOpen) (body_form frame b r) (single b) ts rest e
 
-  pub branch_one : (d b : ℕ) → d ≡ suc b → behind (is_mark mark.BlockOpen) ts ≡ None → read (branch_text frame (below frame d) in_arm r) ts ≡ (read (statement_text frame b in_arm r) ts >>= branch_read)
+  pub branch_one : (d b : ℕ) → d ≡ suc b → behind (is_mark mark.BlockOpen) ts ≡ None → read (branch_form frame (below frame d) in_arm r) ts ≡ (read (statement_form frame b in_arm r) ts >>= branch_read)
   branch_one d b same e =
-      ap (λ x. read (branch_text frame (below frame x) in_arm r) ts) same
-      ∙ unknown (is_mark mark.BlockOpen) (body_text frame b r) (single b) ts e
-      ∙ ap (λ t. if t then stop Unexpected ts else (read (statement_text frame b in_arm r) ts >>= branch_read)) (not_next (is_mark mark.BlockOpen) ts e)
+      ap (λ x. read (branch_form frame (below frame x) in_arm r) ts) same
+      ∙ unknown (is_mark mark.BlockOpen) (body_form frame b r) (single b) ts e
+      ∙ ap (λ t. if t then stop Unexpected ts else (read (statement_form frame b in_arm r) ts >>= branch_read)) (not_next (is_mark mark.BlockOpen) ts e)
 
 stopped : {A : Type 0} (fault : Fault) (r : Read A) → Stops fault r → Gives {X = A × List Kind} (λ x. x) (Err fault) r
 stopped NoMemory r h = absurd h
 stopped (Stop cause left) r h = h
 
 pub branch_deep : (frame : Frame) (in_arm : Bool) (r : Returned) (ts : List Kind) (d : ℕ) (fault : Fault) → d ≡ 0 → Stops fault (read (no_branch {A = Said (List StmtTree)} frame) ts)
-    → Gives {X = Said (List StmtTree) × List Kind} (λ x. x) (Err fault) (read (branch_text frame (below frame d) in_arm r) ts)
+    → Gives {X = Said (List StmtTree) × List Kind} (λ x. x) (Err fault) (read (branch_form frame (below frame d) in_arm r) ts)
 branch_deep frame in_arm r ts d fault none h =
-    subst (λ x. Gives {X = Said (List StmtTree) × List Kind} (λ x. x) (Err fault) (read (branch_text frame (below frame x) in_arm r) ts)) (sym none) (stopped fault _ h)
+    subst (λ x. Gives {X = Said (List StmtTree) × List Kind} (λ x. x) (Err fault) (read (branch_form frame (below frame x) in_arm r) ts)) (sym none) (stopped fault _ h)
 
 -- What an `if` does else.
 
@@ -138,11 +138,11 @@ abbrev pub if_read : ExprTree → List StmtTree → Said (List StmtTree) × List
 if_read test chosen a = Ok (said a.0.returned (if_then test (stmts chosen) (stmts a.0.it)), a.1)
 
 pub else_parts : (frame : Frame) (inner : Deeper) (in_arm : Bool) (test : ExprTree) (chosen : Said (List StmtTree)) (ts : List Kind)
-    → read (else_text frame inner in_arm test chosen) ts ≡ (else_read frame inner in_arm chosen.returned ts (behind_else in_arm ts) >>= if_read test chosen.it)
+    → read (else_form frame inner in_arm test chosen) ts ≡ (else_read frame inner in_arm chosen.returned ts (behind_else in_arm ts) >>= if_read test chosen.it)
 else_parts frame inner true test chosen [] = refl
 else_parts frame inner false test chosen [] = refl
 else_parts frame inner in_arm test chosen (k ∷ ts) =
-    else_by (is_word (codes "else") k) in_arm ts _ _ _ (λ a. read (branch_text frame inner in_arm chosen.returned) a.1 >>= if_read test chosen.it)
+    else_by (is_word (codes "else") k) in_arm ts _ _ _ (λ a. read (branch_form frame inner in_arm chosen.returned) a.1 >>= if_read test chosen.it)
     (λ o. else_read frame inner in_arm chosen.returned (k ∷ ts) o >>= if_read test chosen.it) refl refl
 
 -- Rounds.
@@ -169,14 +169,14 @@ abbrev pub one_read : Said (List StmtTree) → Said StmtTree × List Kind → Re
 one_read before a = Ok (onward (with_statement before a.0), a.1)
 
 module _ (frame : Frame) (d : ℕ) (in_arm : Bool) (before : Said (List StmtTree)) (ts : List Kind) where
-  pub round_more : is_next begins_with ts ≡ true → read (statement_round (statement_text frame d) in_arm before) ts ≡ (read (statement_text frame d in_arm before.returned) ts >>= one_read before)
+  pub round_more : is_next begins_with ts ≡ true → read (statement_round (statement_form frame d) in_arm before) ts ≡ (read (statement_form frame d in_arm before.returned) ts >>= one_read before)
   round_more e =
-      taken_first (sequence (statement_text frame d in_arm before.returned) (λ one. gives (onward (with_statement before one)))) (gives (done before)) ts
+      taken_first (sequence (statement_form frame d in_arm before.returned) (λ one. gives (onward (with_statement before one)))) (gives (done before)) ts
       (begins_same frame d in_arm before.returned ts ∙ e)
 
-  pub round_ends : is_next begins_with ts ≡ false → read (statement_round (statement_text frame d) in_arm before) ts ≡ Ok (done before, ts)
+  pub round_ends : is_next begins_with ts ≡ false → read (statement_round (statement_form frame d) in_arm before) ts ≡ Ok (done before, ts)
   round_ends e =
-      taken_second (sequence (statement_text frame d in_arm before.returned) (λ one. gives (onward (with_statement before one)))) (gives (done before)) ts
+      taken_second (sequence (statement_form frame d in_arm before.returned) (λ one. gives (onward (with_statement before one)))) (gives (done before)) ts
       (begins_same frame d in_arm before.returned ts ∙ e)
 
 abbrev pub arm_read : Arms → List Label → Said (List StmtTree) × List Kind → Read (Step Arms Arms)
@@ -184,19 +184,19 @@ arm_read before labels a = Ok (onward (with_arm before labels a.0), a.1)
 
 -- the arm behind its labels
 abbrev pub labelled_read : Frame → ℕ → Arms → List Label × List Kind → Read (Step Arms Arms)
-labelled_read frame d before a = read (statements_of (statement_text frame d) true before.returned) a.1 >>= arm_read before a.0
+labelled_read frame d before a = read (statements_of (statement_form frame d) true before.returned) a.1 >>= arm_read before a.0
 
 module _ (frame : Frame) (d : ℕ) (is_of_states : Bool) (place : ℕ) (before : Arms) (ts : List Kind) where
-  pub arm_more : begins (label_text true 0) ts ≡ true → read (arm_round (statement_text frame d) is_of_states place before) ts ≡ (read (labels_text is_of_states place) ts >>= labelled_read frame d before)
+  pub arm_more : begins (label_form true 0) ts ≡ true → read (arm_round (statement_form frame d) is_of_states place before) ts ≡ (read (labels_form is_of_states place) ts >>= labelled_read frame d before)
   arm_more e =
       taken_first
-      (sequence (labels_text is_of_states place) (λ labels. sequence (statements_of (statement_text frame d) true before.returned) (λ body. gives (onward (with_arm before labels body)))))
+      (sequence (labels_form is_of_states place) (λ labels. sequence (statements_of (statement_form frame d) true before.returned) (λ body. gives (onward (with_arm before labels body)))))
       (gives (done before)) ts e
 
-  pub arms_end_here : begins (label_text true 0) ts ≡ false → read (arm_round (statement_text frame d) is_of_states place before) ts ≡ Ok (done before, ts)
+  pub arms_end_here : begins (label_form true 0) ts ≡ false → read (arm_round (statement_form frame d) is_of_states place before) ts ≡ Ok (done before, ts)
   arms_end_here e =
       taken_second
-      (sequence (labels_text is_of_states place) (λ labels. sequence (statements_of (statement_text frame d) true before.returned) (λ body. gives (onward (with_arm before labels body)))))
+      (sequence (labels_form is_of_states place) (λ labels. sequence (statements_of (statement_form frame d) true before.returned) (λ body. gives (onward (with_arm before labels body)))))
       (gives (done before)) ts e
 
 -- A `case`, behind what it is about and behind its arms.

@@ -31,7 +31,7 @@ use Rattle.ixp_exprs.specs.declared.env.Signature.{Signature}
 use Rattle.ixp_exprs.proofs.ClearLists.{clear_ended}
 use Rattle.ixp_exprs.proofs.Sure.{Barred, behind_else}
 use Rattle.ixp_exprs.proofs.WholeLists.{whole_mark, whole_word, whole_ended, supplied_deep, supplied_level}
-use Rattle.ixp_stmts.specs.Statements.{Frame, place_in, Returned, Said, said, Statements, with_statement, statements_of, block_end, Deeper, nothing, deeper, is_block, is_there, is_case_else, is_if_else, block_text, statement_word, deep_word, no_branch, branch_text, else_text, if_text, Arms, with_arm, arms, arms_text, case_end, Subject, case_text, statement_with, statement_text, body_text, change_text, plain_text}
+use Rattle.ixp_stmts.specs.Statements.{Frame, place_in, Returned, Said, said, Statements, with_statement, statements_of, block_end, Deeper, nothing, deeper, is_block, is_there, is_case_else, is_if_else, block_form, statement_word, deep_word, no_branch, branch_form, else_form, if_form, Arms, with_arm, arms, arms_form, case_end, Subject, case_form, statement_with, statement_form, body_form, change_form, plain_form}
 use Rattle.ixp_stmts.proofs.Pieces.{said_one, one_more, labelled, one_arm, next_arm, else_arm, alone, braced, taken_else, or_else, else_do, without, then_text, tested, finished, armed, subjected, case_or_plain, if_or_others}
 use Rattle.ixp_stmts.proofs.SureStatements.{else_word, IsSureStatement, IsSureBelow, sure_more, sure_more_arms, sure_statement}
 use Rattle.ixp_stmts.proofs.QuietStatements.{or_else_stops}
@@ -161,9 +161,9 @@ module _ (lower upper : Statements) (ks : IsSureStatement upper) (ke : IsExchang
   finished_opens : (subject : Subject) (some_arms : Arms) (v : Said StmtTree) (m : ℕ) (ts : List Kind) (y : Spot) → Fine (finished upper subject some_arms) v (spot m ts) y → is_if_else true ts ≡ false
   finished_opens subject some_arms v m ts y (b, z, one, last) = case_end_opens upper some_arms.returned b m ts z one
 
-  finished_can_end : (subject : Subject) (place : ℕ) (returned : Returned) (some_arms : Arms) → CanEnd (arms_text upper subject.is_of_states place returned) some_arms (finished upper subject some_arms)
+  finished_can_end : (subject : Subject) (place : ℕ) (returned : Returned) (some_arms : Arms) → CanEnd (arms_form upper subject.is_of_states place returned) some_arms (finished upper subject some_arms)
   finished_can_end subject place returned some_arms =
-      ends_by (Open true) (arms_text upper subject.is_of_states place returned) (finished upper subject some_arms) (more_arms_exchange upper ks ke subject.is_of_states place (said returned []))
+      ends_by (Open true) (arms_form upper subject.is_of_states place returned) (finished upper subject some_arms) (more_arms_exchange upper ks ke subject.is_of_states place (said returned []))
       (λ m rest. (
         said some_arms.returned (case_of subject.on (arms some_arms.it) (stmts [])),
         kind.Mark mark.BlockClose ∷ [],
@@ -174,16 +174,16 @@ module _ (lower upper : Statements) (ks : IsSureStatement upper) (ke : IsExchang
 
   armed_supplied : (returned : Returned) (place : ℕ) (subject : Subject) → Supplied (Said StmtTree) (armed lower returned place subject) (armed upper returned place subject)
   armed_supplied returned place subject =
-      supplied_sequence (arms_text lower subject.is_of_states place returned) (arms_text upper subject.is_of_states place returned) (finished lower subject) (finished upper subject) (λ b. Unit {0})
+      supplied_sequence (arms_form lower subject.is_of_states place returned) (arms_form upper subject.is_of_states place returned) (finished lower subject) (finished upper subject) (λ b. Unit {0})
       (arms_supplied subject.is_of_states place (said returned [])) (λ b x y p. tt) (λ b j. finished_supplied subject b) (λ b j. finished_can_end subject place returned b)
       (λ b j p front taken rest more m c v q some one at last.
       more_arms_exchange upper ks ke subject.is_of_states place (said returned []) b p front (taken ++ rest) m (taken ++ more) one (inl (finished_opens subject b v m (taken ++ more) (spot q []) last)))
 
   armed_has_text : (returned : Returned) (place : ℕ) (subject : Subject) → HasText (armed upper returned place subject)
   armed_has_text returned place subject =
-      text_then (arms_text upper subject.is_of_states place returned) (finished upper subject) (λ p. (said returned [], [], p, (zero, inr (refl, refl)))) (finished_can_end subject place returned)
+      text_then (arms_form upper subject.is_of_states place returned) (finished upper subject) (λ p. (said returned [], [], p, (zero, inr (refl, refl)))) (finished_can_end subject place returned)
 
-  case_supplied : (frame : Frame) (levels more : ℕ) → levels < more → (returned : Returned) → Supplied (Said StmtTree) (case_text frame (deeper levels lower) returned) (case_text frame (deeper more upper) returned)
+  case_supplied : (frame : Frame) (levels more : ℕ) → levels < more → (returned : Returned) → Supplied (Said StmtTree) (case_form frame (deeper levels lower) returned) (case_form frame (deeper more upper) returned)
   case_supplied frame levels more less returned =
       supplied_here (λ place. sequence (the_word (codes "case")) (subjected frame levels lower returned place)) (λ place. sequence (the_word (codes "case")) (subjected frame more upper returned place)) (λ place.
       supply_first (subjected frame levels lower returned place) (subjected frame more upper returned place) (whole_word (codes "case")) (λ x.
@@ -192,7 +192,7 @@ module _ (lower upper : Statements) (ks : IsSureStatement upper) (ke : IsExchang
 
   -- Blocks and branches.
 
-  block_text_supplied : (levels more : ℕ) (returned : Returned) → Supplied (Said StmtTree) (block_text (deeper levels lower) returned) (block_text (deeper more upper) returned)
+  block_text_supplied : (levels more : ℕ) (returned : Returned) → Supplied (Said StmtTree) (block_form (deeper levels lower) returned) (block_form (deeper more upper) returned)
   block_text_supplied levels more returned =
       supply_first (λ x. sequence (block_end lower returned) (λ body. gives (said body.returned (block (stmts body.it))))) (λ x. sequence (block_end upper returned) (λ body. gives (said body.returned (block (stmts body.it)))))
       (whole_mark mark.BlockOpen)
@@ -202,7 +202,7 @@ module _ (lower upper : Statements) (ks : IsSureStatement upper) (ke : IsExchang
       text_then (block_end upper returned) (λ body. gives (said body.returned (block (stmts body.it)))) (block_has_text returned)
       (λ b. ends_all (block_end upper returned) (gives (said b.returned (block (stmts b.it)))) (block_exchanges upper ks ke returned) (λ p. (said b.returned (block (stmts b.it)), [], p, (refl, refl))) b))
 
-  branch_supplied : (frame : Frame) (levels more : ℕ) (in_arm : Bool) (returned : Returned) → Supplied (Said (List StmtTree)) (branch_text frame (deeper levels lower) in_arm returned) (branch_text frame (deeper more upper) in_arm returned)
+  branch_supplied : (frame : Frame) (levels more : ℕ) (in_arm : Bool) (returned : Returned) → Supplied (Said (List StmtTree)) (branch_form frame (deeper levels lower) in_arm returned) (branch_form frame (deeper more upper) in_arm returned)
   branch_supplied frame levels more in_arm returned =
       supplied_choice (braced lower returned) (unless is_block (alone lower in_arm returned)) (braced upper returned) (unless is_block (alone upper in_arm returned))
       (supply_first (λ x. block_end lower returned) (λ x. block_end upper returned) (whole_mark mark.BlockOpen) (λ x. block_supplied returned) (λ x. block_has_text returned))
@@ -218,7 +218,7 @@ upper_block_text upper ks ke returned =
     ends_by (Open false) (statements_of upper false returned) (ended mark.BlockClose b) (more_exchanges upper ks ke false (said returned []))
     (λ m rest. (b, kind.Mark mark.BlockClose ∷ [], pred m, (tt, spot (pred m) [], (refl, refl), (refl, refl)), open_brace false rest)) b)
 
-branch_has_text : (frame : Frame) (more : ℕ) (upper : Statements) → IsSureStatement upper → IsExchanged upper → (in_arm : Bool) (returned : Returned) → HasText (branch_text frame (deeper more upper) in_arm returned)
+branch_has_text : (frame : Frame) (more : ℕ) (upper : Statements) → IsSureStatement upper → IsExchanged upper → (in_arm : Bool) (returned : Returned) → HasText (branch_form frame (deeper more upper) in_arm returned)
 branch_has_text frame more upper ks ke in_arm returned =
     left_text (braced upper returned) (unless is_block (alone upper in_arm returned)) (text_first (λ x. block_end upper returned) (whole_mark mark.BlockOpen) (λ x. upper_block_text upper ks ke returned))
 
@@ -264,41 +264,41 @@ module _ {A : Type 0} (in_arm : Bool) (f h : Grammar A) (sf : Supplied A f h) (t
 
 -- An `if`.
 module _ (frame : Frame) (inner outer : Deeper) (ki : IsSureBelow outer) (ke : IsExchangedBelow outer) (in_arm : Bool)
-    (branches : (returned : Returned) → Supplied (Said (List StmtTree)) (branch_text frame inner in_arm returned) (branch_text frame outer in_arm returned)) (text : (returned : Returned) → HasText (branch_text frame outer in_arm returned)) where
+    (branches : (returned : Returned) → Supplied (Said (List StmtTree)) (branch_form frame inner in_arm returned) (branch_form frame outer in_arm returned)) (text : (returned : Returned) → HasText (branch_form frame outer in_arm returned)) where
   else_do_supplied : (test : ExprTree) (then_do : Said (List StmtTree)) → Supplied (Said StmtTree) (else_do frame inner in_arm test then_do) (else_do frame outer in_arm test then_do)
   else_do_supplied test then_do =
-      supplied_and_gives (Open in_arm) (branch_text frame inner in_arm then_do.returned) (branch_text frame outer in_arm then_do.returned) (λ other. said other.returned (if_then test (stmts then_do.it) (stmts other.it)))
+      supplied_and_gives (Open in_arm) (branch_form frame inner in_arm then_do.returned) (branch_form frame outer in_arm then_do.returned) (λ other. said other.returned (if_then test (stmts then_do.it) (stmts other.it)))
       (branches then_do.returned) (branch_exchanges frame outer ki ke in_arm then_do.returned) (open_end in_arm)
 
   else_do_has_text : (test : ExprTree) (then_do : Said (List StmtTree)) → HasText (else_do frame outer in_arm test then_do)
   else_do_has_text test then_do =
-      text_then (branch_text frame outer in_arm then_do.returned) (λ other. gives (said other.returned (if_then test (stmts then_do.it) (stmts other.it)))) (text then_do.returned)
+      text_then (branch_form frame outer in_arm then_do.returned) (λ other. gives (said other.returned (if_then test (stmts then_do.it) (stmts other.it)))) (text then_do.returned)
       (λ b.
-      ends_by (Open in_arm) (branch_text frame outer in_arm then_do.returned) (gives (said b.returned (if_then test (stmts then_do.it) (stmts b.it)))) (branch_exchanges frame outer ki ke in_arm then_do.returned)
+      ends_by (Open in_arm) (branch_form frame outer in_arm then_do.returned) (gives (said b.returned (if_then test (stmts then_do.it) (stmts b.it)))) (branch_exchanges frame outer ki ke in_arm then_do.returned)
       (λ m rest. (said b.returned (if_then test (stmts then_do.it) (stmts b.it)), [], m, (refl, refl), open_end in_arm rest)) b)
 
-  else_supplied : (test : ExprTree) (then_do : Said (List StmtTree)) → Supplied (Said StmtTree) (else_text frame inner in_arm test then_do) (else_text frame outer in_arm test then_do)
+  else_supplied : (test : ExprTree) (then_do : Said (List StmtTree)) → Supplied (Said StmtTree) (else_form frame inner in_arm test then_do) (else_form frame outer in_arm test then_do)
   else_supplied test then_do =
       or_else_supplied in_arm (else_do frame inner in_arm test then_do) (else_do frame outer in_arm test then_do) (else_do_supplied test then_do) (else_do_has_text test then_do)
       (sure_else_do frame outer ki ke in_arm test then_do) refl refl (without test then_do)
 
-  else_can_end : (test : ExprTree) (returned : Returned) (then_do : Said (List StmtTree)) → CanEnd (branch_text frame outer in_arm returned) then_do (else_text frame outer in_arm test then_do)
+  else_can_end : (test : ExprTree) (returned : Returned) (then_do : Said (List StmtTree)) → CanEnd (branch_form frame outer in_arm returned) then_do (else_form frame outer in_arm test then_do)
   else_can_end test returned then_do =
-      ends_by (Open in_arm) (branch_text frame outer in_arm returned) (else_text frame outer in_arm test then_do) (branch_exchanges frame outer ki ke in_arm returned)
+      ends_by (Open in_arm) (branch_form frame outer in_arm returned) (else_form frame outer in_arm test then_do) (branch_exchanges frame outer ki ke in_arm returned)
       (λ m rest. (without test then_do, [], m, inr (refl, (refl, refl)), open_end in_arm rest)) then_do
 
   then_supplied : (returned : Returned) (test : ExprTree) → Supplied (Said StmtTree) (then_text frame inner in_arm returned test) (then_text frame outer in_arm returned test)
   then_supplied returned test =
-      supplied_sequence (branch_text frame inner in_arm returned) (branch_text frame outer in_arm returned) (λ then_do. else_text frame inner in_arm test then_do) (λ then_do. else_text frame outer in_arm test then_do) (λ b. Unit {0})
+      supplied_sequence (branch_form frame inner in_arm returned) (branch_form frame outer in_arm returned) (λ then_do. else_form frame inner in_arm test then_do) (λ then_do. else_form frame outer in_arm test then_do) (λ b. Unit {0})
       (branches returned) (λ b x y p. tt) (λ b j. else_supplied test b) (λ b j. else_can_end test returned b)
       (λ b j p front taken rest more m c v q some one at last.
       branch_exchanges frame outer ki ke in_arm returned b p front (taken ++ rest) m (taken ++ more) one
       (else_opens in_arm (else_do frame inner in_arm test b) (else_do frame outer in_arm test b) (without test b) taken rest more m c v q some at last))
 
   then_has_text : (returned : Returned) (test : ExprTree) → HasText (then_text frame outer in_arm returned test)
-  then_has_text returned test = text_then (branch_text frame outer in_arm returned) (λ then_do. else_text frame outer in_arm test then_do) (text returned) (else_can_end test returned)
+  then_has_text returned test = text_then (branch_form frame outer in_arm returned) (λ then_do. else_form frame outer in_arm test then_do) (text returned) (else_can_end test returned)
 
-  if_supplied : (levels more : ℕ) → levels < more → (returned : Returned) → Supplied (Said StmtTree) (if_text frame levels inner in_arm returned) (if_text frame more outer in_arm returned)
+  if_supplied : (levels more : ℕ) → levels < more → (returned : Returned) → Supplied (Said StmtTree) (if_form frame levels inner in_arm returned) (if_form frame more outer in_arm returned)
   if_supplied levels more less returned =
       supplied_here (λ statement. sequence (the_word (codes "if")) (tested frame levels inner in_arm returned statement)) (λ statement. sequence (the_word (codes "if")) (tested frame more outer in_arm returned statement)) (λ statement.
       supply_first (tested frame levels inner in_arm returned statement) (tested frame more outer in_arm returned statement) (whole_word (codes "if")) (λ x.
@@ -329,27 +329,27 @@ or_none : (b : Bool) → (b || false) ≡ is_some (if_so b)
 or_none true = refl
 or_none false = refl
 
-block_begins : (inner : Deeper) (returned : Returned) (p : ℕ) (k : Kind) (ts : List Kind) → begins_at (block_text inner returned) (spot p (k ∷ ts)) ≡ is_some (if_so (is_mark mark.BlockOpen k))
+block_begins : (inner : Deeper) (returned : Returned) (p : ℕ) (k : Kind) (ts : List Kind) → begins_at (block_form inner returned) (spot p (k ∷ ts)) ≡ is_some (if_so (is_mark mark.BlockOpen k))
 block_begins nothing returned p k ts = or_none (is_mark mark.BlockOpen k)
 block_begins (deeper levels statement) returned p k ts = refl
 
-case_begins : (frame : Frame) (inner : Deeper) (returned : Returned) (p : ℕ) (k : Kind) (ts : List Kind) → begins_at (case_text frame inner returned) (spot p (k ∷ ts)) ≡ is_some (if_so (is_word (codes "case") k))
+case_begins : (frame : Frame) (inner : Deeper) (returned : Returned) (p : ℕ) (k : Kind) (ts : List Kind) → begins_at (case_form frame inner returned) (spot p (k ∷ ts)) ≡ is_some (if_so (is_word (codes "case") k))
 case_begins frame nothing returned p k ts = or_none (is_word (codes "case") k)
 case_begins frame (deeper levels statement) returned p k ts = refl
 
-block_leads : (inner : Deeper) (returned : Returned) → Leading (block_text inner returned)
+block_leads : (inner : Deeper) (returned : Returned) → Leading (block_form inner returned)
 block_leads nothing returned = tt
 block_leads (deeper levels statement) returned = tt
 
-case_leads : (frame : Frame) (inner : Deeper) (returned : Returned) → Leading (case_text frame inner returned)
+case_leads : (frame : Frame) (inner : Deeper) (returned : Returned) → Leading (case_form frame inner returned)
 case_leads frame nothing returned = tt
 case_leads frame (deeper levels statement) returned = λ n. tt
 
-block_no_end : (inner : Deeper) (returned : Returned) (p : ℕ) → begins_at (block_text inner returned) (spot p []) ≡ false
+block_no_end : (inner : Deeper) (returned : Returned) (p : ℕ) → begins_at (block_form inner returned) (spot p []) ≡ false
 block_no_end nothing returned p = refl
 block_no_end (deeper levels statement) returned p = refl
 
-case_no_end : (frame : Frame) (inner : Deeper) (returned : Returned) (p : ℕ) → begins_at (case_text frame inner returned) (spot p []) ≡ false
+case_no_end : (frame : Frame) (inner : Deeper) (returned : Returned) (p : ℕ) → begins_at (case_form frame inner returned) (spot p []) ≡ false
 case_no_end frame nothing returned p = refl
 case_no_end frame (deeper levels statement) returned p = refl
 
@@ -357,20 +357,20 @@ ors : (a b c d e f : Bool) → a ≡ d → c ≡ f → (a || (b || (c || e))) �
 ors a b c d e f h i = ap (λ x. x || (b || (c || e))) h ∙ ap (λ x. d || (b || (x || e))) i
 
 with_begins : (frame : Frame) (levels : ℕ) (inner : Deeper) (in_arm : Bool) (returned : Returned) (x : Spot) → begins_at (statement_with frame levels inner in_arm returned) x ≡ is_next begins_one x.1
-unfolding statement_with change_text
+unfolding statement_with change_form
 with_begins frame levels inner in_arm returned (p, []) =
-    ors (begins_at (block_text inner returned) (spot p [])) false (begins_at (case_text frame inner returned) (spot p [])) false false false (block_no_end inner returned p) (case_no_end frame inner returned p)
+    ors (begins_at (block_form inner returned) (spot p [])) false (begins_at (case_form frame inner returned) (spot p [])) false false false (block_no_end inner returned p) (case_no_end frame inner returned p)
 with_begins frame levels inner in_arm returned (p, k ∷ ts) =
-    ors (begins_at (block_text inner returned) (spot p (k ∷ ts))) _ (begins_at (case_text frame inner returned) (spot p (k ∷ ts))) _ _ _ (block_begins inner returned p k ts) (case_begins frame inner returned p k ts)
+    ors (begins_at (block_form inner returned) (spot p (k ∷ ts))) _ (begins_at (case_form frame inner returned) (spot p (k ∷ ts))) _ _ _ (block_begins inner returned p k ts) (case_begins frame inner returned p k ts)
 
 with_leads : (frame : Frame) (levels : ℕ) (inner : Deeper) (in_arm : Bool) (returned : Returned) → Leading (statement_with frame levels inner in_arm returned)
-unfolding statement_with change_text
+unfolding statement_with change_form
 with_leads frame levels inner in_arm returned = (block_leads inner returned, (λ n. tt, (case_leads frame inner returned, λ n. (tt, (tt, (tt, (tt, (tt, (tt, (tt, tt))))))))))
 
-statement_begun : (frame : Frame) (levels : ℕ) → Begun (statement_text frame levels)
+statement_begun : (frame : Frame) (levels : ℕ) → Begun (statement_form frame levels)
 statement_begun frame zero = record { begins = with_begins frame zero nothing; leads = with_leads frame zero nothing }
 statement_begun frame (suc levels) =
-    record { begins = with_begins frame (suc levels) (deeper levels (statement_text frame levels)); leads = with_leads frame (suc levels) (deeper levels (statement_text frame levels)) }
+    record { begins = with_begins frame (suc levels) (deeper levels (statement_form frame levels)); leads = with_leads frame (suc levels) (deeper levels (statement_form frame levels)) }
 
 -- the nine words, one behind the other
 nine_words : {A : Type 0} (w : A) (a b c d e f g h i : Bool) → is_some (if (a || b || c) || (d || e || f || g) || (h || i) then Some w else None)
@@ -409,7 +409,7 @@ module _ (frame : Frame) (more : ℕ) (upper : Statements) (begun : Begun upper)
   deep = no_branch frame
 
   abbrev branch : Grammar (Said (List StmtTree))
-  branch = branch_text frame (deeper more upper) in_arm returned
+  branch = branch_form frame (deeper more upper) in_arm returned
 
   deep_begins : (x : Spot) → begins_at deep x ≡ begins_at branch x
   deep_begins (p, []) = sym (begun.begins in_arm returned (spot p []))
@@ -470,15 +470,15 @@ pub data Above (frame : Frame) : Deeper → Deeper → Type 1 where
   next_level : (levels more : ℕ) (lower upper : Statements) → levels < more → IsSureStatement upper → IsExchanged upper
       → ((in_arm : Bool) (returned : Returned) → Supplied (Said StmtTree) (lower in_arm returned) (upper in_arm returned)) → Above frame (deeper levels lower) (deeper more upper)
 
-block_above : (frame : Frame) (inner outer : Deeper) → Above frame inner outer → (returned : Returned) → Supplied (Said StmtTree) (block_text inner returned) (block_text outer returned)
+block_above : (frame : Frame) (inner outer : Deeper) → Above frame inner outer → (returned : Returned) → Supplied (Said StmtTree) (block_form inner returned) (block_form outer returned)
 block_above frame _ _ (first_level more upper ks ke begun) returned = supplied_level mark.BlockOpen (λ x. sequence (block_end upper returned) (λ body. gives (said body.returned (block (stmts body.it)))))
 block_above frame _ _ (next_level levels more lower upper less ks ke su) returned = block_text_supplied lower upper ks ke su levels more returned
 
-case_above : (frame : Frame) (inner outer : Deeper) → Above frame inner outer → (returned : Returned) → Supplied (Said StmtTree) (case_text frame inner returned) (case_text frame outer returned)
+case_above : (frame : Frame) (inner outer : Deeper) → Above frame inner outer → (returned : Returned) → Supplied (Said StmtTree) (case_form frame inner returned) (case_form frame outer returned)
 case_above frame _ _ (first_level more upper ks ke begun) returned = supplied_deep (is_word (codes "case")) (λ place. subjected frame more upper returned place)
 case_above frame _ _ (next_level levels more lower upper less ks ke su) returned = case_supplied lower upper ks ke su frame levels more less returned
 
-if_above : (frame : Frame) (inner outer : Deeper) → Above frame inner outer → (in_arm : Bool) (levels more : ℕ) → levels < more → (returned : Returned) → Supplied (Said StmtTree) (if_text frame levels inner in_arm returned) (if_text frame more outer in_arm returned)
+if_above : (frame : Frame) (inner outer : Deeper) → Above frame inner outer → (in_arm : Bool) (levels more : ℕ) → levels < more → (returned : Returned) → Supplied (Said StmtTree) (if_form frame levels inner in_arm returned) (if_form frame more outer in_arm returned)
 if_above frame _ _ (first_level above upper ks ke begun) in_arm levels more less returned =
     if_supplied frame nothing (deeper above upper) ks ke in_arm (λ other. deep_supplied frame above upper begun in_arm other) (λ other. branch_has_text frame above upper ks ke in_arm other) levels more less returned
 if_above frame _ _ (next_level below above lower upper smaller ks ke su) in_arm levels more less returned =
@@ -488,31 +488,31 @@ with_above : (frame : Frame) (inner outer : Deeper) → Above frame inner outer 
     → Supplied (Said StmtTree) (statement_with frame levels inner in_arm returned) (statement_with frame more outer in_arm returned)
 unfolding statement_with
 with_above frame inner outer above in_arm levels more less returned =
-    supplied_choice (block_text inner returned) (if_or_others frame levels inner in_arm returned) (block_text outer returned) (if_or_others frame more outer in_arm returned) (block_above frame inner outer above returned)
-    (supplied_choice (if_text frame levels inner in_arm returned) (case_or_plain frame levels inner returned) (if_text frame more outer in_arm returned) (case_or_plain frame more outer returned)
+    supplied_choice (block_form inner returned) (if_or_others frame levels inner in_arm returned) (block_form outer returned) (if_or_others frame more outer in_arm returned) (block_above frame inner outer above returned)
+    (supplied_choice (if_form frame levels inner in_arm returned) (case_or_plain frame levels inner returned) (if_form frame more outer in_arm returned) (case_or_plain frame more outer returned)
     (if_above frame inner outer above in_arm levels more less returned)
-    (supplied_choice (case_text frame inner returned) (plain_text frame levels returned) (case_text frame outer returned) (plain_text frame more returned) (case_above frame inner outer above returned)
+    (supplied_choice (case_form frame inner returned) (plain_form frame levels returned) (case_form frame outer returned) (plain_form frame more returned) (case_above frame inner outer above returned)
     (whole_plain levels more less frame returned).supplied))
 
-statement_supplied : (frame : Frame) (levels more : ℕ) → levels < more → (in_arm : Bool) (returned : Returned) → Supplied (Said StmtTree) (statement_text frame levels in_arm returned) (statement_text frame more in_arm returned)
+statement_supplied : (frame : Frame) (levels more : ℕ) → levels < more → (in_arm : Bool) (returned : Returned) → Supplied (Said StmtTree) (statement_form frame levels in_arm returned) (statement_form frame more in_arm returned)
 statement_supplied frame levels zero less in_arm returned = absurd (omega arith)
 statement_supplied frame zero (suc more) less in_arm returned =
-    with_above frame nothing (deeper more (statement_text frame more)) (first_level more (statement_text frame more) (sure_statement frame more) (statement_exchanges frame more) (statement_begun frame more)) in_arm zero (suc more)
+    with_above frame nothing (deeper more (statement_form frame more)) (first_level more (statement_form frame more) (sure_statement frame more) (statement_exchanges frame more) (statement_begun frame more)) in_arm zero (suc more)
     less returned
 statement_supplied frame (suc levels) (suc more) less in_arm returned =
     let fewer_levels : levels < more = omega arith in
-    with_above frame (deeper levels (statement_text frame levels)) (deeper more (statement_text frame more))
-    (next_level levels more (statement_text frame levels) (statement_text frame more) fewer_levels (sure_statement frame more) (statement_exchanges frame more) (statement_supplied frame levels more fewer_levels)) in_arm (suc levels) (suc more)
+    with_above frame (deeper levels (statement_form frame levels)) (deeper more (statement_form frame more))
+    (next_level levels more (statement_form frame levels) (statement_form frame more) fewer_levels (sure_statement frame more) (statement_exchanges frame more) (statement_supplied frame levels more fewer_levels)) in_arm (suc levels) (suc more)
     less returned
 
 -- Bodies.
 
-pub body_supplied : (frame : Frame) (levels more : ℕ) → levels < more → (returned : Returned) → Supplied (Said (List StmtTree)) (body_text frame levels returned) (body_text frame more returned)
+pub body_supplied : (frame : Frame) (levels more : ℕ) → levels < more → (returned : Returned) → Supplied (Said (List StmtTree)) (body_form frame levels returned) (body_form frame more returned)
 body_supplied frame levels more less returned =
-    block_supplied (statement_text frame levels) (statement_text frame more) (sure_statement frame more) (statement_exchanges frame more) (statement_supplied frame levels more less) returned
+    block_supplied (statement_form frame levels) (statement_form frame more) (sure_statement frame more) (statement_exchanges frame more) (statement_supplied frame levels more less) returned
 
-pub body_exchanges : (frame : Frame) (levels : ℕ) (returned : Returned) → Exchanges whatever (body_text frame levels returned)
-body_exchanges frame levels returned = block_exchanges (statement_text frame levels) (sure_statement frame levels) (statement_exchanges frame levels) returned
+pub body_exchanges : (frame : Frame) (levels : ℕ) (returned : Returned) → Exchanges whatever (body_form frame levels returned)
+body_exchanges frame levels returned = block_exchanges (statement_form frame levels) (sure_statement frame levels) (statement_exchanges frame levels) returned
 
-pub body_has_text : (frame : Frame) (levels : ℕ) (returned : Returned) → HasText (body_text frame levels returned)
-body_has_text frame levels returned = upper_block_text (statement_text frame levels) (sure_statement frame levels) (statement_exchanges frame levels) returned
+pub body_has_text : (frame : Frame) (levels : ℕ) (returned : Returned) → HasText (body_form frame levels returned)
+body_has_text frame levels returned = upper_block_text (statement_form frame levels) (sure_statement frame levels) (statement_exchanges frame levels) returned

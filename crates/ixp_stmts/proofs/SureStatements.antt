@@ -22,7 +22,7 @@ use Rattle.ixp_exprs.proofs.ClearLists.{clear_never, clear_ended, clear_listed}
 use Rattle.ixp_exprs.proofs.KnownTokens.{states, known_state, word_front}
 use Rattle.ixp_exprs.proofs.KnownExpressions.{operand_starts, clear_expression_text}
 use Rattle.ixp_exprs.proofs.Sure.{Barred, Sure, First, behind_else, sure_of, clear_word, first_enclosed, sure_deep, next_word, next_seen}
-use Rattle.ixp_stmts.specs.Statements.{Frame, place_in, Returned, Said, said, value_end, enclosed_end, params_of, call_end, call_text, return_text, next_hop_end, prepend_end, change_end, verdict_text, change_text, plain_text, number_label, state_label, label_text, labels_text, Statements, statements_of, block_end, Deeper, nothing, deeper, is_block, is_else, is_case_else, is_if_else, is_there, block_text, statement_word, no_branch, branch_text, else_text, test_end, if_text, Arms, arms_text, case_end, subject_end, case_text, statement_with, statement_text, body_text}
+use Rattle.ixp_stmts.specs.Statements.{Frame, place_in, Returned, Said, said, value_end, enclosed_end, params_of, call_end, call_form, return_form, next_hop_end, prepend_end, change_end, verdict_form, change_form, plain_form, number_label, state_label, label_form, labels_form, Statements, statements_of, block_end, Deeper, nothing, deeper, is_block, is_else, is_case_else, is_if_else, is_there, block_form, statement_word, no_branch, branch_form, else_form, test_end, if_form, Arms, arms_form, case_end, subject_end, case_form, statement_with, statement_form, body_form}
 use Rattle.ixp_stmts.proofs.Pieces.{said_one, one_more, one_arm, next_arm}
 use Rattle.ixp_stmts.proofs.Several.{clear_without, clear_or_nothing, clear_several}
 
@@ -42,10 +42,10 @@ first_call_end at levels called =
     clear_then (first_enclosed at levels at (arguments (params_of (function_of (at.names called)))) at.statement)
     (λ parts. clear_ended mark.Semicolon _))
 
-first_call : (at : Place) (levels : ℕ) → First (call_text at levels) (token_look (name ∷ []))
+first_call : (at : Place) (levels : ℕ) → First (call_form at levels) (token_look (name ∷ []))
 first_call at levels = clear_then clear_name (λ called. clear_checks (first_call_end at levels called))
 
-first_return : (at : Place) (levels : ℕ) (returned : Returned) → First (return_text at levels returned) (token_look (keyword (codes "return") ∷ []))
+first_return : (at : Place) (levels : ℕ) (returned : Returned) → First (return_form at levels returned) (token_look (keyword (codes "return") ∷ []))
 first_return at levels returned =
     clear_then (clear_word (codes "return")) (λ x.
     clear_checks (clear_sequence (clear_expression_text at levels) (λ value. clear_then (clear_mark mark.Semicolon) (λ y. clear_checks (clear_gives _))) refl))
@@ -64,7 +64,7 @@ first_change_end at levels one add many delete =
     clear_choice (clear_then (clear_word (codes "add")) (λ y. clear_then (first_enclosed_end at levels one) (λ value. clear_gives _)))
     (clear_then (clear_word (codes "delete")) (λ y. clear_then (first_enclosed_end at levels many) (λ value. clear_gives _))) refl refl)
 
-first_verdict : (word : List ℕ) (verdict : StmtTree) → First (verdict_text word verdict) (token_look (keyword word ∷ []))
+first_verdict : (word : List ℕ) (verdict : StmtTree) → First (verdict_form word verdict) (token_look (keyword word ∷ []))
 first_verdict word verdict = clear_then (clear_word word) (λ x. clear_ended mark.Semicolon _)
 
 abbrev pub change_words : List Front
@@ -72,8 +72,8 @@ change_words =
     keyword (codes "bgp_next_hop") ∷ keyword (codes "bgp_path") ∷ keyword (codes "bgp_community") ∷ keyword (codes "bgp_large_community")
     ∷ keyword (codes "accept") ∷ keyword (codes "reject") ∷ []
 
-first_change : (at : Place) (levels : ℕ) → First (change_text at levels) (token_look (name ∷ change_words))
-unfolding change_text
+first_change : (at : Place) (levels : ℕ) → First (change_form at levels) (token_look (name ∷ change_words))
+unfolding change_form
 first_change at levels =
     clear_wider
     (clear_choice (first_call at levels)
@@ -89,7 +89,7 @@ first_change at levels =
 abbrev pub plain_words : List Front
 plain_words = keyword (codes "return") ∷ change_words
 
-pub first_plain : (frame : Frame) (levels : ℕ) (returned : Returned) → First (plain_text frame levels returned) (token_look (name ∷ plain_words))
+pub first_plain : (frame : Frame) (levels : ℕ) (returned : Returned) → First (plain_form frame levels returned) (token_look (name ∷ plain_words))
 first_plain frame levels returned =
     clear_wider
     (clear_here (λ statement.
@@ -108,13 +108,13 @@ first_number_label is_of_states place =
 first_state_label : (is_of_states : Bool) (place : ℕ) → First (state_label is_of_states place) (token_look states)
 first_state_label is_of_states place = clear_then (clear_token _ _ known_state) (λ state. clear_checks (clear_gives _))
 
-first_label : (is_of_states : Bool) (place : ℕ) → First (label_text is_of_states place) (full_look label_starts (marked mark.Range ∷ []))
+first_label : (is_of_states : Bool) (place : ℕ) → First (label_form is_of_states place) (full_look label_starts (marked mark.Range ∷ []))
 first_label is_of_states place = clear_choice (first_number_label is_of_states place) (first_state_label is_of_states place) refl refl
 
-pub first_labels : (is_of_states : Bool) (place : ℕ) → First (labels_text is_of_states place) (token_look label_starts)
+pub first_labels : (is_of_states : Bool) (place : ℕ) → First (labels_form is_of_states place) (token_look label_starts)
 first_labels is_of_states place =
     clear_sequence
-    (clear_listed (λ before. label_text is_of_states place) label_starts (marked mark.Range ∷ []) [] (λ items. first_label is_of_states place) refl)
+    (clear_listed (λ before. label_form is_of_states place) label_starts (marked mark.Range ∷ []) [] (λ items. first_label is_of_states place) refl)
     (λ labels. clear_ended mark.Colon labels) refl
 
 -- Statements that hold others.
@@ -157,7 +157,7 @@ module _ (statement : Statements) (ks : IsSureStatement statement) where
       (λ before. clear_then (sure_of (first_labels is_of_states place)) (λ labels. clear_sequence (sure_statements true before.returned) (λ body. clear_gives _) refl)) refl before)
       refl refl
 
-  pub sure_arms : (is_of_states : Bool) (place : ℕ) (returned : Returned) → Barred (arms_text statement is_of_states place returned) arms_look else_word
+  pub sure_arms : (is_of_states : Bool) (place : ℕ) (returned : Returned) → Barred (arms_form statement is_of_states place returned) arms_look else_word
   sure_arms is_of_states place returned = sure_more_arms is_of_states place (said returned [])
 
   pub sure_case_end : (returned : Returned) → Sure (case_end statement returned) (token_look (keyword (codes "else") ∷ marked mark.BlockClose ∷ []))
@@ -168,7 +168,7 @@ abbrev pub IsSureBelow : Deeper → Type 0
 IsSureBelow nothing = Unit {0}
 IsSureBelow (deeper levels statement) = IsSureStatement statement
 
-sure_block : (inner : Deeper) → IsSureBelow inner → (returned : Returned) → Sure (block_text inner returned) (token_look (marked mark.BlockOpen ∷ []))
+sure_block : (inner : Deeper) → IsSureBelow inner → (returned : Returned) → Sure (block_form inner returned) (token_look (marked mark.BlockOpen ∷ []))
 sure_block nothing ki returned = sure_deep (is_mark mark.BlockOpen) (marked mark.BlockOpen ∷ []) (next_mark mark.BlockOpen)
 sure_block (deeper levels statement) ki returned =
     clear_then (clear_mark mark.BlockOpen) (λ x. clear_sequence (sure_block_end statement ki returned) (λ body. clear_gives _) refl)
@@ -225,7 +225,7 @@ without_brace fs [] free p = absurd cc
 without_brace fs (k ∷ ts) free p =
     or_elim (is_front (marked mark.BlockOpen) k) (one_of fs k) p (λ brace. absurd (no_brace (is_mark mark.BlockOpen k) free (brace_is k brace))) (λ other. other)
 
-pub sure_branch : (frame : Frame) (inner : Deeper) → IsSureBelow inner → (in_arm : Bool) (returned : Returned) → Barred (branch_text frame inner in_arm returned) (token_look statement_starts) else_word
+pub sure_branch : (frame : Frame) (inner : Deeper) → IsSureBelow inner → (in_arm : Bool) (returned : Returned) → Barred (branch_form frame inner in_arm returned) (token_look statement_starts) else_word
 sure_branch frame nothing ki in_arm returned = sure_of (clear_wider (first_no_branch frame) refl refl)
 sure_branch frame (deeper levels statement) ki in_arm returned =
     clear_choice (clear_then (clear_mark mark.BlockOpen) (λ x. sure_block_end statement ki returned))
@@ -271,7 +271,7 @@ if_else_seen in_arm = (refl, λ k x y h. ap (λ b. is_word (codes "else") k && n
 
 -- no `else` goes on with an `if` that has none, nor stands behind it
 sure_else : (frame : Frame) (inner : Deeper) → IsSureBelow inner → (in_arm : Bool) (test : ExprTree) (then_do : Said (List StmtTree))
-    → Barred (else_text frame inner in_arm test then_do) (record { leads = false; full = false; starts = else_word; ends = [] }) else_word
+    → Barred (else_form frame inner in_arm test then_do) (record { leads = false; full = false; starts = else_word; ends = [] }) else_word
 sure_else frame inner ki in_arm test then_do =
     clear_wider
     (clear_or_nothing (is_if_else in_arm) _ else_word
@@ -284,7 +284,7 @@ pub first_test : (at : Place) (levels : ℕ) → First (test_end at levels) (tok
 first_test at levels = clear_sequence (clear_expression_text at levels) (λ test. clear_then (clear_word (codes "then")) (λ x. clear_checks (clear_gives _))) refl
 
 sure_if : (frame : Frame) (levels : ℕ) (inner : Deeper) → IsSureBelow inner → (in_arm : Bool) (returned : Returned)
-    → Barred (if_text frame levels inner in_arm returned) (token_look (keyword (codes "if") ∷ [])) else_word
+    → Barred (if_form frame levels inner in_arm returned) (token_look (keyword (codes "if") ∷ [])) else_word
 sure_if frame levels inner ki in_arm returned =
     clear_wider
     (clear_here (λ statement.
@@ -296,7 +296,7 @@ sure_if frame levels inner ki in_arm returned =
 pub first_subject : (at : Place) (levels : ℕ) → First (subject_end at levels) (token_look operand_starts)
 first_subject at levels = clear_sequence (clear_expression_text at levels) (λ on. clear_then (clear_mark mark.BlockOpen) (λ x. clear_checks (clear_gives _))) refl
 
-sure_case : (frame : Frame) (inner : Deeper) → IsSureBelow inner → (returned : Returned) → Sure (case_text frame inner returned) (token_look (keyword (codes "case") ∷ []))
+sure_case : (frame : Frame) (inner : Deeper) → IsSureBelow inner → (returned : Returned) → Sure (case_form frame inner returned) (token_look (keyword (codes "case") ∷ []))
 sure_case frame nothing ki returned = sure_deep (is_word (codes "case")) (keyword (codes "case") ∷ []) (next_word (codes "case"))
 sure_case frame (deeper levels statement) ki returned =
     clear_here (λ place.
@@ -315,12 +315,12 @@ sure_statement_with frame levels inner ki in_arm returned =
     refl refl) refl refl) refl refl)
     refl refl
 
-pub sure_statement : (frame : Frame) (levels : ℕ) → IsSureStatement (statement_text frame levels)
+pub sure_statement : (frame : Frame) (levels : ℕ) → IsSureStatement (statement_form frame levels)
 sure_statement frame zero = sure_statement_with frame zero nothing tt
-sure_statement frame (suc levels) = sure_statement_with frame (suc levels) (deeper levels (statement_text frame levels)) (sure_statement frame levels)
+sure_statement frame (suc levels) = sure_statement_with frame (suc levels) (deeper levels (statement_form frame levels)) (sure_statement frame levels)
 
 abbrev pub body_look : Look
 body_look = record { leads = false; full = true; starts = statement_starts ++ marked mark.BlockClose ∷ []; ends = [] }
 
-pub sure_body : (frame : Frame) (levels : ℕ) (returned : Returned) → Sure (body_text frame levels returned) body_look
-sure_body frame levels returned = sure_block_end (statement_text frame levels) (sure_statement frame levels) returned
+pub sure_body : (frame : Frame) (levels : ℕ) (returned : Returned) → Sure (body_form frame levels returned) body_look
+sure_body frame levels returned = sure_block_end (statement_form frame levels) (sure_statement frame levels) returned

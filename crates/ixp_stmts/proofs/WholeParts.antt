@@ -11,12 +11,12 @@ use Rattle.ixp_tokens.proofs.Whole.{Whole, whole_gives, whole_takes, whole_then,
 use Rattle.ixp_exprs.specs.declared.types.ValueType.{ValueType}
 use Rattle.ixp_exprs.specs.declared.types.ValueType.TheVariants.{Int, Ip, Pair, Triple, PairSet, TripleSet}
 use Rattle.ixp_exprs.specs.Names.{function_of}
-use Rattle.ixp_exprs.specs.Expressions.{Place, arguments, expression_text}
+use Rattle.ixp_exprs.specs.Expressions.{Place, arguments, expression_form}
 use Rattle.ixp_exprs.proofs.KnownTokens.{states, known_state}
 use Rattle.ixp_exprs.proofs.KnownExpressions.{operand_starts}
 use Rattle.ixp_exprs.proofs.WholeLists.{whole_mark, whole_word, whole_name, whole_number, whole_ended, whole_listed}
 use Rattle.ixp_exprs.proofs.WholeExpressions.{whole_enclosed, whole_expression_text}
-use Rattle.ixp_stmts.specs.Statements.{Frame, place_in, Returned, value_end, enclosed_end, params_of, call_end, call_text, return_text, next_hop_end, prepend_end, change_end, verdict_text, change_text, plain_text, number_label, state_label, label_text, labels_text, test_end, subject_end}
+use Rattle.ixp_stmts.specs.Statements.{Frame, place_in, Returned, value_end, enclosed_end, params_of, call_end, call_form, return_form, next_hop_end, prepend_end, change_end, verdict_form, change_form, plain_form, number_label, state_label, label_form, labels_form, test_end, subject_end}
 use Rattle.ixp_stmts.proofs.SureStatements.{change_words, plain_words, label_starts}
 
 module _ (levels more : ℕ) (less : levels < more) where
@@ -31,13 +31,13 @@ module _ (levels more : ℕ) (less : levels < more) where
   whole_call_end : (at : Place) (called : List ℕ) → Whole (call_end at levels called) (call_end at more called) (token_look (marked mark.Open ∷ [])) []
   whole_call_end at called =
       whole_then (whole_mark mark.Open) (λ x.
-      whole_then (whole_enclosed (expression_text at levels) (expression_text at more) (whole_expression_text at levels more less) at (arguments (params_of (function_of (at.names called)))) at.statement) (λ parts.
+      whole_then (whole_enclosed (expression_form at levels) (expression_form at more) (whole_expression_text at levels more less) at (arguments (params_of (function_of (at.names called)))) at.statement) (λ parts.
       whole_ended mark.Semicolon _))
 
-  whole_call : (at : Place) → Whole (call_text at levels) (call_text at more) (token_look (name ∷ [])) []
+  whole_call : (at : Place) → Whole (call_form at levels) (call_form at more) (token_look (name ∷ [])) []
   whole_call at = whole_then whole_name (λ called. whole_checks (whole_call_end at called))
 
-  whole_return : (at : Place) (returned : Returned) → Whole (return_text at levels returned) (return_text at more returned) (token_look (keyword (codes "return") ∷ [])) []
+  whole_return : (at : Place) (returned : Returned) → Whole (return_form at levels returned) (return_form at more returned) (token_look (keyword (codes "return") ∷ [])) []
   whole_return at returned =
       whole_then (whole_word (codes "return")) (λ x.
       whole_checks (whole_sequence (whole_expression_text at levels more less) (λ value. whole_then (whole_mark mark.Semicolon) (λ y. whole_checks (whole_gives _))) refl refl))
@@ -55,11 +55,11 @@ module _ (levels more : ℕ) (less : levels < more) where
       whole_choice (whole_then (whole_word (codes "add")) (λ y. whole_then (whole_enclosed_end at one) (λ value. whole_gives _)))
       (whole_then (whole_word (codes "delete")) (λ y. whole_then (whole_enclosed_end at many) (λ value. whole_gives _))) refl refl)
 
-  whole_verdict : (word : List ℕ) (verdict : StmtTree) → Whole (verdict_text word verdict) (verdict_text word verdict) (token_look (keyword word ∷ [])) []
+  whole_verdict : (word : List ℕ) (verdict : StmtTree) → Whole (verdict_form word verdict) (verdict_form word verdict) (token_look (keyword word ∷ [])) []
   whole_verdict word verdict = whole_then (whole_word word) (λ x. whole_ended mark.Semicolon _)
 
-  whole_change : (at : Place) → Whole (change_text at levels) (change_text at more) (token_look (name ∷ change_words)) []
-  unfolding change_text
+  whole_change : (at : Place) → Whole (change_form at levels) (change_form at more) (token_look (name ∷ change_words)) []
+  unfolding change_form
   whole_change at =
       whole_wider
       (whole_choice (whole_call at)
@@ -71,7 +71,7 @@ module _ (levels more : ℕ) (less : levels < more) where
       refl refl) refl refl) refl refl) refl refl) refl refl) refl refl)
       refl refl
 
-  pub whole_plain : (frame : Frame) (returned : Returned) → Whole (plain_text frame levels returned) (plain_text frame more returned) (token_look (name ∷ plain_words)) []
+  pub whole_plain : (frame : Frame) (returned : Returned) → Whole (plain_form frame levels returned) (plain_form frame more returned) (token_look (name ∷ plain_words)) []
   whole_plain frame returned =
       whole_wider
       (whole_here (λ statement.
@@ -93,9 +93,9 @@ whole_number_label is_of_states place =
 whole_state_label : (is_of_states : Bool) (place : ℕ) → Whole (state_label is_of_states place) (state_label is_of_states place) (token_look states) []
 whole_state_label is_of_states place = whole_then (whole_takes (kind.Word (codes "ROA_VALID")) Valid refl (clear_token _ _ known_state)) (λ state. whole_checks (whole_gives _))
 
-whole_label : (is_of_states : Bool) (place : ℕ) → Whole (label_text is_of_states place) (label_text is_of_states place) (full_look label_starts (marked mark.Range ∷ [])) []
+whole_label : (is_of_states : Bool) (place : ℕ) → Whole (label_form is_of_states place) (label_form is_of_states place) (full_look label_starts (marked mark.Range ∷ [])) []
 whole_label is_of_states place = whole_choice (whole_number_label is_of_states place) (whole_state_label is_of_states place) refl refl
 
-pub whole_labels : (is_of_states : Bool) (place : ℕ) → Whole (labels_text is_of_states place) (labels_text is_of_states place) (token_look label_starts) []
+pub whole_labels : (is_of_states : Bool) (place : ℕ) → Whole (labels_form is_of_states place) (labels_form is_of_states place) (token_look label_starts) []
 whole_labels is_of_states place =
     whole_sequence (whole_listed _ _ label_starts (marked mark.Range ∷ []) (λ items. whole_label is_of_states place) refl) (λ labels. whole_ended mark.Colon labels) refl refl

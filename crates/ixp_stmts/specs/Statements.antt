@@ -19,7 +19,7 @@ use Rattle.ixp_exprs.specs.Names.{Names, function_of}
 use Rattle.ixp_exprs.specs.Lists.{never, ended, listed}
 use Rattle.ixp_exprs.specs.Sets.{if_missing, unless_so}
 use Rattle.ixp_exprs.specs.Operands.{Operand, or_else, misfit_at, settled, fits}
-use Rattle.ixp_exprs.specs.Expressions.{Place, arguments, enclosed, expression_text, state_in, word_in}
+use Rattle.ixp_exprs.specs.Expressions.{Place, arguments, enclosed, expression_form, state_in, word_in}
 
 -- The function or filter whose statements are read: what names stand for in it, and which of the two it is.
 pub record Frame : Type 0 where
@@ -64,14 +64,14 @@ said returned it = record { it = it; returned = returned }
 -- an expression of the type, and the semicolon
 abbrev pub value_end : Place → ℕ → ValueType → Grammar ExprTree
 value_end at levels wanted =
-    sequence (expression_text at levels) (λ value.
+    sequence (expression_form at levels) (λ value.
     sequence (the_mark Semicolon) (λ tt. checks (fits value wanted at.statement) (gives value.tree)))
 
 -- an expression of the type in parentheses, which are no level, and the semicolon
 abbrev pub enclosed_end : Place → ℕ → ValueType → Grammar ExprTree
 enclosed_end at levels wanted =
     sequence (the_mark Open) (λ tt.
-    sequence (expression_text at levels) (λ value.
+    sequence (expression_form at levels) (λ value.
     sequence (the_mark Close) (λ tt. checks (fits value wanted at.statement) (ended Semicolon value.tree))))
 
 abbrev pub params_of : Option Signature → List ValueType
@@ -82,23 +82,23 @@ params_of None = []
 abbrev pub call_end : Place → ℕ → List ℕ → Grammar StmtTree
 call_end at levels name =
     sequence (the_mark Open) (λ tt.
-    sequence (enclosed at (expression_text at levels) (arguments (params_of (function_of (at.names name)))) at.statement) (λ parts.
+    sequence (enclosed at (expression_form at levels) (arguments (params_of (function_of (at.names name)))) at.statement) (λ parts.
     ended Semicolon (call_statement name (exprs parts.trees))))
 
-abbrev pub call_text : Place → ℕ → Grammar StmtTree
-call_text at levels =
+abbrev pub call_form : Place → ℕ → Grammar StmtTree
+call_form at levels =
     sequence a_name (λ name. checks (if_missing (function_of (at.names name)) (Unknown, at.statement)) (call_end at levels name))
 
 -- what follows `return`
 abbrev pub return_end : Place → ℕ → Returned → Grammar (Said StmtTree)
 return_end at levels returned =
-    sequence (expression_text at levels) (λ value.
+    sequence (expression_form at levels) (λ value.
     sequence (the_mark Semicolon) (λ tt.
     checks (or_else (settled value) (unless_so (may_meet returned value.ty) (misfit_at at.statement)))
     (gives (said (met value.ty) (return_value value.tree)))))
 
-abbrev pub return_text : Place → ℕ → Returned → Grammar (Said StmtTree)
-return_text at levels returned =
+abbrev pub return_form : Place → ℕ → Returned → Grammar (Said StmtTree)
+return_form at levels returned =
     sequence (the_word (codes "return")) (λ tt. checks (unless_so (may_return at.scope) (misfit_at at.statement)) (return_end at levels returned))
 
 -- what follows `bgp_next_hop`
@@ -125,25 +125,25 @@ pairs_end at levels = change_end at levels Pair add_pair PairSet delete_pairs
 abbrev pub triples_end : Place → ℕ → Grammar StmtTree
 triples_end at levels = change_end at levels Triple add_triple TripleSet delete_triples
 
-abbrev pub verdict_text : List ℕ → StmtTree → Grammar StmtTree
-verdict_text word verdict = sequence (the_word word) (λ tt. ended Semicolon verdict)
+abbrev pub verdict_form : List ℕ → StmtTree → Grammar StmtTree
+verdict_form word verdict = sequence (the_word word) (λ tt. ended Semicolon verdict)
 
 -- a statement that returns nothing
-unfoldable pub change_text : Place → ℕ → Grammar StmtTree
-change_text at levels =
-    choice (call_text at levels)
+unfoldable pub change_form : Place → ℕ → Grammar StmtTree
+change_form at levels =
+    choice (call_form at levels)
     (choice (sequence (the_word (codes "bgp_next_hop")) (λ tt. next_hop_end at levels))
     (choice (sequence (the_word (codes "bgp_path")) (λ tt. prepend_end at levels))
     (choice (sequence (the_word (codes "bgp_community")) (λ tt. pairs_end at levels))
     (choice (sequence (the_word (codes "bgp_large_community")) (λ tt. triples_end at levels))
-    (choice (verdict_text (codes "accept") accept)
-    (verdict_text (codes "reject") reject))))))
+    (choice (verdict_form (codes "accept") accept)
+    (verdict_form (codes "reject") reject))))))
 
-abbrev pub plain_text : Frame → ℕ → Returned → Grammar (Said StmtTree)
-plain_text frame levels returned =
+abbrev pub plain_form : Frame → ℕ → Returned → Grammar (Said StmtTree)
+plain_form frame levels returned =
     here (λ statement.
-    choice (return_text (place_in frame statement) levels returned)
-    (sequence (change_text (place_in frame statement) levels) (λ change. gives (said returned change))))
+    choice (return_form (place_in frame statement) levels returned)
+    (sequence (change_form (place_in frame statement) levels) (λ change. gives (said returned change))))
 
 -- Labels of a `case`: numbers and ranges, or states.
 
@@ -157,11 +157,11 @@ abbrev pub state_label : Bool → ℕ → Grammar Label
 state_label is_of_states place =
     sequence (takes (word_in state_in)) (λ state. checks (unless_so is_of_states (misfit_at place)) (gives (IsState state)))
 
-abbrev pub label_text : Bool → ℕ → Grammar Label
-label_text is_of_states place = choice (number_label is_of_states place) (state_label is_of_states place)
+abbrev pub label_form : Bool → ℕ → Grammar Label
+label_form is_of_states place = choice (number_label is_of_states place) (state_label is_of_states place)
 
-abbrev pub labels_text : Bool → ℕ → Grammar (List Label)
-labels_text is_of_states place = sequence (listed (λ before. label_text is_of_states place)) (λ labels. ended Colon labels)
+abbrev pub labels_form : Bool → ℕ → Grammar (List Label)
+labels_form is_of_states place = sequence (listed (λ before. label_form is_of_states place)) (λ labels. ended Colon labels)
 
 abbrev pub is_state : ValueType → Bool
 is_state ty = same_type ty State
@@ -215,10 +215,10 @@ is_case_else in_arm tokens = in_arm && is_there (behind (is_word (codes "else"))
 abbrev pub is_if_else : Bool → List Kind → Bool
 is_if_else in_arm tokens = is_else tokens && not (is_case_else in_arm tokens)
 
-abbrev pub block_text : Deeper → Returned → Grammar (Said StmtTree)
-block_text (deeper levels statement) returned =
+abbrev pub block_form : Deeper → Returned → Grammar (Said StmtTree)
+block_form (deeper levels statement) returned =
     sequence (the_mark BlockOpen) (λ tt. sequence (block_end statement returned) (λ body. gives (said body.returned (block (stmts body.it)))))
-block_text nothing returned = bars is_block Deep never
+block_form nothing returned = bars is_block Deep never
 
 -- the words with which a statement begins that holds others or returns
 abbrev pub begins_control : List ℕ → Bool
@@ -251,36 +251,36 @@ no_branch frame =
     (here (λ place. sequence (takes (word_in statement_word)) (λ word. checks (Some (deep_word frame.scope word place)) never))))
 
 -- a branch of an `if`: a block's statements, or one statement
-abbrev pub branch_text : Frame → Deeper → Bool → Returned → Grammar (Said (List StmtTree))
-branch_text frame (deeper levels statement) in_arm returned =
+abbrev pub branch_form : Frame → Deeper → Bool → Returned → Grammar (Said (List StmtTree))
+branch_form frame (deeper levels statement) in_arm returned =
     choice (sequence (the_mark BlockOpen) (λ tt. block_end statement returned))
     (unless is_block (sequence (statement in_arm returned) (λ one. gives (said one.returned (one.it ∷ [])))))
-branch_text frame nothing in_arm returned = no_branch frame
+branch_form frame nothing in_arm returned = no_branch frame
 
 -- what an `if` does else; the `else` belongs to the nearest `if`
-abbrev pub else_text : Frame → Deeper → Bool → ExprTree → Said (List StmtTree) → Grammar (Said StmtTree)
-else_text frame inner in_arm test then_do =
+abbrev pub else_form : Frame → Deeper → Bool → ExprTree → Said (List StmtTree) → Grammar (Said StmtTree)
+else_form frame inner in_arm test then_do =
     choice
     (unless (is_case_else in_arm)
     (sequence (the_word (codes "else")) (λ tt.
-    sequence (branch_text frame inner in_arm then_do.returned) (λ else_do.
+    sequence (branch_form frame inner in_arm then_do.returned) (λ else_do.
     gives (said else_do.returned (if_then test (stmts then_do.it) (stmts else_do.it)))))))
     (unless (is_if_else in_arm) (gives (said then_do.returned (if_then test (stmts then_do.it) (stmts [])))))
 
 -- the test of an `if`, and `then`
 abbrev pub test_end : Place → ℕ → Grammar ExprTree
 test_end at levels =
-    sequence (expression_text at levels) (λ test.
+    sequence (expression_form at levels) (λ test.
     sequence (the_word (codes "then")) (λ tt. checks (fits test Truth at.statement) (gives test.tree)))
 
 -- what follows `if`
 abbrev pub if_end : Place → Frame → ℕ → Deeper → Bool → Returned → Grammar (Said StmtTree)
 if_end at frame levels inner in_arm returned =
     sequence (test_end at levels) (λ test.
-    sequence (branch_text frame inner in_arm returned) (λ then_do. else_text frame inner in_arm test then_do))
+    sequence (branch_form frame inner in_arm returned) (λ then_do. else_form frame inner in_arm test then_do))
 
-abbrev pub if_text : Frame → ℕ → Deeper → Bool → Returned → Grammar (Said StmtTree)
-if_text frame levels inner in_arm returned =
+abbrev pub if_form : Frame → ℕ → Deeper → Bool → Returned → Grammar (Said StmtTree)
+if_form frame levels inner in_arm returned =
     here (λ statement. sequence (the_word (codes "if")) (λ tt. if_end (place_in frame statement) frame levels inner in_arm returned))
 
 -- the arms of a `case` so far, from the first one on
@@ -298,12 +298,12 @@ arms (a ∷ others) = arms_more a.0 (stmts a.1) (arms others)
 abbrev pub arm_round : Statements → Bool → ℕ → Arms → Grammar (Step Arms Arms)
 arm_round statement is_of_states place before =
     choice
-    (sequence (labels_text is_of_states place) (λ labels.
+    (sequence (labels_form is_of_states place) (λ labels.
     sequence (statements_of statement true before.returned) (λ body. gives (onward (with_arm before labels body)))))
     (gives (done before))
 
-abbrev pub arms_text : Statements → Bool → ℕ → Returned → Grammar Arms
-arms_text statement is_of_states place returned = rounds (arm_round statement is_of_states place) (said returned [])
+abbrev pub arms_form : Statements → Bool → ℕ → Returned → Grammar Arms
+arms_form statement is_of_states place returned = rounds (arm_round statement is_of_states place) (said returned [])
 
 -- what a `case` does where no arm has the value, and its end
 abbrev pub case_end : Statements → Returned → Grammar (Said (List StmtTree))
@@ -322,40 +322,40 @@ subject_of operand = record { on = operand.tree; is_of_states = is_state operand
 -- what a `case` is about, and the brace
 abbrev pub subject_end : Place → ℕ → Grammar Subject
 subject_end at levels =
-    sequence (expression_text at levels) (λ on.
+    sequence (expression_form at levels) (λ on.
     sequence (the_mark BlockOpen) (λ tt. checks (or_else (settled on) (no_case on.ty at.statement)) (gives (subject_of on))))
 
 -- what follows `case`
 abbrev pub case_body : Place → ℕ → Statements → Returned → Grammar (Said StmtTree)
 case_body at levels statement returned =
     sequence (subject_end at levels) (λ subject.
-    sequence (arms_text statement subject.is_of_states at.statement returned) (λ some_arms.
+    sequence (arms_form statement subject.is_of_states at.statement returned) (λ some_arms.
     sequence (case_end statement some_arms.returned) (λ other.
     gives (said other.returned (case_of subject.on (arms some_arms.it) (stmts other.it))))))
 
 -- a `case`, which is a level; its expression is in it
-abbrev pub case_text : Frame → Deeper → Returned → Grammar (Said StmtTree)
-case_text frame (deeper levels statement) returned =
+abbrev pub case_form : Frame → Deeper → Returned → Grammar (Said StmtTree)
+case_form frame (deeper levels statement) returned =
     here (λ place. sequence (the_word (codes "case")) (λ tt. case_body (place_in frame place) levels statement returned))
-case_text frame nothing returned = bars (is_next (is_word (codes "case"))) Deep never
+case_form frame nothing returned = bars (is_next (is_word (codes "case"))) Deep never
 
 unfoldable pub statement_with : Frame → ℕ → Deeper → Statements
 statement_with frame levels inner in_arm returned =
-    choice (block_text inner returned)
-    (choice (if_text frame levels inner in_arm returned)
-    (choice (case_text frame inner returned)
-    (plain_text frame levels returned)))
+    choice (block_form inner returned)
+    (choice (if_form frame levels inner in_arm returned)
+    (choice (case_form frame inner returned)
+    (plain_form frame levels returned)))
 
 -- a statement, with so many levels below it at most
-abbrev pub statement_text : Frame → ℕ → Statements
-statement_text frame zero = statement_with frame zero nothing
-statement_text frame (suc levels) = statement_with frame (suc levels) (deeper levels (statement_text frame levels))
+abbrev pub statement_form : Frame → ℕ → Statements
+statement_form frame zero = statement_with frame zero nothing
+statement_form frame (suc levels) = statement_with frame (suc levels) (deeper levels (statement_form frame levels))
 
 -- the statements one level deeper, where so many levels are left
 abbrev pub below : Frame → ℕ → Deeper
 below frame zero = nothing
-below frame (suc levels) = deeper levels (statement_text frame levels)
+below frame (suc levels) = deeper levels (statement_form frame levels)
 
 -- the statements of a block with so many levels in it, and its end
-abbrev pub body_text : Frame → ℕ → Returned → Grammar (Said (List StmtTree))
-body_text frame levels returned = block_end (statement_text frame levels) returned
+abbrev pub body_form : Frame → ℕ → Returned → Grammar (Said (List StmtTree))
+body_form frame levels returned = block_end (statement_form frame levels) returned

@@ -16,7 +16,7 @@ use Rattle.ixp_tokens.specs.Reading.{Read, read}
 use Rattle.ixp_tokens.specs.Pieces.{the_mark, a_number, same_mark, is_mark, is_word, is_next, behind}
 use Rattle.ixp_exprs.specs.declared.types.ValueType.{ValueType}
 use Rattle.ixp_exprs.specs.Names.{names_of}
-use Rattle.ixp_stmts.specs.Statements.{Frame, Returned, Said, said, Deeper, Subject, begins_statement, branch_text, is_state}
+use Rattle.ixp_stmts.specs.Statements.{Frame, Returned, Said, said, Deeper, Subject, begins_statement, branch_form, is_state}
 use Rattle.ixp_stmts.specs.declared.label.Case.{Case}
 use Rattle.ixp_stmts.specs.declared.stmt.Subject.{Subject as HeldSubject}
 use Rattle.ixp_stmts.specs.declared.body.Frame.{Frame as Held}
@@ -61,7 +61,7 @@ behind_else in_arm tokens = unless_colon in_arm (behind (is_word (codes "else"))
 -- what is read of what an `if` does else, where this follows its `else`
 abbrev pub else_read : Frame → Deeper → Bool → Returned → List Kind → Option (List Kind) → Read (Said (List StmtTree))
 else_read frame inner in_arm returned tokens None = Ok (said returned [], tokens)
-else_read frame inner in_arm returned tokens (Some others) = read (branch_text frame inner in_arm returned) others
+else_read frame inner in_arm returned tokens (Some others) = read (branch_form frame inner in_arm returned) others
 
 -- what a `case` is about
 abbrev pub subject_view : HeldSubject → Subject

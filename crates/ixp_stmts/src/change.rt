@@ -12,7 +12,7 @@ ghost use Rattle.ixp_exprs.specs.Lists.{ended};
 ghost use Rattle.ixp_exprs.specs.Groups.{place_of};
 ghost use Rattle.ixp_exprs.specs.Sets.{unless_so};
 ghost use Rattle.ixp_exprs.specs.Operands.{operand_of, or_else, settled, misfit_at};
-ghost use Rattle.ixp_stmts.specs.Statements.{said, may_meet, met, value_end, enclosed_end, call_text, return_end, next_hop_end, prepend_end, pairs_end, triples_end, change_text, plain_text};
+ghost use Rattle.ixp_stmts.specs.Statements.{said, may_meet, met, value_end, enclosed_end, call_form, return_end, next_hop_end, prepend_end, pairs_end, triples_end, change_form, plain_form};
 ghost use Rattle.ixp_stmts.specs.Views.{frame_of, returned_of};
 
 use crate::body::{Frame, Returned, misfit, unknown};
@@ -85,7 +85,7 @@ fn call_at<'t>(
     depth: u32,
     tokens: &'t [Token],
 ) -> Result<(Stmt, &'t [Token]), Fault>
-    ensures reads { Gives (λ x. (stmt_view x.0, kinds x.1.now)) result (read (call_text (place_of cx.entry) depth) (kinds tokens.now)) }
+    ensures reads { Gives (λ x. (stmt_view x.0, kinds x.1.now)) result (read (call_form (place_of cx.entry) depth) (kinds tokens.now)) }
     ensures shorter { IfOk result (λ x. length x.1.now < length tokens.now) }
 {
     let (name, rest) = name_at(tokens)?;
@@ -246,13 +246,13 @@ fn is_name(tokens: &[Token]) -> bool
 }
 
 /// A statement that holds no others and returns nothing.
-#[tactic(auto, unfolding(crate::specs::Statements::change_text))]
+#[tactic(auto, unfolding(crate::specs::Statements::change_form))]
 fn change_at<'t>(
     cx: Context<'_>,
     depth: u32,
     tokens: &'t [Token],
 ) -> Result<(Stmt, &'t [Token]), Fault>
-    ensures reads { Gives (λ x. (stmt_view x.0, kinds x.1.now)) result (read (change_text (place_of cx.entry) depth) (kinds tokens.now)) }
+    ensures reads { Gives (λ x. (stmt_view x.0, kinds x.1.now)) result (read (change_form (place_of cx.entry) depth) (kinds tokens.now)) }
     ensures shorter { IfOk result (λ x. length x.1.now < length tokens.now) }
 {
     if is_name(tokens) {
@@ -284,7 +284,7 @@ pub(crate) fn plain_at<'t>(
     returned: &mut Returned,
     tokens: &'t [Token],
 ) -> Result<(Stmt, &'t [Token]), Fault>
-    ensures reads { Gives (λ x. (said (returned_of returned.new) (stmt_view x.0), kinds x.1.now)) result (read (plain_text (frame_of frame.entry) depth (returned_of returned.old)) (kinds tokens.now)) }
+    ensures reads { Gives (λ x. (said (returned_of returned.new) (stmt_view x.0), kinds x.1.now)) result (read (plain_form (frame_of frame.entry) depth (returned_of returned.old)) (kinds tokens.now)) }
     ensures shorter { IfOk result (λ x. length x.1.now < length tokens.now) }
 {
     let cx = frame.statement(tokens);

@@ -1,7 +1,7 @@
 //! The labels of a `case`.
 ghost use Rattle.std.specs.Prelude.{◌≡◌, ◌<◌, ◌≤◌, true, length, IfOk};
 ghost use Rattle.ixp_tokens.specs.Reading.{read, kinds, Gives, begins};
-ghost use Rattle.ixp_stmts.specs.Statements.{label_text, labels_text, no_case};
+ghost use Rattle.ixp_stmts.specs.Statements.{label_form, labels_form, no_case};
 ghost use Rattle.ixp_stmts.specs.Views.{range_end, case_for};
 ghost use Rattle.ixp_exprs.specs.Answers.{Passes};
 ghost use Rattle.ixp_exprs.specs.Groups.{closing};
@@ -43,7 +43,7 @@ impl Case {
 
 /// Whether a label is next.
 pub(crate) fn is_label(tokens: &[Token]) -> bool
-    ensures { result ≡ begins (label_text true 0) (kinds tokens.now) }
+    ensures { result ≡ begins (label_form true 0) (kinds tokens.now) }
 {
     let [first, ..] = tokens else {
         return false;
@@ -69,7 +69,7 @@ fn range_at(low: u32, tokens: &[Token]) -> Result<(Label, &[Token]), Fault>
 
 /// One label of the case.
 fn label_at(case: Case, tokens: &[Token]) -> Result<(Label, &[Token]), Fault>
-    ensures reads { Gives (λ x. (x.0, kinds x.1.now)) result (read (label_text case.is_of_states case.place) (kinds tokens.now)) }
+    ensures reads { Gives (λ x. (x.0, kinds x.1.now)) result (read (label_form case.is_of_states case.place) (kinds tokens.now)) }
     ensures shorter { IfOk result (λ x. length x.1.now < length tokens.now) }
 {
     let [first, rest @ ..] = tokens else {
@@ -97,7 +97,7 @@ fn label_round<'t>(
     labels: &mut Items<Label>,
     tokens: &'t [Token],
 ) -> Result<(bool, &'t [Token]), Fault>
-    ensures reads { Gives (λ x. (closing x.0 labels.new, kinds x.1.now)) result (read (list_round (λ before. label_text case.is_of_states case.place) labels.old) (kinds tokens.now)) }
+    ensures reads { Gives (λ x. (closing x.0 labels.new, kinds x.1.now)) result (read (list_round (λ before. label_form case.is_of_states case.place) labels.old) (kinds tokens.now)) }
     ensures shorter { IfOk result (λ x. length x.1.now < length tokens.now) }
 {
     let (label, rest) = label_at(case, tokens)?;
@@ -110,7 +110,7 @@ fn label_round<'t>(
 
 /// Labels, with commas between.
 fn labels_in(alloc: Global, case: Case, tokens: &[Token]) -> Result<(Items<Label>, &[Token]), Fault>
-    ensures reads { Gives (λ x. (x.0, kinds x.1.now)) result (read (listed (λ before. label_text case.is_of_states case.place)) (kinds tokens.now)) }
+    ensures reads { Gives (λ x. (x.0, kinds x.1.now)) result (read (listed (λ before. label_form case.is_of_states case.place)) (kinds tokens.now)) }
     ensures shorter { IfOk result (λ x. length x.1.now < length tokens.now) }
 {
     let mut labels = Items::new(alloc);
@@ -130,7 +130,7 @@ pub(crate) fn labels_at(
     case: Case,
     tokens: &[Token],
 ) -> Result<(Items<Label>, &[Token]), Fault>
-    ensures reads { Gives (λ x. (x.0, kinds x.1.now)) result (read (labels_text case.is_of_states case.place) (kinds tokens.now)) }
+    ensures reads { Gives (λ x. (x.0, kinds x.1.now)) result (read (labels_form case.is_of_states case.place) (kinds tokens.now)) }
     ensures shorter { IfOk result (λ x. length x.1.now < length tokens.now) }
 {
     let (labels, rest) = labels_in(alloc, case, tokens)?;

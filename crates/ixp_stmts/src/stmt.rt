@@ -5,7 +5,7 @@ ghost use Rattle.ixp_tokens.specs.declared.token.Mark.TheVariants.{Colon};
 ghost use Rattle.ixp_tokens.specs.Pieces.{is_mark, is_next};
 ghost use Rattle.ixp_tokens.specs.Reading.{read, kinds, Gives};
 ghost use Rattle.ixp_exprs.specs.Groups.{place_of};
-ghost use Rattle.ixp_stmts.specs.Statements.{said, below, test_end, subject_end, branch_text, if_end, arms_text, case_end, case_body, statement_text, statements_of, body_text};
+ghost use Rattle.ixp_stmts.specs.Statements.{said, below, test_end, subject_end, branch_form, if_end, arms_form, case_end, case_body, statement_form, statements_of, body_form};
 ghost use Rattle.ixp_stmts.specs.Views.{frame_of, returned_of, begins_with, behind_else, else_read, subject_view, arms_list};
 
 use crate::body::{Frame, Returned, begins_statement, deep, no_branch};
@@ -104,7 +104,7 @@ fn statement<'t>(
     returned: &mut Returned,
     tokens: &'t [Token],
 ) -> Result<(Stmt, &'t [Token]), Fault>
-    ensures reads { Gives (λ x. (said (returned_of returned.new) (stmt_view x.0), kinds x.1.now)) result (read (statement_text (frame_of frame.entry) depth in_arm (returned_of returned.old)) (kinds tokens.now)) }
+    ensures reads { Gives (λ x. (said (returned_of returned.new) (stmt_view x.0), kinds x.1.now)) result (read (statement_form (frame_of frame.entry) depth in_arm (returned_of returned.old)) (kinds tokens.now)) }
     ensures shorter { IfOk result (λ x. length x.1.now < length tokens.now) }
 {
     if let Some(behind) = after_mark(Mark::BlockOpen, tokens) {
@@ -179,7 +179,7 @@ fn case_at<'t>(
     returned: &mut Returned,
     tokens: &'t [Token],
 ) -> Result<(Stmt, &'t [Token]), Fault>
-    ensures reads { Gives (λ x. (said (returned_of returned.new) (stmt_view x.0), kinds x.1.now)) result (read (case_body (place_of cx.entry) depth (statement_text (frame_of frame.entry) depth) (returned_of returned.old)) (kinds tokens.now)) }
+    ensures reads { Gives (λ x. (said (returned_of returned.new) (stmt_view x.0), kinds x.1.now)) result (read (case_body (place_of cx.entry) depth (statement_form (frame_of frame.entry) depth) (returned_of returned.old)) (kinds tokens.now)) }
     ensures shorter { IfOk result (λ x. length x.1.now < length tokens.now) }
 {
     let (subject, rest) = subject_at(cx, depth, tokens)?;
@@ -198,7 +198,7 @@ fn statements<'t>(
     returned: &mut Returned,
     tokens: &'t [Token],
 ) -> Result<(Vec<Stmt>, &'t [Token]), Fault>
-    ensures reads { Gives (λ x. (said (returned_of returned.new) (stmts_view x.0.items), kinds x.1.now)) result (read (statements_of (statement_text (frame_of frame.entry) depth) in_arm (returned_of returned.old)) (kinds tokens.now)) }
+    ensures reads { Gives (λ x. (said (returned_of returned.new) (stmts_view x.0.items), kinds x.1.now)) result (read (statements_of (statement_form (frame_of frame.entry) depth) in_arm (returned_of returned.old)) (kinds tokens.now)) }
     ensures shorter { IfOk result (λ x. length x.1.now ≤ length tokens.now) }
 {
     let mut body = Vec::new(frame.alloc);
@@ -219,7 +219,7 @@ pub fn block_end<'t>(
     returned: &mut Returned,
     tokens: &'t [Token],
 ) -> Result<(Vec<Stmt>, &'t [Token]), Fault>
-    ensures reads { Gives (λ x. (said (returned_of returned.new) (stmts_view x.0.items), kinds x.1.now)) result (read (body_text (frame_of frame.entry) depth (returned_of returned.old)) (kinds tokens.now)) }
+    ensures reads { Gives (λ x. (said (returned_of returned.new) (stmts_view x.0.items), kinds x.1.now)) result (read (body_form (frame_of frame.entry) depth (returned_of returned.old)) (kinds tokens.now)) }
     ensures shorter { IfOk result (λ x. length x.1.now < length tokens.now) }
 {
     let (body, rest) = statements(frame, depth, false, returned, tokens)?;
@@ -236,7 +236,7 @@ fn branch<'t>(
     returned: &mut Returned,
     tokens: &'t [Token],
 ) -> Result<(Vec<Stmt>, &'t [Token]), Fault>
-    ensures reads { Gives (λ x. (said (returned_of returned.new) (stmts_view x.0.items), kinds x.1.now)) result (read (branch_text (frame_of frame.entry) (below (frame_of frame.entry) depth) in_arm (returned_of returned.old)) (kinds tokens.now)) }
+    ensures reads { Gives (λ x. (said (returned_of returned.new) (stmts_view x.0.items), kinds x.1.now)) result (read (branch_form (frame_of frame.entry) (below (frame_of frame.entry) depth) in_arm (returned_of returned.old)) (kinds tokens.now)) }
     ensures shorter { IfOk result (λ x. length x.1.now < length tokens.now) }
 {
     if depth == 0 {
@@ -260,7 +260,7 @@ fn arms_at<'t>(
     returned: &mut Returned,
     tokens: &'t [Token],
 ) -> Result<(Arms, &'t [Token]), Fault>
-    ensures reads { Gives (λ x. (said (returned_of returned.new) (arms_list x.0.items), kinds x.1.now)) result (read (arms_text (statement_text (frame_of frame.entry) depth) case.is_of_states case.place (returned_of returned.old)) (kinds tokens.now)) }
+    ensures reads { Gives (λ x. (said (returned_of returned.new) (arms_list x.0.items), kinds x.1.now)) result (read (arms_form (statement_form (frame_of frame.entry) depth) case.is_of_states case.place (returned_of returned.old)) (kinds tokens.now)) }
     ensures shorter { IfOk result (λ x. length x.1.now ≤ length tokens.now) }
 {
     let mut arms = Vec::new(frame.alloc);
@@ -282,7 +282,7 @@ fn case_end<'t>(
     returned: &mut Returned,
     tokens: &'t [Token],
 ) -> Result<(Vec<Stmt>, &'t [Token]), Fault>
-    ensures reads { Gives (λ x. (said (returned_of returned.new) (stmts_view x.0.items), kinds x.1.now)) result (read (case_end (statement_text (frame_of frame.entry) depth) (returned_of returned.old)) (kinds tokens.now)) }
+    ensures reads { Gives (λ x. (said (returned_of returned.new) (stmts_view x.0.items), kinds x.1.now)) result (read (case_end (statement_form (frame_of frame.entry) depth) (returned_of returned.old)) (kinds tokens.now)) }
     ensures shorter { IfOk result (λ x. length x.1.now < length tokens.now) }
 {
     if let Some(rest) = after_word(b"else", tokens) {

@@ -2,7 +2,7 @@ use Rattle.std.proofs.Common.{◌≡◌, ◌+◌, ◌*◌, ◌≤◌, ◌<◌, �
 use Rattle.ixp_tokens.specs.Reading.{read, kinds, read_rounds}
 use Rattle.ixp_exprs.specs.Groups.{place_of, shape_of, parts_of, limit}
 use Rattle.ixp_exprs.specs.Joints.{joint_mark, other_mark, joined_by, chain_of}
-use Rattle.ixp_exprs.specs.Expressions.{expression_text, unary_text, chain_part, part_text, enclosed}
+use Rattle.ixp_exprs.specs.Expressions.{expression_form, unary_form, chain_part, part_form, enclosed}
 use Rattle.ixp_exprs.proofs.chain.+expr.Given as goal
 
 abbrev pub decreases-unary : goal.decreases-unary
@@ -20,8 +20,8 @@ decreases-parts_at l = 4 * l.depth + 3
 abbrev pub invariant-expression-parts : goal.invariant-expression-parts
 invariant-expression-parts l = record {
   reads : (k : ℕ) × (length l.left ≤ k)
-      × (read_rounds k (λ c ts. read (chain_part (unary_text (place_of l.cx) l.depth) (joint_mark l.chain.joint) (other_mark l.chain.joint) (joined_by l.chain.joint) c) ts) (chain_of l.chain) (kinds l.left)
-      ≡ read (expression_text (place_of l.cx) l.depth) (kinds l.fn.tokens));
+      × (read_rounds k (λ c ts. read (chain_part (unary_form (place_of l.cx) l.depth) (joint_mark l.chain.joint) (other_mark l.chain.joint) (joined_by l.chain.joint) c) ts) (chain_of l.chain) (kinds l.left)
+      ≡ read (expression_form (place_of l.cx) l.depth) (kinds l.fn.tokens));
   shorter : length l.left < length l.fn.tokens;
 }
 
@@ -31,8 +31,8 @@ decreases-expression-parts l = length l.left
 abbrev pub invariant-parts_at-parts : goal.invariant-parts_at-parts
 invariant-parts_at-parts l = record {
   reads : (k : ℕ) × (length l.left ≤ k)
-      × (read_rounds k (λ s ts. read (part_text (expression_text (place_of l.cx) l.depth) (shape_of l.group.shape) l.group.place s) ts) (parts_of l.parts) (kinds l.left)
-      ≡ read (enclosed (place_of l.cx) (expression_text (place_of l.cx) l.depth) (shape_of l.group.shape) l.group.place) (kinds l.fn.tokens));
+      × (read_rounds k (λ s ts. read (part_form (expression_form (place_of l.cx) l.depth) (shape_of l.group.shape) l.group.place s) ts) (parts_of l.parts) (kinds l.left)
+      ≡ read (enclosed (place_of l.cx) (expression_form (place_of l.cx) l.depth) (shape_of l.group.shape) l.group.place) (kinds l.fn.tokens));
   room : length l.parts.exprs.items + 1 < limit l.group.shape (length l.parts.exprs.items);
   shorter : length l.left ≤ length l.fn.tokens;
 }

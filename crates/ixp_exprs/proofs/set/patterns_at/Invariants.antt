@@ -1,12 +1,12 @@
 use Rattle.std.proofs.Common.{◌≡◌, ◌≤◌, ◌<◌, ℕ, nat_lt, length}
 use Rattle.ixp_tokens.specs.Reading.{read, kinds, read_rounds}
 use Rattle.ixp_exprs.specs.Lists.{list_round, listed}
-use Rattle.ixp_exprs.specs.Sets.{pattern_text}
+use Rattle.ixp_exprs.specs.Sets.{set_pattern_form}
 use Rattle.ixp_exprs.proofs.set.patterns_at.Given as goal
 
 abbrev pub invariant-each : goal.invariant-each
 invariant-each l = record {
-  reads : (k : ℕ) × (length l.left ≤ k) × (read_rounds k (λ s ts. read (list_round (λ before. pattern_text) s) ts) l.patterns (kinds l.left) ≡ read (listed (λ before. pattern_text)) (kinds l.tokens));
+  reads : (k : ℕ) × (length l.left ≤ k) × (read_rounds k (λ s ts. read (list_round (λ before. set_pattern_form) s) ts) l.patterns (kinds l.left) ≡ read (listed (λ before. set_pattern_form)) (kinds l.tokens));
   shorter : length l.left ≤ length l.tokens;
 }
 

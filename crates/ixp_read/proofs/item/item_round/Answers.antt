@@ -4,7 +4,7 @@ use Rattle.ixp_tokens.specs.Grammars.{onward, done}
 use Rattle.ixp_tokens.specs.Reading.{read, kinds, ◌>>=◌}
 use Rattle.ixp_exprs.specs.Names.{names_of}
 use Rattle.ixp_exprs.proofs.Rounds.{passed_on}
-use Rattle.ixp_read.specs.Items.{item_text, config_round}
+use Rattle.ixp_read.specs.Items.{item_form, config_round}
 use Rattle.ixp_read.specs.Views.{begun_of}
 use Rattle.ixp_read.proofs.RoundSteps.{at_end, none_left, some_left, added, round_item, with_one}
 use Rattle.ixp_read.proofs.item.item_round.Goals as goal
@@ -21,7 +21,7 @@ pub returns-in_err-item-clause-reads : goal.returns-in_err-item-clause-reads
 returns-in_err-item-clause-reads c =
     let p = err_from_is_err_and c.from_residual.result c.from_residual.ensures.1 in
     rw (p.1, p.2, round_item c.args.items.now.items (names_of c.args.env.now) (length c.as_slice-before.result.now) (kinds c.args.tokens.now) (ap length c.as_slice-before.ensures.value) (some_left c.args.tokens.now c.if-is_empty.ensures))
-    (passed_on _ (read (item_text (length c.as_slice-before.result.now) (names_of c.args.env.now)) (kinds c.args.tokens.now)) (added c.args.items.now.items (names_of c.args.env.now)) c.in_err-item.ensures.reads)
+    (passed_on _ (read (item_form (length c.as_slice-before.result.now) (names_of c.args.env.now)) (kinds c.args.tokens.now)) (added c.args.items.now.items (names_of c.args.env.now)) c.in_err-item.ensures.reads)
 
 pub returns-clause-reads : goal.returns-clause-reads
 returns-clause-reads c =

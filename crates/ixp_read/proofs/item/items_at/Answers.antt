@@ -5,7 +5,7 @@ use Rattle.ixp_tokens.specs.Reading.{read, kinds}
 use Rattle.ixp_exprs.specs.Names.{names_of}
 use Rattle.ixp_exprs.proofs.Firsts.{kinds_length}
 use Rattle.ixp_exprs.proofs.Rounds.{ends, round_fails, goes_on}
-use Rattle.ixp_read.specs.Items.{config_round, config_text}
+use Rattle.ixp_read.specs.Items.{config_round, config_form}
 use Rattle.ixp_read.specs.Views.{begun_of}
 use Rattle.ixp_read.proofs.item.items_at.Goals as goal
 
@@ -18,7 +18,7 @@ returns-in_err-is_last c =
     record {
       reads = rw (p.1, p.2)
           (round_fails (λ s ts. read (config_round s) ts) c.each.invariant.0 (begun_of c.each.items.items (names_of c.each.env)) (kinds c.each.left.now)
-          (read config_text (kinds c.args.tokens.now)) c.each.invariant.2 _ c.in_err-is_last.ensures.reads);
+          (read config_form (kinds c.args.tokens.now)) c.each.invariant.2 _ c.in_err-is_last.ensures.reads);
     }
 
 pub returns-then-is_last : goal.returns-then-is_last

@@ -1,7 +1,7 @@
 use Rattle.std.proofs.Common.{◌≡◌, ◌+◌, ◌*◌, ◌≤◌, ℕ, length}
 use Rattle.ixp_lang.specs.Views.{stmts_view}
 use Rattle.ixp_tokens.specs.Reading.{read, kinds, read_rounds}
-use Rattle.ixp_stmts.specs.Statements.{said, statement_text, statement_round, statements_of, arm_round, arms_text}
+use Rattle.ixp_stmts.specs.Statements.{said, statement_form, statement_round, statements_of, arm_round, arms_form}
 use Rattle.ixp_stmts.specs.Views.{frame_of, returned_of, arms_list}
 use Rattle.ixp_stmts.proofs.stmt.+stmt.Given as goal
 
@@ -35,8 +35,8 @@ decreases-case_at l = 8 * l.depth + 7
 abbrev pub invariant-statements-each : goal.invariant-statements-each
 invariant-statements-each l = record {
   reads : (k : ℕ) × (length l.left ≤ k)
-      × (read_rounds k (λ s ts. read (statement_round (statement_text (frame_of l.frame) l.depth) l.in_arm s) ts) (said (returned_of l.returned) (stmts_view l.body.items)) (kinds l.left)
-      ≡ read (statements_of (statement_text (frame_of l.frame) l.depth) l.in_arm (returned_of l.fn.returned)) (kinds l.fn.tokens));
+      × (read_rounds k (λ s ts. read (statement_round (statement_form (frame_of l.frame) l.depth) l.in_arm s) ts) (said (returned_of l.returned) (stmts_view l.body.items)) (kinds l.left)
+      ≡ read (statements_of (statement_form (frame_of l.frame) l.depth) l.in_arm (returned_of l.fn.returned)) (kinds l.fn.tokens));
   shorter : length l.left ≤ length l.fn.tokens;
 }
 
@@ -46,8 +46,8 @@ decreases-statements-each l = length l.left
 abbrev pub invariant-arms_at-each : goal.invariant-arms_at-each
 invariant-arms_at-each l = record {
   reads : (k : ℕ) × (length l.left ≤ k)
-      × (read_rounds k (λ s ts. read (arm_round (statement_text (frame_of l.frame) l.depth) l.case.is_of_states l.case.place s) ts) (said (returned_of l.returned) (arms_list l.arms.items)) (kinds l.left)
-      ≡ read (arms_text (statement_text (frame_of l.frame) l.depth) l.case.is_of_states l.case.place (returned_of l.fn.returned)) (kinds l.fn.tokens));
+      × (read_rounds k (λ s ts. read (arm_round (statement_form (frame_of l.frame) l.depth) l.case.is_of_states l.case.place s) ts) (said (returned_of l.returned) (arms_list l.arms.items)) (kinds l.left)
+      ≡ read (arms_form (statement_form (frame_of l.frame) l.depth) l.case.is_of_states l.case.place (returned_of l.fn.returned)) (kinds l.fn.tokens));
   shorter : length l.left ≤ length l.fn.tokens;
 }
 
