@@ -11,7 +11,7 @@ use Rattle.ixp_lang.specs.Trees.{StmtTree, StmtTrees, stmts, stmts_end, stmts_mo
 use Rattle.ixp_exprs.specs.declared.context.Scope.{Scope}
 use Rattle.ixp_exprs.specs.Names.{Names}
 use Rattle.ixp_exprs.specs.Operands.{settled}
-use Rattle.ixp_stmts.specs.Statements.{Returned, Said, said, Statements, deeper, statements_of, block_end, is_if_else, labels_text, Arms, with_arm, arms, arms_text, case_end, Subject, subject_end, no_case, case_text, Frame}
+use Rattle.ixp_stmts.specs.Statements.{Returned, Said, said, Statements, deeper, statements_of, block_end, is_if_else, labels_form, Arms, with_arm, arms, arms_form, case_end, Subject, subject_end, no_case, case_form, Frame}
 use Rattle.ixp_print.specs.Texts.{state_text}
 use Rattle.ixp_canonical.specs.Canonical.{number, sign, word, list_of, expr_tokens}
 use Rattle.ixp_canonical.specs.CanonicalItems.{label_tokens, stmt_tokens, stmts_tokens, arms_tokens, other_tokens}
@@ -36,7 +36,7 @@ free_state Valid rest = refl
 free_state Invalid rest = refl
 free_state Unknown rest = refl
 
-free_labels : (ls : List Label) (rest : List Kind) → is_if_else true (list_of label_tokens ls (sign mark.Colon rest)) ≡ false
+pub free_labels : (ls : List Label) (rest : List Kind) → is_if_else true (list_of label_tokens ls (sign mark.Colon rest)) ≡ false
 free_labels [] rest = refl
 free_labels (Between low high ∷ ls) rest = free_range (low == high) low _ _
 free_labels (IsState s ∷ ls) rest = free_state s _
@@ -45,7 +45,7 @@ free_arms : (new : List Arm) (others : List Kind) → is_if_else true others ≡
 free_arms [] others free = free
 free_arms (a ∷ new) others free = free_labels a.0 _
 
-free_other : (ss : StmtTrees) (others : List Kind) → is_if_else true (other_tokens ss (sign mark.BlockClose others)) ≡ false
+pub free_other : (ss : StmtTrees) (others : List Kind) → is_if_else true (other_tokens ss (sign mark.BlockClose others)) ≡ false
 free_other stmts_end others = refl
 free_other (stmts_more s ss) others = refl
 
@@ -59,7 +59,7 @@ module _ (names : Names) (scope : Scope) (w : Bool) (statement canonical : State
   abbrev arm : Statements → Bool → ℕ → Arms → Grammar (Step Arms Arms)
   arm st states place before =
       choice
-      (sequence (labels_text states place) (λ labels. sequence (statements_of st true before.returned) (λ body. gives (onward (with_arm before labels body)))))
+      (sequence (labels_form states place) (λ labels. sequence (statements_of st true before.returned) (λ body. gives (onward (with_arm before labels body)))))
       (gives (done before))
 
   abbrev ArmRounds : Statements → Bool → ℕ → ℕ → Arms → Arms → List Kind → List Kind → Type 0
@@ -115,13 +115,13 @@ module _ (names : Names) (scope : Scope) (w : Bool) (statement canonical : State
   some_arms states place (suc k) before after ts rest (next, mid, took, more) = next_arm states place before next after ts mid took (some_arms states place k next after mid rest more)
 
   -- all arms
-  arms_again : (states : Bool) (place : ℕ) (r : Returned) (all : Arms) (ts rest : List Kind) → Took (arms_text statement states place r) all ts rest
-      → (elsewhere : ℕ) (others : List Kind) → is_if_else true others ≡ false → Took (arms_text canonical states elsewhere (kept w r)) (kept_arms all) (arms_tokens (arms all.it) others) others
+  arms_again : (states : Bool) (place : ℕ) (r : Returned) (all : Arms) (ts rest : List Kind) → Took (arms_form statement states place r) all ts rest
+      → (elsewhere : ℕ) (others : List Kind) → is_if_else true others ≡ false → Took (arms_form canonical states elsewhere (kept w r)) (kept_arms all) (arms_tokens (arms all.it) others) others
   arms_again states place r all ts rest (k, took) elsewhere others free =
       by_arms (some_arms states place k (said r []) all ts rest took)
     where
-      by_arms : ArmsAgain states (said r []) all → Took (arms_text canonical states elsewhere (kept w r)) (kept_arms all) (arms_tokens (arms all.it) others) others
-      by_arms (new, is, spells) = subst (λ xs. Took (arms_text canonical states elsewhere (kept w r)) (kept_arms all) (arms_tokens (arms xs) others) others) (sym is) (spells elsewhere others free)
+      by_arms : ArmsAgain states (said r []) all → Took (arms_form canonical states elsewhere (kept w r)) (kept_arms all) (arms_tokens (arms all.it) others) others
+      by_arms (new, is, spells) = subst (λ xs. Took (arms_form canonical states elsewhere (kept w r)) (kept_arms all) (arms_tokens (arms xs) others) others) (sym is) (spells elsewhere others free)
 
   -- What is done where no arm has the value.
 
@@ -156,10 +156,10 @@ module _ (names : Names) (scope : Scope) (w : Bool) (statement canonical : State
       (let whole = (expression_again names scope n s on ts a took (none_settled on.misfit h.0) m v).whole in
       (sound on.tree on.ty whole.0, _, whole.1 s' (sign mark.BlockOpen others) (refl, refl), (tt, _, (refl, refl), (so_again _ _ (is_so _ _ h.1), (refl, refl)))))
 
-  pub case_again : (n m : ℕ) → Within n m → (r : Returned) (one : Said StmtTree) (ts rest : List Kind) → Took (case_text frame (deeper n statement) r) one ts rest → (others : List Kind)
-      → Took (case_text frame (deeper m canonical) (kept w r)) (said (kept w one.returned) one.it) (stmt_tokens one.it others) others
+  pub case_again : (n m : ℕ) → Within n m → (r : Returned) (one : Said StmtTree) (ts rest : List Kind) → Took (case_form frame (deeper n statement) r) one ts rest → (others : List Kind)
+      → Took (case_form frame (deeper m canonical) (kept w r)) (said (kept w one.returned) one.it) (stmt_tokens one.it others) others
   case_again n m v r one ts rest (x, a, word_, (subject, b, about, (all, c, took, (other, d, end, (is, same))))) others =
-      subst (λ (z : Said StmtTree). Took (case_text frame (deeper m canonical) (kept w r)) (said (kept w z.returned) z.it) (stmt_tokens z.it others) others) (sym is) (
+      subst (λ (z : Said StmtTree). Took (case_form frame (deeper m canonical) (kept w r)) (said (kept w z.returned) z.it) (stmt_tokens z.it others) others) (sym is) (
         tt,
         _,
         (refl, refl),

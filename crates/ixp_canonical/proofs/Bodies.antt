@@ -15,9 +15,9 @@ use Rattle.ixp_exprs.specs.Operands.{misfit_at}
 use Rattle.ixp_tokens.specs.Pieces.{the_word}
 use Rattle.ixp_exprs.specs.Lists.{ended}
 use Rattle.ixp_exprs.specs.declared.env.Declared.TheVariants.{Begun}
-use Rattle.ixp_stmts.specs.Statements.{Said, said, body_text}
+use Rattle.ixp_stmts.specs.Statements.{Said, said, body_form}
 use Rattle.ixp_exprs.specs.Declarations.{Declares, standing, free_name, is_free_in}
-use Rattle.ixp_read.specs.Functions.{type_text, Params, param_text, no_params, params_text, as_written, levels_inside, Head, head_text, Body, body_with, frame_in, body_end, function_end, filter_end}
+use Rattle.ixp_read.specs.Functions.{type_form, Params, param_form, no_params, params_form, as_written, levels_inside, Head, head_form, Body, body_with, frame_in, body_end, function_form, filter_form}
 use Rattle.ixp_canonical.specs.Canonical.{name, sign}
 use Rattle.ixp_canonical.specs.CanonicalItems.{ty_tokens, stmts_tokens, body_tokens, param_tokens, more_params_tokens, params_tokens, item_tokens}
 use Rattle.ixp_canonical.proofs.Basics.{is_so, so_again}
@@ -31,7 +31,7 @@ free_again names n ts rest (found, a, token, (fit, (is, same))) others =
 
 -- Parameters.
 
-type_spells : (t : Ty) (rest : List Kind) → Took type_text t (ty_tokens t rest) rest
+pub type_spells : (t : Ty) (rest : List Kind) → Took type_form t (ty_tokens t rest) rest
 type_spells ty.Int rest = (ty.Int, _, (refl, refl), inr (refl, refl))
 type_spells ty.Bool rest = (ty.Bool, _, (refl, refl), inr (refl, refl))
 type_spells ty.Ip rest = (ty.Ip, _, (refl, refl), inr (refl, refl))
@@ -48,16 +48,16 @@ module _ (number : ℕ) where
   -- a parameter is told by its type and name
   ParamAgain : Params → Params → Type 0
   ParamAgain before after =
-      (p : Ty × List ℕ) × (after.params ≡ before.params ++ p ∷ []) × ((others : List Kind) → Took (param_text number before) after (param_tokens p others) others)
+      (p : Ty × List ℕ) × (after.params ≡ before.params ++ p ∷ []) × ((others : List Kind) → Took (param_form number before) after (param_tokens p others) others)
 
-  param_again : (before after : Params) (ts rest : List Kind) → Took (param_text number before) after ts rest → ParamAgain before after
+  param_again : (before after : Params) (ts rest : List Kind) → Took (param_form number before) after ts rest → ParamAgain before after
   unfolding ParamAgain
   param_again before after ts rest (t, a, type_, (n, b, token, (fit, (is, same)))) =
       subst (λ z. ParamAgain before z) (sym is)
       ((t, n), refl, λ others. (t, _, type_spells t (name n others), (n, others, (refl, refl), (so_again _ _ (is_so (is_free_in (before.names n) number) _ fit), (refl, refl)))))
 
   abbrev param_round : Params → Grammar (Step Params Params)
-  param_round before = sequence (param_text number before) (λ params. choice (ended mark.Semicolon (onward params)) (gives (done params)))
+  param_round before = sequence (param_form number before) (λ params. choice (ended mark.Semicolon (onward params)) (gives (done params)))
 
   abbrev ParamRounds : ℕ → Params → Params → List Kind → List Kind → Type 0
   ParamRounds = Rounds (λ s. Took (param_round s))
@@ -99,15 +99,15 @@ module _ (number : ℕ) where
   some_params (suc k) before after ts rest (next, mid, took, more) = next_param before next after ts mid took (some_params k next after mid rest more)
 
   AllAgain : Names → Params → Type 0
-  AllAgain names params = (others : List Kind) → Took (params_text number names) params (sign mark.Open (params_tokens params.params (sign mark.Close others))) others
+  AllAgain names params = (others : List Kind) → Took (params_form number names) params (sign mark.Open (params_tokens params.params (sign mark.Close others))) others
 
   all_again : (names : Names) (params : Params) → ParamsAgain (no_params names) params → AllAgain names params
   unfolding ParamsAgain AllAgain
   all_again names params (p, new, all, spells) others =
-      subst (λ ps. Took (params_text number names) params (sign mark.Open (params_tokens ps (sign mark.Close others))) others) (sym all)
+      subst (λ ps. Took (params_form number names) params (sign mark.Open (params_tokens ps (sign mark.Close others))) others) (sym all)
       (tt, _, (refl, refl), inr (params, _, spells (sign mark.Close others), (tt, _, (refl, refl), (refl, refl))))
 
-  params_again : (names : Names) (params : Params) (ts rest : List Kind) → Took (params_text number names) params ts rest → AllAgain names params
+  params_again : (names : Names) (params : Params) (ts rest : List Kind) → Took (params_form number names) params ts rest → AllAgain names params
   unfolding AllAgain
   params_again names params ts rest (x, a, open_, inl (y, b, close, (is, same))) =
       subst (AllAgain names) (sym is) (λ others. (tt, _, (refl, refl), inl (tt, _, (refl, refl), (refl, refl))))
@@ -116,9 +116,9 @@ module _ (number : ℕ) where
 
   -- a function's head
   HeadAgain : Names → Head → Type 0
-  HeadAgain names head = (others : List Kind) → Took (head_text number names) head (name head.name (sign mark.Open (params_tokens head.params.params (sign mark.Close others)))) others
+  HeadAgain names head = (others : List Kind) → Took (head_form number names) head (name head.name (sign mark.Open (params_tokens head.params.params (sign mark.Close others)))) others
 
-  head_again : (names : Names) (head : Head) (ts rest : List Kind) → Took (head_text number names) head ts rest → HeadAgain names head
+  head_again : (names : Names) (head : Head) (ts rest : List Kind) → Took (head_form number names) head ts rest → HeadAgain names head
   unfolding AllAgain HeadAgain
   head_again names head ts rest (n, a, free, (params, b, took, (is, same))) =
       subst (HeadAgain names) (sym is)
@@ -129,7 +129,7 @@ module _ (number : ℕ) where
   BodyAgain : Names → Body → Type 0
   BodyAgain names body = (others : List Kind) → Took (body_end number names) body (body_tokens (stmts body.statements) others) others
 
-  body_spells : (names : Names) (body : Said (List StmtTree)) → ((others : List Kind) → Took (body_text (frame_in number names) levels_inside (as_written None)) body (stmts_tokens (stmts body.it) (sign mark.BlockClose others)) others)
+  body_spells : (names : Names) (body : Said (List StmtTree)) → ((others : List Kind) → Took (body_form (frame_in number names) levels_inside (as_written None)) body (stmts_tokens (stmts body.it) (sign mark.BlockClose others)) others)
       → BodyAgain names (body_with body)
   unfolding BodyAgain
   body_spells names body spells others = (None, _, inr (refl, refl), (tt, _, (refl, refl), (body, others, spells others, (refl, (refl, refl)))))
@@ -138,7 +138,7 @@ module _ (number : ℕ) where
   met_type true t e = refl
   met_type false t e = absurd cc
 
-  by_written : (names : Names) (place : ℕ) (written : Option ValueType) (body : Said (List StmtTree)) (ts rest : List Kind) → Took (body_text (frame_in number names) levels_inside (as_written written)) body ts rest
+  by_written : (names : Names) (place : ℕ) (written : Option ValueType) (body : Said (List StmtTree)) (ts rest : List Kind) → Took (body_form (frame_in number names) levels_inside (as_written written)) body ts rest
       → unless_so (not (is_some written && not body.returned.is_met)) (misfit_at place) ≡ None → BodyAgain names (body_with body)
   by_written names place None body ts rest took fit =
       body_spells names body (body_again names (scope.Function number) false levels_inside (as_written None) body ts rest took)
@@ -151,18 +151,18 @@ module _ (number : ℕ) where
       subst (BodyAgain names) (sym is) (by_written names _ written found b c took fit)
 
   -- what follows `function`
-  pub function_again : (names : Names) (d : Declares) (ts rest : List Kind) → Took (function_end number names) d ts rest → (others : List Kind)
-      → Took (sequence (the_word (codes "function")) (λ tt. function_end number names)) d (item_tokens d.0 others) others
+  pub function_again : (names : Names) (d : Declares) (ts rest : List Kind) → Took (function_form number names) d ts rest → (others : List Kind)
+      → Took (sequence (the_word (codes "function")) (λ tt. function_form number names)) d (item_tokens d.0 others) others
   unfolding HeadAgain BodyAgain
   function_again names d ts rest (head, a, heads, (body, b, took, (is, same))) others =
-      subst (λ z. Took (sequence (the_word (codes "function")) (λ tt. function_end number names)) z (item_tokens z.0 others) others) (sym is)
+      subst (λ z. Took (sequence (the_word (codes "function")) (λ tt. function_form number names)) z (item_tokens z.0 others) others) (sym is)
       (tt, _, (refl, refl), (head, _, head_again names head ts a heads _, (body, others, end_again head.params.names body a b took others, (refl, refl))))
 
 -- what follows `filter`
-pub filter_again : (names : Names) (d : Declares) (ts rest : List Kind) → Took (filter_end names) d ts rest → (others : List Kind)
-    → Took (sequence (the_word (codes "filter")) (λ tt. filter_end names)) d (item_tokens d.0 others) others
+pub filter_again : (names : Names) (d : Declares) (ts rest : List Kind) → Took (filter_form names) d ts rest → (others : List Kind)
+    → Took (sequence (the_word (codes "filter")) (λ tt. filter_form names)) d (item_tokens d.0 others) others
 filter_again names d ts rest (n, a, free, (x, b, open_, (body, c, took, (is, same)))) others =
-    subst (λ z. Took (sequence (the_word (codes "filter")) (λ tt. filter_end names)) z (item_tokens z.0 others) others) (sym is) (
+    subst (λ z. Took (sequence (the_word (codes "filter")) (λ tt. filter_form names)) z (item_tokens z.0 others) others) (sym is) (
       tt,
       _,
       (refl, refl),

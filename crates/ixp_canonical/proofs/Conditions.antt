@@ -7,7 +7,7 @@ use Rattle.ixp_exprs.specs.declared.types.ValueType.TheVariants.{Bool as Truth}
 use Rattle.ixp_exprs.specs.declared.context.Scope.{Scope}
 use Rattle.ixp_exprs.specs.Types.{same_type}
 use Rattle.ixp_exprs.specs.Names.{Names}
-use Rattle.ixp_stmts.specs.Statements.{Returned, Said, said, Statements, deeper, if_text, test_end, is_if_else, else_text, Frame}
+use Rattle.ixp_stmts.specs.Statements.{Returned, Said, said, Statements, deeper, if_form, test_end, is_if_else, else_form, Frame}
 use Rattle.ixp_canonical.specs.Canonical.{word, expr_tokens}
 use Rattle.ixp_canonical.specs.CanonicalItems.{stmt_tokens, else_tokens}
 use Rattle.ixp_canonical.proofs.Basics.{Within, sound, none_unfit, fits_again}
@@ -29,18 +29,18 @@ module _ (names : Names) (scope : Scope) where
   frame = record { names = names; scope = scope }
 
   module _ (w : Bool) (n m : ℕ) (statement canonical : Statements) (again : StatementAgain names scope w statement canonical) (v : Within n m) where
-    pub if_again : (in_arm : Bool) (r : Returned) (one : Said StmtTree) (ts rest : List Kind) → Took (if_text frame (suc n) (deeper n statement) in_arm r) one ts rest
+    pub if_again : (in_arm : Bool) (r : Returned) (one : Said StmtTree) (ts rest : List Kind) → Took (if_form frame (suc n) (deeper n statement) in_arm r) one ts rest
         → (other_arm : Bool) (others : List Kind) → is_if_else other_arm others ≡ false
-        → Took (if_text frame (suc m) (deeper m canonical) other_arm (kept w r)) (said (kept w one.returned) one.it) (stmt_tokens one.it others) others
+        → Took (if_form frame (suc m) (deeper m canonical) other_arm (kept w r)) (said (kept w one.returned) one.it) (stmt_tokens one.it others) others
     if_again in_arm r one ts rest (x, a, word_, (test, b, tested, (then_do, c, took, elsed))) other_arm others free =
         by_else (else_again names scope w frame n m statement canonical again in_arm test then_do one c rest elsed)
       where
         Tokens : StmtTree → Type 0
-        Tokens it = Took (if_text frame (suc m) (deeper m canonical) other_arm (kept w r)) (said (kept w one.returned) it) (stmt_tokens it others) others
+        Tokens it = Took (if_form frame (suc m) (deeper m canonical) other_arm (kept w r)) (said (kept w one.returned) it) (stmt_tokens it others) others
 
         by_else : (ss : StmtTrees) × (one.it ≡ if_then test (stmts then_do.it) ss)
             × ((other_arm : Bool) (others : List Kind) → is_if_else other_arm others ≡ false
-            → Took (else_text frame (deeper m canonical) other_arm test (said (kept w then_do.returned) then_do.it)) (said (kept w one.returned) (if_then test (stmts then_do.it) ss)) (else_tokens ss others) others)
+            → Took (else_form frame (deeper m canonical) other_arm test (said (kept w then_do.returned) then_do.it)) (said (kept w one.returned) (if_then test (stmts then_do.it) ss)) (else_tokens ss others) others)
             → Tokens one.it
         by_else (ss, it, spells) =
             subst Tokens (sym it) (

@@ -16,7 +16,7 @@ use Rattle.ixp_exprs.specs.declared.env.Declared.TheVariants.{Table}
 use Rattle.ixp_exprs.specs.Names.{Names}
 use Rattle.ixp_exprs.specs.Operands.{Operand}
 use Rattle.ixp_exprs.specs.Declarations.{nothing_declared, Declares, standing}
-use Rattle.ixp_read.specs.Items.{if_v4, v4_addr_in, router_id_end, unowned, table_end, define_levels, defined, define_end, declaration_text, table_or, item_text, Begun, with_item, is_more, config_text}
+use Rattle.ixp_read.specs.Items.{if_v4, v4_addr_in, router_id_end, unowned, table_end, define_levels, defined, define_end, declaration_form, table_or, item_form, Begun, with_item, is_more, config_form}
 use Rattle.ixp_print.specs.Texts.{kind_text}
 use Rattle.ixp_canonical.specs.Canonical.{sign}
 use Rattle.ixp_canonical.specs.CanonicalItems.{item_tokens, items_tokens, config_tokens}
@@ -40,10 +40,10 @@ v4_again _ addr e = absurd cc
 module _ (number : ℕ) (names : Names) where
   -- an item is spelt by its canonical tokens
   abbrev ItemAgain : Declares → Type 0
-  ItemAgain d = (others : List Kind) → Took (item_text number names) d (item_tokens d.0 others) others
+  ItemAgain d = (others : List Kind) → Took (item_form number names) d (item_tokens d.0 others) others
 
   router_again : (d : Declares) (ts rest : List Kind) → Took (router_id_end names) d ts rest → ItemAgain d
-  unfolding item_text table_or declaration_text
+  unfolding item_form table_or declaration_form
   router_again d ts rest (x, a, id, (addr, b, token, (y, c, semicolon, (is, same)))) =
       subst ItemAgain (sym is)
       (let k : (k : Kind) × (v4_addr_in k ≡ Some addr) = took_token v4_addr_in addr a b token in
@@ -90,8 +90,8 @@ module _ (number : ℕ) (names : Names) where
         ),
       )))
 
-  item_again : (d : Declares) (ts rest : List Kind) → Took (item_text number names) d ts rest → ItemAgain d
-  unfolding item_text table_or declaration_text TableAgain
+  item_again : (d : Declares) (ts rest : List Kind) → Took (item_form number names) d ts rest → ItemAgain d
+  unfolding item_form table_or declaration_form TableAgain
   item_again d ts rest (inl (x, a, word_, took)) = router_again d a rest took
   item_again d ts rest (inr (inl (x, a, word_, took))) = λ others. inr (inl (table_again table.Ipv4 d a rest took others))
   item_again d ts rest (inr (inr (inl (x, a, word_, took)))) = λ others. inr (inr (inl (table_again table.Ipv6 d a rest took others)))
@@ -106,7 +106,7 @@ module _ (number : ℕ) (names : Names) where
 
 abbrev round : Begun → Grammar (Step Begun (List ItemTree))
 round before =
-    choice (sequence (item_text (length before.items) before.names) (λ declares. gives (onward (with_item before declares)))) (unless is_more (gives (done before.items)))
+    choice (sequence (item_form (length before.items) before.names) (λ declares. gives (onward (with_item before declares)))) (unless is_more (gives (done before.items)))
 
 abbrev ItemRounds : ℕ → Begun → List ItemTree → List Kind → List Kind → Type 0
 ItemRounds = Rounds (λ s. Took (round s))
@@ -144,9 +144,9 @@ some_items zero before after ts rest took = last_item before after ts rest took
 some_items (suc k) before after ts rest (next, mid, took, more) = next_item before next after ts mid took (some_items k next after mid rest more)
 
 -- a configuration is spelt by its canonical tokens
-pub configuration_law : (c : List ItemTree) (tokens : List Kind) → Took config_text c tokens [] → Took config_text c (config_tokens c) []
+pub configuration_law : (c : List ItemTree) (tokens : List Kind) → Took config_form c tokens [] → Took config_form c (config_tokens c) []
 unfolding ItemsAgain
 configuration_law c tokens (k, took) = by_items (some_items k (record { items = []; names = nothing_declared }) c tokens [] took)
   where
-    by_items : ItemsAgain (record { items = []; names = nothing_declared }) c → Took config_text c (config_tokens c) []
-    by_items (new, all, j, more) = subst (λ is. Took config_text c (items_tokens is []) []) (sym all) (j, more)
+    by_items : ItemsAgain (record { items = []; names = nothing_declared }) c → Took config_form c (config_tokens c) []
+    by_items (new, all, j, more) = subst (λ is. Took config_form c (items_tokens is []) []) (sym all) (j, more)

@@ -6,7 +6,7 @@ use Rattle.ixp_tokens.specs.Grammars.{Took}
 use Rattle.ixp_lang.specs.Trees.{StmtTree, stmts}
 use Rattle.ixp_exprs.specs.declared.context.Scope.{Scope}
 use Rattle.ixp_exprs.specs.Names.{Names}
-use Rattle.ixp_stmts.specs.Statements.{Returned, Said, said, no_branch, plain_text, statement_with, statement_text, body_text, Frame}
+use Rattle.ixp_stmts.specs.Statements.{Returned, Said, said, no_branch, plain_form, statement_with, statement_form, body_form, Frame}
 use Rattle.ixp_canonical.specs.Canonical.{sign}
 use Rattle.ixp_canonical.specs.CanonicalItems.{stmt_tokens, stmts_tokens}
 use Rattle.ixp_canonical.proofs.Basics.{Within, within_same, never_took}
@@ -25,40 +25,40 @@ module _ (names : Names) (scope : Scope) (w : Bool) where
   no_branch_took v ts rest (free, inl (name, a, token, (fault, never))) = never_took v a rest never
   no_branch_took v ts rest (free, inr (word, a, token, (fault, never))) = never_took v a rest never
 
-  plain_again : (n : ℕ) (r : Returned) (one : Said StmtTree) (ts rest : List Kind) → Took (plain_text frame n r) one ts rest → (m : ℕ) → Within n m → (others : List Kind)
-      → Took (plain_text frame m (kept w r)) (said (kept w one.returned) one.it) (stmt_tokens one.it others) others
+  plain_again : (n : ℕ) (r : Returned) (one : Said StmtTree) (ts rest : List Kind) → Took (plain_form frame n r) one ts rest → (m : ℕ) → Within n m → (others : List Kind)
+      → Took (plain_form frame m (kept w r)) (said (kept w one.returned) one.it) (stmt_tokens one.it others) others
   plain_again n r one ts rest (inl took) m v others = inl (return_again names scope w n _ r one ts rest took m v _ others)
   plain_again n r one ts rest (inr (change, a, took, (is, same))) m v others =
-      subst (λ (z : Said StmtTree). Took (plain_text frame m (kept w r)) (said (kept w z.returned) z.it) (stmt_tokens z.it others) others) (sym is)
+      subst (λ (z : Said StmtTree). Took (plain_form frame m (kept w r)) (said (kept w z.returned) z.it) (stmt_tokens z.it others) others) (sym is)
       (inr (change, others, change_again names scope n _ change ts a took m v _ others, (refl, refl)))
 
-  plain_level : (m : ℕ) (in_arm : Bool) (r : Returned) (one : Said StmtTree) (ts rest : List Kind) → Took (plain_text frame m r) one ts rest → Took (statement_text frame m in_arm r) one ts rest
+  plain_level : (m : ℕ) (in_arm : Bool) (r : Returned) (one : Said StmtTree) (ts rest : List Kind) → Took (plain_form frame m r) one ts rest → Took (statement_form frame m in_arm r) one ts rest
   unfolding statement_with
   plain_level zero in_arm r one ts rest took = inr (inr (inr took))
   plain_level (suc m) in_arm r one ts rest took = inr (inr (inr took))
 
   LevelAgain : ℕ → Type 0
-  LevelAgain n = (m : ℕ) → Within n m → StatementAgain names scope w (statement_text frame n) (statement_text frame m)
+  LevelAgain n = (m : ℕ) → Within n m → StatementAgain names scope w (statement_form frame n) (statement_form frame m)
 
-  lowest_again : (in_arm : Bool) (r : Returned) (one : Said StmtTree) (ts rest : List Kind) → Took (statement_text frame zero in_arm r) one ts rest → (m : ℕ) (other_arm : Bool) (others : List Kind)
-      → Took (statement_text frame m other_arm (kept w r)) (said (kept w one.returned) one.it) (stmt_tokens one.it others) others
+  lowest_again : (in_arm : Bool) (r : Returned) (one : Said StmtTree) (ts rest : List Kind) → Took (statement_form frame zero in_arm r) one ts rest → (m : ℕ) (other_arm : Bool) (others : List Kind)
+      → Took (statement_form frame m other_arm (kept w r)) (said (kept w one.returned) one.it) (stmt_tokens one.it others) others
   unfolding statement_with
   lowest_again in_arm r one ts rest (inl (free, never)) m other_arm others = absurd (never_took one ts rest never)
   lowest_again in_arm r one ts rest (inr (inl (x, a, word, (test, b, tested, (then_do, c, took, elsed))))) m other_arm others = absurd (no_branch_took then_do b c took)
   lowest_again in_arm r one ts rest (inr (inr (inl (free, never)))) m other_arm others = absurd (never_took one ts rest never)
   lowest_again in_arm r one ts rest (inr (inr (inr took))) m other_arm others = plain_level m other_arm (kept w r) _ _ others (plain_again zero r one ts rest took m tt others)
 
-  lowest_level : (m : ℕ) → StatementAgain names scope w (statement_text frame zero) (statement_text frame m)
+  lowest_level : (m : ℕ) → StatementAgain names scope w (statement_form frame zero) (statement_form frame m)
   lowest_level m in_arm r one ts rest took other_arm others free = lowest_again in_arm r one ts rest took m other_arm others
 
-  higher_again : (n m : ℕ) → Within n m → StatementAgain names scope w (statement_text frame n) (statement_text frame m) → StatementAgain names scope w (statement_text frame (suc n)) (statement_text frame (suc m))
+  higher_again : (n m : ℕ) → Within n m → StatementAgain names scope w (statement_form frame n) (statement_form frame m) → StatementAgain names scope w (statement_form frame (suc n)) (statement_form frame (suc m))
   unfolding statement_with
   higher_again n m v again in_arm r one ts rest (inl took) other_arm others free =
-      inl (block_statement names scope w frame n m (statement_text frame n) (statement_text frame m) again r one ts rest took others)
+      inl (block_statement names scope w frame n m (statement_form frame n) (statement_form frame m) again r one ts rest took others)
   higher_again n m v again in_arm r one ts rest (inr (inl took)) other_arm others free =
-      inr (inl (if_again names scope w n m (statement_text frame n) (statement_text frame m) again v in_arm r one ts rest took other_arm others free))
+      inr (inl (if_again names scope w n m (statement_form frame n) (statement_form frame m) again v in_arm r one ts rest took other_arm others free))
   higher_again n m v again in_arm r one ts rest (inr (inr (inl took))) other_arm others free =
-      inr (inr (inl (case_again names scope w (statement_text frame n) (statement_text frame m) again n m v r one ts rest took others)))
+      inr (inr (inl (case_again names scope w (statement_form frame n) (statement_form frame m) again n m v r one ts rest took others)))
   higher_again n m v again in_arm r one ts rest (inr (inr (inr took))) other_arm others free =
       inr (inr (inr (plain_again (suc n) r one ts rest took (suc m) v others)))
 
@@ -70,7 +70,7 @@ module _ (names : Names) (scope : Scope) (w : Bool) where
   statement_again (suc n) (suc m) v = higher_again n m v (statement_again n m v)
 
   -- the statements of a body, and its end
-  pub body_again : (n : ℕ) (r : Returned) (body : Said (List StmtTree)) (ts rest : List Kind) → Took (body_text frame n r) body ts rest → (others : List Kind)
-      → Took (body_text frame n (kept w r)) (said (kept w body.returned) body.it) (stmts_tokens (stmts body.it) (sign mark.BlockClose others)) others
+  pub body_again : (n : ℕ) (r : Returned) (body : Said (List StmtTree)) (ts rest : List Kind) → Took (body_form frame n r) body ts rest → (others : List Kind)
+      → Took (body_form frame n (kept w r)) (said (kept w body.returned) body.it) (stmts_tokens (stmts body.it) (sign mark.BlockClose others)) others
   unfolding LevelAgain
-  body_again n r body ts rest took others = block_again names scope w (statement_text frame n) (statement_text frame n) (statement_again n n (within_same n)) r body ts rest took others
+  body_again n r body ts rest took others = block_again names scope w (statement_form frame n) (statement_form frame n) (statement_again n n (within_same n)) r body ts rest took others

@@ -19,6 +19,11 @@ pub mod PrintedSets
 pub mod PrintedStatements
 pub mod Sessions
 pub mod Sets
+pub mod SoundExpressions
+pub mod SoundItems
+pub mod SoundLists
+pub mod SoundParts
+pub mod SoundStatements
 pub mod Statements
 pub mod Steps
 pub mod Tokens

@@ -15,7 +15,7 @@ use Rattle.ixp_exprs.specs.declared.context.Scope.{Scope}
 use Rattle.ixp_exprs.specs.Types.{same_type, takes_left, takes_right}
 use Rattle.ixp_exprs.specs.Names.{Names}
 use Rattle.ixp_exprs.specs.Operands.{Operand, misfit_at}
-use Rattle.ixp_exprs.specs.Expressions.{operator_in, Chain, begun_with, longer, part_misfit, chained, comparison_of, chain_part, chain_of, expression_of, unary_text, expression_text, operand_text}
+use Rattle.ixp_exprs.specs.Expressions.{operator_in, Chain, begun_with, longer, part_misfit, chained, comparison_of, chain_part, chain_of, expression_of, unary_form, expression_form, operand_form}
 use Rattle.ixp_print.specs.Texts.{is_chain, is_compound}
 use Rattle.ixp_canonical.specs.Canonical.{Before, operator, wrapped, expr_tokens, chain_tokens}
 use Rattle.ixp_canonical.proofs.Basics.{Within, within_less, sound, so_again, none_settled, none_unfit, none_waits, none_left, none_refused, compared_again}
@@ -48,10 +48,10 @@ pub data Joint : Mark → Mark → (ExprTrees → ExprTree) → Type 0 where
 
 module _ (names : Names) (scope : Scope) where
   abbrev pub Compared : ℕ → ExprTree → ValueType → Before → Type 0
-  Compared m = Reads names scope (λ s. comparison_of (unary_text (at names scope s) m))
+  Compared m = Reads names scope (λ s. comparison_of (unary_form (at names scope s) m))
 
   abbrev pub Alone : ℕ → ExprTree → ValueType → Before → Type 0
-  Alone m = Reads names scope (λ s. unary_text (at names scope s) m)
+  Alone m = Reads names scope (λ s. unary_form (at names scope s) m)
 
   -- what stands alone with so many levels or more, as it is or in parentheses
   abbrev pub Single : ℕ → ExprTree → ValueType → Type 0
@@ -65,7 +65,7 @@ module _ (names : Names) (scope : Scope) where
   compared_alone m e t text (b, reads) = (b, λ s rest. (sound e t b, rest, reads s rest, inr (refl, refl)))
 
   whole_compared : (m : ℕ) (e : ExprTree) (t : ValueType) → Compared m e t (expr_tokens e)
-      → (b : Bool) × ((s : ℕ) (rest : List Kind) → Unjoined rest → Took (expression_text (at names scope s) m) (sound e t b) (expr_tokens e rest) rest)
+      → (b : Bool) × ((s : ℕ) (rest : List Kind) → Unjoined rest → Took (expression_form (at names scope s) m) (sound e t b) (expr_tokens e rest) rest)
   whole_compared m e t (b, reads) = (b, λ s rest free. (sound e t b, rest, reads s rest, inr (inr (refl, refl))))
 
   pub fitting_alone : (m : ℕ) (e : ExprTree) (t : ValueType) → Alone m e t (expr_tokens e) → Fitting names scope m e t
@@ -95,7 +95,7 @@ module _ (names : Names) (scope : Scope) where
 
   -- an expression in parentheses
   pub single_enclosed : (n : ℕ) (e : ExprTree) (t : ValueType) → Expressed names scope n e t → Single (suc n) e t
-  unfolding operand_text
+  unfolding operand_form
   single_enclosed n e t expressed = (λ m w. expressed m (within_less n m w), λ m w. by_level m w)
     where
       by_case : (m : ℕ) → Within n m → (c : Bool) → is_compound e ≡ c → Alone (suc m) e t (wrapped c (expr_tokens e))
@@ -121,7 +121,7 @@ module _ (names : Names) (scope : Scope) where
       by_level (suc m) w = by_case m w (is_compound e) refl
 
   -- A comparison.
-  comparing : (n : ℕ) (op : Op) (e f : ExprTree) (t u : ValueType) → takes_left op t ≡ true → takes_right op t u ≡ true → Single n e t → Single n f u → Joined n (comparison op e f) Truth
+  pub comparing : (n : ℕ) (op : Op) (e f : ExprTree) (t u : ValueType) → takes_left op t ≡ true → takes_right op t u ≡ true → Single n e t → Single n f u → Joined n (comparison op e f) Truth
   comparing n op e f t u left right (expressed_e, alone_e) (expressed_f, alone_f) = (λ m w. fitting_compared m (comparison op e f) Truth refl (reads m w), reads)
     where
       reads : (m : ℕ) → Within n m → Compared m (comparison op e f) Truth (expr_tokens (comparison op e f))
@@ -144,10 +144,10 @@ module _ (names : Names) (scope : Scope) where
       )
 
   abbrev AloneAgain : ℕ → Type 0
-  AloneAgain n = (s : ℕ) (o : Operand) (ts rest : List Kind) → Took (unary_text (at names scope s) n) o ts rest → o.misfit ≡ None → Single n o.tree o.ty
+  AloneAgain n = (s : ℕ) (o : Operand) (ts rest : List Kind) → Took (unary_form (at names scope s) n) o ts rest → o.misfit ≡ None → Single n o.tree o.ty
 
   abbrev ComparedAgain : ℕ → Type 0
-  ComparedAgain n = (s : ℕ) (o : Operand) (ts rest : List Kind) → Took (comparison_of (unary_text (at names scope s) n)) o ts rest → o.misfit ≡ None → Joined n o.tree o.ty
+  ComparedAgain n = (s : ℕ) (o : Operand) (ts rest : List Kind) → Took (comparison_of (unary_form (at names scope s) n)) o ts rest → o.misfit ≡ None → Joined n o.tree o.ty
 
   comparison_again : (n : ℕ) → AloneAgain n → ComparedAgain n
   comparison_again n again s o ts rest (left, mid, took, inr (is, same)) fine =
@@ -164,38 +164,38 @@ module _ (names : Names) (scope : Scope) where
   none_part : (part : Operand) (place : ℕ) → part_misfit part place ≡ None → (part.misfit ≡ None) × (same_type part.ty Truth ≡ true)
   none_part part place e = none_waits part (same_type part.ty Truth) place e
 
-  abbrev ChainRounds : Mark → Mark → (ExprTrees → ExprTree) → ℕ → ℕ → ℕ → Chain → Operand → List Kind → List Kind → Type 0
-  ChainRounds joint other joined n s = Rounds (λ c. Took (chain_part (unary_text (at names scope s) n) joint other joined c))
+  abbrev pub ChainRounds : Mark → Mark → (ExprTrees → ExprTree) → ℕ → ℕ → ℕ → Chain → Operand → List Kind → List Kind → Type 0
+  ChainRounds joint other joined n s = Rounds (λ c. Took (chain_part (unary_form (at names scope s) n) joint other joined c))
 
   -- the chain goes on by these parts, which are spelt by their tokens
-  abbrev Chained : Mark → Mark → (ExprTrees → ExprTree) → ℕ → List ExprTree → Operand → Type 0
+  abbrev pub Chained : Mark → Mark → (ExprTrees → ExprTree) → ℕ → List ExprTree → Operand → Type 0
   Chained joint other joined n before o =
       (e : ExprTree) × (es : List ExprTree) × (o.tree ≡ joined (exprs (before ++ e ∷ es))) × (o.ty ≡ Truth)
       × ((m : ℕ) → Within n m → (s place : ℕ) (rest : List Kind) → Unjoined rest →
       (j : ℕ) × ChainRounds joint other joined m s j (record { parts = before; place = place }) (sound (joined (exprs (before ++ e ∷ es))) Truth false) (chain_tokens joint (exprs (e ∷ es)) rest) rest)
 
-  unjoined : (joint other : Mark) (joined : ExprTrees → ExprTree) → Joint joint other joined → (rest : List Kind) → Unjoined rest → is_next (is_mark other) rest ≡ false
+  pub unjoined : (joint other : Mark) (joined : ExprTrees → ExprTree) → Joint joint other joined → (rest : List Kind) → Unjoined rest → is_next (is_mark other) rest ≡ false
   unjoined joint other joined of_and rest (no_and, no_or) = no_or
   unjoined joint other joined of_or rest (no_and, no_or) = no_and
 
-  joint_apart : (joint other : Mark) (joined : ExprTrees → ExprTree) → Joint joint other joined → (rest : List Kind) → is_next (is_mark other) (kind.Mark joint ∷ rest) ≡ false
+  pub joint_apart : (joint other : Mark) (joined : ExprTrees → ExprTree) → Joint joint other joined → (rest : List Kind) → is_next (is_mark other) (kind.Mark joint ∷ rest) ≡ false
   joint_apart joint other joined of_and rest = refl
   joint_apart joint other joined of_or rest = refl
 
-  joint_again : (joint other : Mark) (joined : ExprTrees → ExprTree) → Joint joint other joined → if_so (is_mark joint (kind.Mark joint)) ≡ Some tt
+  pub joint_again : (joint other : Mark) (joined : ExprTrees → ExprTree) → Joint joint other joined → if_so (is_mark joint (kind.Mark joint)) ≡ Some tt
   joint_again joint other joined of_and = refl
   joint_again joint other joined of_or = refl
 
-  misfit_again : (joined : ExprTrees → ExprTree) (before : List ExprTree) (e : ExprTree) (t : ValueType) (b : Bool) (place : ℕ) → same_type t Truth ≡ true
+  pub misfit_again : (joined : ExprTrees → ExprTree) (before : List ExprTree) (e : ExprTree) (t : ValueType) (b : Bool) (place : ℕ) → same_type t Truth ≡ true
       → sound (joined (exprs (before ++ e ∷ []))) Truth false ≡ chained joined (record { parts = before; place = place }) (sound e t b)
   misfit_again joined before e t b place same =
       sym (ap (λ c. record { tree = joined (exprs (before ++ e ∷ [])); ty = Truth; is_open = false; misfit = if c then None else Some place }) same)
 
-  no_misfit : (e : ExprTree) (t : ValueType) (b : Bool) (place : ℕ) → same_type t Truth ≡ true → option_map misfit_at (part_misfit (sound e t b) place) ≡ None
+  pub no_misfit : (e : ExprTree) (t : ValueType) (b : Bool) (place : ℕ) → same_type t Truth ≡ true → option_map misfit_at (part_misfit (sound e t b) place) ≡ None
   no_misfit e t b place same = ap (λ c. option_map misfit_at (if c then None else Some place)) same
 
   last_part : (joint other : Mark) (joined : ExprTrees → ExprTree) → Joint joint other joined → (n : ℕ) → ComparedAgain n → (s : ℕ) (chain : Chain) (o : Operand) (ts rest : List Kind)
-      → Took (chain_part (unary_text (at names scope s) n) joint other joined chain) (done o) ts rest → o.misfit ≡ None → Chained joint other joined n chain.parts o
+      → Took (chain_part (unary_form (at names scope s) n) joint other joined chain) (done o) ts rest → o.misfit ≡ None → Chained joint other joined n chain.parts o
   last_part joint other joined j n again s chain o ts rest (part, mid, took, (free, inl (x, more, mark_, (fit, (is, same))))) fine = absurd (let e : ◌≡◌ {A = Step Chain Operand} (done o) (onward (longer chain part (length mid))) = is in let f : ⊥ = cc in f)
   last_part joint other joined j n again s chain o ts rest (part, mid, took, (free, inr (is, same))) fine =
       let e : ◌≡◌ {A = Step Chain Operand} (done o) (done (chained joined chain part)) = is in
@@ -222,7 +222,7 @@ module _ (names : Names) (scope : Scope) where
       )
 
   next_part : (joint other : Mark) (joined : ExprTrees → ExprTree) → Joint joint other joined → (n : ℕ) → ComparedAgain n → (s : ℕ) (chain next : Chain) (o : Operand) (ts rest : List Kind)
-      → Took (chain_part (unary_text (at names scope s) n) joint other joined chain) (onward next) ts rest → Chained joint other joined n next.parts o → Chained joint other joined n chain.parts o
+      → Took (chain_part (unary_form (at names scope s) n) joint other joined chain) (onward next) ts rest → Chained joint other joined n next.parts o → Chained joint other joined n chain.parts o
   next_part joint other joined j n again s chain next o ts rest (part, mid, took, (free, inr (is, same))) behind = absurd (let e : ◌≡◌ {A = Step Chain Operand} (onward next) (done (chained joined chain part)) = is in let f : ⊥ = cc in f)
   next_part joint other joined j n again s chain next o ts rest (part, mid, took, (free, inl (x, more, mark_, (fit, (is, same))))) behind =
       let e : ◌≡◌ {A = Step Chain Operand} (onward next) (onward (longer chain part (length mid))) = is in
@@ -285,7 +285,7 @@ module _ (names : Names) (scope : Scope) where
   no_compound : (e : ExprTree) → is_compound e ≡ true → is_compound e ≡ false → ⊥
   no_compound e h k = (let f : true ≡ false = sym h ∙ k in let x : ⊥ = cc in x)
 
-  row_again : (joint other : Mark) (joined : ExprTrees → ExprTree) → Joint joint other joined → (n : ℕ) (first : Operand) (o : Operand) → same_type first.ty Truth ≡ true → Joined n first.tree first.ty
+  pub row_again : (joint other : Mark) (joined : ExprTrees → ExprTree) → Joint joint other joined → (n : ℕ) (first : Operand) (o : Operand) → same_type first.ty Truth ≡ true → Joined n first.tree first.ty
       → Chained joint other joined n (first.tree ∷ []) o → Expressed names scope n o.tree o.ty
   row_again joint other joined j n first o truth joins (e, es, tree, ty, spells) =
       subst (λ t. Expressed names scope n t o.ty) (sym tree) (subst (λ t. Expressed names scope n all t) (sym ty) spelt)
@@ -293,29 +293,29 @@ module _ (names : Names) (scope : Scope) where
       all : ExprTree
       all = joined (exprs (first.tree ∷ e ∷ es))
 
-      reads_all : (m : ℕ) → Within n m → (s : ℕ) (rest : List Kind) → Unjoined rest → Took (expression_text (at names scope s) m) (sound all Truth false) (chain_tokens joint (exprs (first.tree ∷ e ∷ es)) rest) rest
+      reads_all : (m : ℕ) → Within n m → (s : ℕ) (rest : List Kind) → Unjoined rest → Took (expression_form (at names scope s) m) (sound all Truth false) (chain_tokens joint (exprs (first.tree ∷ e ∷ es)) rest) rest
       reads_all m w s rest free =
           (let one = joins.1 m w in
           let rest_tokens : List Kind = chain_tokens joint (exprs (e ∷ es)) rest in
-          in_expression joint other joined j (unary_text (at names scope s) m) (sound first.tree first.ty one.0) (sound all Truth false) _ (kind.Mark joint ∷ rest_tokens) rest
+          in_expression joint other joined j (unary_form (at names scope s) m) (sound first.tree first.ty one.0) (sound all Truth false) _ (kind.Mark joint ∷ rest_tokens) rest
           (one.1 s (kind.Mark joint ∷ rest_tokens))
           (tt, rest_tokens, (joint_again joint other joined j, refl), (so_again (same_type first.ty Truth) _ truth, spells m w s (length (kind.Mark joint ∷ rest_tokens)) rest free)))
 
       spelt : Expressed names scope n all Truth
       spelt m w = record {
-        whole = (false, λ s rest free. subst (λ ts. Took (expression_text (at names scope s) m) (sound all Truth false) ts rest) (sym (row_tokens joint other joined j (exprs (first.tree ∷ e ∷ es)) rest)) (reads_all m w s rest free));
+        whole = (false, λ s rest free. subst (λ ts. Took (expression_form (at names scope s) m) (sound all Truth false) ts rest) (sym (row_tokens joint other joined j (exprs (first.tree ∷ e ∷ es)) rest)) (reads_all m w s rest free));
         part = λ h. absurd (no_chain all (row_head joint other joined j (exprs (first.tree ∷ e ∷ es))).1 h);
         alone = λ h. absurd (no_compound all (row_head joint other joined j (exprs (first.tree ∷ e ∷ es))).0 h);
       }
 
   chain_again : (joint other : Mark) (joined : ExprTrees → ExprTree) → Joint joint other joined → (n : ℕ) → ComparedAgain n → (s : ℕ) (first o : Operand) (place : ℕ) (ts mid rest : List Kind)
-      → Took (comparison_of (unary_text (at names scope s) n)) first ts mid → Took (chain_of (unary_text (at names scope s) n) joint other joined first place) o mid rest → o.misfit ≡ None → Expressed names scope n o.tree o.ty
+      → Took (comparison_of (unary_form (at names scope s) n)) first ts mid → Took (chain_of (unary_form (at names scope s) n) joint other joined first place) o mid rest → o.misfit ≡ None → Expressed names scope n o.tree o.ty
   chain_again joint other joined j n again s first o place ts mid rest took (x, more, mark_, (fit, (k, parts))) fine =
       let h : (first.misfit ≡ None) × (same_type first.ty Truth ≡ true) = none_unfit first Truth place fit in
       row_again joint other joined j n first o h.1 (again s first ts mid took h.0) (parts_of_chain joint other joined j n again s k (begun_with first place) o more rest parts fine)
 
   -- what is said as an expression, where all that stands alone is known
-  pub expressed_again : (n : ℕ) → ((s : ℕ) (o : Operand) (ts rest : List Kind) → Took (unary_text (at names scope s) n) o ts rest → o.misfit ≡ None → Single n o.tree o.ty) → Again names scope n
+  pub expressed_again : (n : ℕ) → ((s : ℕ) (o : Operand) (ts rest : List Kind) → Took (unary_form (at names scope s) n) o ts rest → o.misfit ≡ None → Single n o.tree o.ty) → Again names scope n
   expressed_again n again s o ts rest (first, mid, took, inl chain) fine = chain_again mark.And mark.Or conjunction of_and n (comparison_again n again) s first o (length mid) ts mid rest took chain fine
   expressed_again n again s o ts rest (first, mid, took, inr (inl chain)) fine = chain_again mark.Or mark.And disjunction of_or n (comparison_again n again) s first o (length mid) ts mid rest took chain fine
   expressed_again n again s o ts rest (first, mid, took, inr (inr (is, same))) fine =

@@ -14,7 +14,7 @@ use Rattle.ixp_exprs.specs.Types.{same_type}
 use Rattle.ixp_exprs.specs.Names.{Names}
 use Rattle.ixp_exprs.specs.Sets.{unless_so}
 use Rattle.ixp_exprs.specs.Operands.{Operand, or_else, misfit_at, fits, literal_number}
-use Rattle.ixp_exprs.specs.Expressions.{Place, Shape, plain, arguments, roa_values, may_go_on, may_end, part_end_in, fits_argument, Parts, with_part, too_great_if, fits_pair, fits_plain, fits_next, ends_with, part_text, comparison_of, unary_text, expression_text}
+use Rattle.ixp_exprs.specs.Expressions.{Place, Shape, plain, arguments, roa_values, may_go_on, may_end, part_end_in, fits_argument, Parts, with_part, too_great_if, fits_pair, fits_plain, fits_next, ends_with, part_form, comparison_of, unary_form, expression_form}
 use Rattle.ixp_print.specs.Texts.{is_chain, is_compound}
 use Rattle.ixp_canonical.specs.Canonical.{Before, expr_tokens, exprs_tokens}
 use Rattle.ixp_canonical.proofs.Basics.{Within, sound, took_token, both_none, none_both, is_so, so_again, none_settled, none_unfit, fits_again}
@@ -132,9 +132,9 @@ module _ (names : Names) (scope : Scope) where
   -- The canonical tokens of the tree, with so many levels: as an expression, as an operand of a chain where it is none itself, and
   -- alone where it needs no parentheses.
   pub record Fitting (m : ℕ) (e : ExprTree) (t : ValueType) : Type 0 where
-    pub whole : (b : Bool) × ((s : ℕ) (rest : List Kind) → Unjoined rest → Took (expression_text (at s) m) (sound e t b) (expr_tokens e rest) rest)
-    pub part : is_chain e ≡ false → Reads (λ s. comparison_of (unary_text (at s) m)) e t (expr_tokens e)
-    pub alone : is_compound e ≡ false → Reads (λ s. unary_text (at s) m) e t (expr_tokens e)
+    pub whole : (b : Bool) × ((s : ℕ) (rest : List Kind) → Unjoined rest → Took (expression_form (at s) m) (sound e t b) (expr_tokens e rest) rest)
+    pub part : is_chain e ≡ false → Reads (λ s. comparison_of (unary_form (at s) m)) e t (expr_tokens e)
+    pub alone : is_compound e ≡ false → Reads (λ s. unary_form (at s) m) e t (expr_tokens e)
 
   -- the same with these levels or more
   abbrev pub Expressed : ℕ → ExprTree → ValueType → Type 0
@@ -142,7 +142,7 @@ module _ (names : Names) (scope : Scope) where
 
   -- each expression of so many levels is spelt by its canonical tokens
   abbrev pub Again : ℕ → Type 0
-  Again n = (s : ℕ) (o : Operand) (ts rest : List Kind) → Took (expression_text (at s) n) o ts rest → o.misfit ≡ None → Expressed n o.tree o.ty
+  Again n = (s : ℕ) (o : Operand) (ts rest : List Kind) → Took (expression_form (at s) n) o ts rest → o.misfit ≡ None → Expressed n o.tree o.ty
 
   abbrev pub Lone : ℕ → List ExprTree → ValueType → Type 0
   Lone n [] t = Unit {0}
@@ -150,7 +150,7 @@ module _ (names : Names) (scope : Scope) where
   Lone n (e ∷ f ∷ es) t = Unit {0}
 
   abbrev PartRounds : ℕ → Shape → ℕ → ℕ → ℕ → Parts → Parts → List Kind → List Kind → Type 0
-  PartRounds n shape s place = Rounds (λ t. Took (part_text (expression_text (at s) n) shape place t))
+  PartRounds n shape s place = Rounds (λ t. Took (part_form (expression_form (at s) n) shape place t))
 
   -- the parts behind those before, which are spelt by their canonical tokens
   abbrev pub Renewed : ℕ → Shape → Parts → Parts → Type 0
@@ -160,7 +160,7 @@ module _ (names : Names) (scope : Scope) where
       (j : ℕ) × PartRounds m shape s place j (same_parts before first ty) (same_parts after first after.ty) (exprs_tokens (exprs new) (Marked mark.Close ∷ rest)) rest)
 
   -- one part and its end
-  last_again : (n : ℕ) → Again n → (shape : Shape) (s place : ℕ) (before after : Parts) (ts rest : List Kind) → Took (part_text (expression_text (at s) n) shape place before) (done after) ts rest → Renewed n shape before after
+  last_again : (n : ℕ) → Again n → (shape : Shape) (s place : ℕ) (before after : Parts) (ts rest : List Kind) → Took (part_form (expression_form (at s) n) shape place before) (done after) ts rest → Renewed n shape before after
   last_again n again shape s place before after ts rest (operand, mid, took, (is_last, others, end, (fit, (is, same)))) = by_last is_last (took_token _ is_last mid others end) fit is
     where
       at_end : (k : Kind) → part_end_in shape (length before.trees) k ≡ Some true → fits_next shape before true operand (length ts) place ≡ None → Renewed n shape before (with_part before operand)
@@ -195,7 +195,7 @@ module _ (names : Names) (scope : Scope) where
       by_last false (k, end) fit is = absurd cc
 
   -- one part, and those behind it
-  more_again : (n : ℕ) → Again n → (shape : Shape) (s place : ℕ) (before t after : Parts) (ts rest : List Kind) → Took (part_text (expression_text (at s) n) shape place before) (onward t) ts rest → Renewed n shape t after
+  more_again : (n : ℕ) → Again n → (shape : Shape) (s place : ℕ) (before t after : Parts) (ts rest : List Kind) → Took (part_form (expression_form (at s) n) shape place before) (onward t) ts rest → Renewed n shape t after
       → Renewed n shape before after
   more_again n again shape s place before t after ts rest (operand, mid, took, (is_last, others, end, (fit, (is, same)))) behind = by_last is_last (took_token _ is_last mid others end) fit is
     where

@@ -12,7 +12,7 @@ use Rattle.ixp_exprs.specs.declared.context.Scope.{Scope}
 use Rattle.ixp_exprs.specs.Types.{same_type}
 use Rattle.ixp_exprs.specs.Names.{Names, function_of}
 use Rattle.ixp_exprs.specs.Expressions.{Parts}
-use Rattle.ixp_stmts.specs.Statements.{value_end, enclosed_end, params_of, change_text}
+use Rattle.ixp_stmts.specs.Statements.{value_end, enclosed_end, params_of, change_form}
 use Rattle.ixp_canonical.specs.Canonical.{expr_tokens, sign}
 use Rattle.ixp_canonical.specs.CanonicalItems.{stmt_tokens, last_tokens}
 use Rattle.ixp_canonical.proofs.Basics.{Within, sound, none_unfit, fits_again, there, there_again}
@@ -52,16 +52,16 @@ module _ (names : Names) (scope : Scope) where
 
   -- a statement that is spelt by its canonical tokens, with these levels or more
   abbrev pub ChangeAgain : ℕ → StmtTree → Type 0
-  ChangeAgain n st = (m : ℕ) → Within n m → (s : ℕ) (rest : List Kind) → Took (change_text (at names scope s) m) st (stmt_tokens st rest) rest
+  ChangeAgain n st = (m : ℕ) → Within n m → (s : ℕ) (rest : List Kind) → Took (change_form (at names scope s) m) st (stmt_tokens st rest) rest
 
-  call_spells : (n : ℕ) (name : List ℕ) (parts : Parts) (d : Signature) → function_of (names name) ≡ Some d → ArgumentsAgain names scope n (params_of (function_of (names name))) parts → ChangeAgain n (call_statement name (exprs parts.trees))
-  unfolding change_text
+  pub call_spells : (n : ℕ) (name : List ℕ) (parts : Parts) (d : Signature) → function_of (names name) ≡ Some d → ArgumentsAgain names scope n (params_of (function_of (names name))) parts → ChangeAgain n (call_statement name (exprs parts.trees))
+  unfolding change_form
   call_spells n name parts d known spells m w s rest =
       (let new = spells m w s s (sign mark.Semicolon rest) in
       inl (name, _, (refl, refl), (there_again (function_of (names name)) d (Unknown, s) known, (tt, _, (refl, refl), (new.0, _, new.2, (tt, _, (refl, refl), (ap (λ es. call_statement name (exprs es)) (sym new.1), refl)))))))
 
-  pub change_again : (n s : ℕ) (st : StmtTree) (ts rest : List Kind) → Took (change_text (at names scope s) n) st ts rest → ChangeAgain n st
-  unfolding change_text
+  pub change_again : (n s : ℕ) (st : StmtTree) (ts rest : List Kind) → Took (change_form (at names scope s) n) st ts rest → ChangeAgain n st
+  unfolding change_form
   change_again n s st ts rest (inl (name, a, token, (known, (x, b, open_, (parts, c, took, (y, d, semicolon, (is, same))))))) =
       (let f = there (function_of (names name)) (Unknown, s) known in
       subst (ChangeAgain n) (sym is) (call_spells n name parts f.0 f.1 (arguments_again names scope n (expression_again names scope n) (params_of (function_of (names name))) s s parts b c took)))

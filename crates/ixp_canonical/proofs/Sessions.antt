@@ -12,7 +12,7 @@ use Rattle.ixp_lang.specs.declared.item.Use.TheVariants.{Named}
 use Rattle.ixp_exprs.specs.declared.env.Table.{Table}
 use Rattle.ixp_exprs.specs.Names.{Names, table_of}
 use Rattle.ixp_exprs.specs.Declarations.{Declares}
-use Rattle.ixp_protocols.specs.Protocols.{is_filter, use_text, Ways, ways_text, Owner, filler, peer_pipe, session, was_taken, taken_fault, Owned, owned_table, device_end, Ends, ends_text, pipe_end, Local, local_text, Neighbor, neighbor_text, client_text, password_text, limit_text, family_text, Channel, channel_text, Peering, peering_text, bgp_end, protocol_end}
+use Rattle.ixp_protocols.specs.Protocols.{is_filter, use_form, Ways, ways_form, Owner, filler, peer_pipe, session, was_taken, taken_fault, Owned, owned_table, device_end, Ends, ends_form, pipe_end, Local, local_form, Neighbor, neighbor_form, client_form, password_form, limit_form, family_form, Channel, channel_form, Peering, peering_form, bgp_end, protocol_end}
 use Rattle.ixp_print.specs.Texts.{channel_text as family_word}
 use Rattle.ixp_canonical.specs.Canonical.{Before, word, sign, addr_tokens}
 use Rattle.ixp_canonical.specs.CanonicalItems.{use_tokens, ways_tokens, table_tokens, asn_tokens, local_tokens, client_tokens, password_tokens, limit_tokens, item_tokens}
@@ -20,19 +20,19 @@ use Rattle.ixp_canonical.proofs.Basics.{is_so, so_again}
 use Rattle.ixp_canonical.proofs.Bodies.{free_again}
 
 module _ (names : Names) where
-  use_again : (u : Use) (ts rest : List Kind) → Took (use_text names) u ts rest → (others : List Kind) → Took (use_text names) u (use_tokens u others) others
+  use_again : (u : Use) (ts rest : List Kind) → Took (use_form names) u ts rest → (others : List Kind) → Took (use_form names) u (use_tokens u others) others
   use_again u ts rest (inl (x, a, word_, (y, b, semicolon, (is, same)))) others =
-      subst (λ z. Took (use_text names) z (use_tokens z others) others) (sym is) (inl (tt, _, (refl, refl), (tt, _, (refl, refl), (refl, refl))))
+      subst (λ z. Took (use_form names) z (use_tokens z others) others) (sym is) (inl (tt, _, (refl, refl), (tt, _, (refl, refl), (refl, refl))))
   use_again u ts rest (inr (inl (x, a, word_, (y, b, semicolon, (is, same))))) others =
-      subst (λ z. Took (use_text names) z (use_tokens z others) others) (sym is) (inr (inl (tt, _, (refl, refl), (tt, _, (refl, refl), (refl, refl)))))
+      subst (λ z. Took (use_form names) z (use_tokens z others) others) (sym is) (inr (inl (tt, _, (refl, refl), (tt, _, (refl, refl), (refl, refl)))))
   use_again u ts rest (inr (inr (x, a, word_, (n, b, (found, c, token, (fit, (is_n, same_n))), (y, d, semicolon, (is, same)))))) others =
-      subst (λ z. Took (use_text names) z (use_tokens z others) others) (sym is)
-      (subst (λ z. Took (use_text names) (Named z) (use_tokens (Named z) others) others) (sym is_n)
+      subst (λ z. Took (use_form names) z (use_tokens z others) others) (sym is)
+      (subst (λ z. Took (use_form names) (Named z) (use_tokens (Named z) others) others) (sym is_n)
       (inr (inr (tt, _, (refl, refl), (found, _, (found, _, (refl, refl), (so_again _ _ (is_so (is_filter (names found)) _ fit), (refl, refl))), (tt, _, (refl, refl), (refl, refl)))))))
 
-  ways_again : (ways : Ways) (ts rest : List Kind) → Took (ways_text names) ways ts rest → (others : List Kind) → Took (ways_text names) ways (ways_tokens ways.inward ways.outward others) others
+  ways_again : (ways : Ways) (ts rest : List Kind) → Took (ways_form names) ways ts rest → (others : List Kind) → Took (ways_form names) ways (ways_tokens ways.inward ways.outward others) others
   ways_again ways ts rest (x, a, import_, (inward, b, took_in, (y, c, export_, (outward, d, took_out, (is, same))))) others =
-      subst (λ (z : Ways). Took (ways_text names) z (ways_tokens z.inward z.outward others) others) (sym is)
+      subst (λ (z : Ways). Took (ways_form names) z (ways_tokens z.inward z.outward others) others) (sym is)
       (tt, _, (refl, refl), (inward, _, use_again inward a b took_in _, (tt, _, (refl, refl), (outward, _, use_again outward c d took_out others, (refl, refl)))))
 
 -- Tables.
@@ -61,10 +61,10 @@ device_again names d ts rest (inr (n, a, free, (x, b, open_, (y, c, close, (is, 
     subst (ProtocolAgain names) (sym is)
     (λ others. (tt, _, (refl, refl), inl (tt, _, (refl, refl), inr (n, _, free_again names n ts a free _, (tt, _, (refl, refl), (tt, _, (refl, refl), (refl, refl)))))))
 
-ends_again : (names : Names) (e : Ends) (ts rest : List Kind) → Took (ends_text names) e ts rest → (others : List Kind)
-    → Took (ends_text names) e (table_tokens e.table (word (codes "peer") (table_tokens e.peer others))) others
+ends_again : (names : Names) (e : Ends) (ts rest : List Kind) → Took (ends_form names) e ts rest → (others : List Kind)
+    → Took (ends_form names) e (table_tokens e.table (word (codes "peer") (table_tokens e.peer others))) others
 ends_again names e ts rest (table, a, took, (x, b, peer_, (peer, c, took_peer, (is, same)))) others =
-    subst (λ (z : Ends). Took (ends_text names) z (table_tokens z.table (word (codes "peer") (table_tokens z.peer others))) others) (sym is)
+    subst (λ (z : Ends). Took (ends_form names) z (table_tokens z.table (word (codes "peer") (table_tokens z.peer others))) others) (sym is)
     (table, _, table_again filler names table ts a took _, (tt, _, (refl, refl), (peer, others, table_again peer_pipe table.names peer b c took_peer others, (refl, refl))))
 
 pipe_again : (names : Names) (d : Declares) (ts rest : List Kind) → Took (pipe_end names) d ts rest → ProtocolAgain names d
@@ -93,39 +93,39 @@ pipe_again names d ts rest (n, a, free, (x, b, open_, (ends, c, took, (ways, e, 
 
 -- Sessions.
 
-local_again : (l : Local) (ts rest : List Kind) → Took local_text l ts rest → (others : List Kind) → Took local_text l (word (codes "local") (local_tokens l.addr (asn_tokens l.asn.0 others))) others
+local_again : (l : Local) (ts rest : List Kind) → Took local_form l ts rest → (others : List Kind) → Took local_form l (word (codes "local") (local_tokens l.addr (asn_tokens l.asn.0 others))) others
 local_again l ts rest (x, a, local_, inl (addr, b, token, (asn, c, (y, d, as_, (n, e, number_, (z, f, semicolon, (is_n, same_n)))), (is, same)))) others =
-    subst (λ (v : Local). Took local_text v (word (codes "local") (local_tokens v.addr (asn_tokens v.asn.0 others))) others) (sym is)
+    subst (λ (v : Local). Took local_form v (word (codes "local") (local_tokens v.addr (asn_tokens v.asn.0 others))) others) (sym is)
     (tt, _, (refl, refl), inl (addr, _, (refl, refl), (asn, _, (tt, _, (refl, refl), (asn.0, _, (refl, refl), (tt, _, (refl, refl), (refl, refl)))), (refl, refl))))
 local_again l ts rest (x, a, local_, inr (asn, c, took, (is, same))) others =
-    subst (λ (v : Local). Took local_text v (word (codes "local") (local_tokens v.addr (asn_tokens v.asn.0 others))) others) (sym is)
+    subst (λ (v : Local). Took local_form v (word (codes "local") (local_tokens v.addr (asn_tokens v.asn.0 others))) others) (sym is)
     (tt, _, (refl, refl), inr (asn, _, (tt, _, (refl, refl), (asn.0, _, (refl, refl), (tt, _, (refl, refl), (refl, refl)))), (refl, refl)))
 
-neighbor_spells : (v : Neighbor) (others : List Kind) → Took neighbor_text v (word (codes "neighbor") (addr_tokens v.addr (asn_tokens v.asn.0 others))) others
+pub neighbor_spells : (v : Neighbor) (others : List Kind) → Took neighbor_form v (word (codes "neighbor") (addr_tokens v.addr (asn_tokens v.asn.0 others))) others
 neighbor_spells v others = (tt, _, (refl, refl), (v.addr, _, (refl, refl), (v.asn, _, (tt, _, (refl, refl), (v.asn.0, _, (refl, refl), (tt, _, (refl, refl), (refl, refl)))), (refl, refl))))
 
-client_spells : (b : Bool) (others : List Kind) → Took client_text b (client_tokens b others) others
+pub client_spells : (b : Bool) (others : List Kind) → Took client_form b (client_tokens b others) others
 client_spells true others = inl (tt, _, (refl, refl), (tt, _, (refl, refl), (tt, _, (refl, refl), (refl, refl))))
 client_spells false others = inr (refl, refl)
 
-password_spells : (p : Option (List ℕ)) (others : List Kind) → Took password_text p (password_tokens p others) others
+pub password_spells : (p : Option (List ℕ)) (others : List Kind) → Took password_form p (password_tokens p others) others
 password_spells (Some p) others = inl (tt, _, (refl, refl), (p, _, (refl, refl), (tt, _, (refl, refl), (refl, refl))))
 password_spells None others = inr (refl, refl)
 
-limit_spells : (n : Option ℕ) (others : List Kind) → Took limit_text n (limit_tokens n others) others
+pub limit_spells : (n : Option ℕ) (others : List Kind) → Took limit_form n (limit_tokens n others) others
 limit_spells (Some n) others =
     inl (tt, _, (refl, refl), (tt, _, (refl, refl), (n, _, (refl, refl), (tt, _, (refl, refl), (tt, _, (refl, refl), (tt, _, (refl, refl), (refl, refl)))))))
 limit_spells None others = inr (refl, refl)
 
-family_spells : (f : Family) (others : List Kind) → Took family_text f (word (family_word f) others) others
+pub family_spells : (f : Family) (others : List Kind) → Took family_form f (word (family_word f) others) others
 family_spells V4 others = inl (tt, _, (refl, refl), (refl, refl))
 family_spells V6 others = inr (tt, _, (refl, refl), (refl, refl))
 
-peering_again : (p : Peering) (ts rest : List Kind) → Took peering_text p ts rest → (others : List Kind)
-    → Took peering_text p (word (codes "local") (local_tokens p.here_.addr (asn_tokens p.here_.asn.0 (word (codes "neighbor") (addr_tokens p.there.addr (asn_tokens p.there.asn.0 (client_tokens p.rs_client (password_tokens p.password others)))))))) others
+peering_again : (p : Peering) (ts rest : List Kind) → Took peering_form p ts rest → (others : List Kind)
+    → Took peering_form p (word (codes "local") (local_tokens p.here_.addr (asn_tokens p.here_.asn.0 (word (codes "neighbor") (addr_tokens p.there.addr (asn_tokens p.there.asn.0 (client_tokens p.rs_client (password_tokens p.password others)))))))) others
 peering_again p ts rest (here_, a, took, (there, b, tb, (client, c, tc, (password, d, td, (is, same))))) others =
     subst
-    (λ (p : Peering). Took peering_text p (word (codes "local") (local_tokens p.here_.addr (asn_tokens p.here_.asn.0 (word (codes "neighbor") (addr_tokens p.there.addr (asn_tokens p.there.asn.0 (client_tokens p.rs_client (password_tokens p.password others)))))))) others)
+    (λ (p : Peering). Took peering_form p (word (codes "local") (local_tokens p.here_.addr (asn_tokens p.here_.asn.0 (word (codes "neighbor") (addr_tokens p.there.addr (asn_tokens p.there.asn.0 (client_tokens p.rs_client (password_tokens p.password others)))))))) others)
     (sym is)
     (here_, _, local_again here_ ts a took _, (there, _, neighbor_spells there _, (client, _, client_spells client _, (password, _, password_spells password others, (refl, refl)))))
 
@@ -133,9 +133,9 @@ abbrev channel_tokens_of : Channel → Before
 channel_tokens_of c rest =
     word (family_word c.family) (sign mark.BlockOpen (table_tokens c.table (ways_tokens c.ways.inward c.ways.outward (limit_tokens c.limit (sign mark.BlockClose (sign mark.Semicolon rest))))))
 
-channel_again : (names : Names) (c : Channel) (ts rest : List Kind) → Took (channel_text names) c ts rest → (others : List Kind) → Took (channel_text names) c (channel_tokens_of c others) others
+channel_again : (names : Names) (c : Channel) (ts rest : List Kind) → Took (channel_form names) c ts rest → (others : List Kind) → Took (channel_form names) c (channel_tokens_of c others) others
 channel_again names ch ts rest (family, a, ta, (x, b, open_, (table, c, tc, (ways, d, td, (limit, e, te, (y, f, close, (z, g, semicolon, (is, same)))))))) others =
-    subst (λ z. Took (channel_text names) z (channel_tokens_of z others) others) (sym is) (
+    subst (λ z. Took (channel_form names) z (channel_tokens_of z others) others) (sym is) (
       family,
       _,
       family_spells family _,

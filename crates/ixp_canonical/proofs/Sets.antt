@@ -1,6 +1,6 @@
 -- Sets are spelt by their canonical tokens.
-use Rattle.std.proofs.Common.{◌≡◌, ℕ, zero, suc, inl, inr, ◌≤◌, Bool, true, false, ◌&&◌, ◌==◌, nat_le, List, [], ◌∷◌, ◌++◌, length, Option, Some, None, refl, sym, ap, ◌∙◌, subst, if◌then◌else◌, eqb-true, le-leb, arith}
-use Rattle.std.proofs.lemmas.Bool.{and_parts, and_from}
+use Rattle.std.proofs.Common.{◌≡◌, ◌<◌, ◌⊎◌, ℕ, zero, suc, inl, inr, ◌≤◌, Bool, true, false, ◌&&◌, ◌||◌, ◌==◌, nat_le, nat_lt, List, [], ◌∷◌, ◌++◌, length, Option, Some, None, refl, sym, ap, ◌∙◌, subst, if◌then◌else◌, eqb-true, le-leb, arith}
+use Rattle.std.proofs.lemmas.Bool.{and_parts, and_from, or_cases, leb-true, ltb-true}
 use Rattle.ixp_num.specs.declared.addr.Addr.{Addr}
 use Rattle.ixp_num.specs.declared.prefix.Prefix.{Prefix}
 use Rattle.ixp_num.specs.declared.pattern.Pattern.{Pattern}
@@ -17,7 +17,7 @@ use Rattle.ixp_exprs.specs.declared.types.ValueType.TheVariants.{IntSet, IpSet, 
 use Rattle.ixp_lang.specs.declared.value.SetLit.{SetLit}
 use Rattle.ixp_lang.specs.declared.value.SetLit.TheVariants as set
 use Rattle.ixp_exprs.specs.Names.{Names}
-use Rattle.ixp_exprs.specs.Sets.{range, pattern_text, pattern_end, made_pattern, bounds, bounded_length, too_great, part_too_great, tuple_text, arity_of, may_be_pair, may_be_triple, pairs_in, triples_in, pair_end, triple_end, tuples_set, elements}
+use Rattle.ixp_exprs.specs.Sets.{range, set_pattern_form, pattern_end, made_pattern, bounds, bounded_length, too_great, part_too_great, tuple_form, arity_of, has_great_part, may_be_pair, may_be_triple, pairs_in, triples_in, pair_end, triple_end, tuples_set, elements}
 use Rattle.ixp_canonical.specs.Canonical.{Before, number, sign, more_of, list_of, range_tokens, addr_tokens, pattern_tokens, part_tokens, pair_tokens, triple_tokens, elements_tokens}
 use Rattle.ixp_canonical.proofs.Basics.{never_took, is_so, so_again}
 use Rattle.ixp_canonical.proofs.Listed.{round, Each, Spells, listed_again}
@@ -59,8 +59,8 @@ lawful prefix p ts rest (inr (inr (inl (x, mid, minus, (is, same))))) =
 lawful prefix p ts rest (inr (inr (inr (is, same)))) =
     subst Lawful (sym is) (both_le 0 prefix.len (bits_of prefix.family) (let z : 0 ≤ prefix.len = omega arith in z) prefix.short, both_le prefix.len prefix.len (bits_of prefix.family) (let z : prefix.len ≤ prefix.len = omega arith in z) prefix.short)
 
-pattern_as : (p : Pattern) → Lawful p → (b : Bool) → (p.low == p.prefix.len && p.high == p.prefix.len) ≡ b → (rest : List Kind)
-    → Took pattern_text p (kind.Prefix p.prefix ∷ (if b then rest else sign mark.BlockOpen (number p.low (sign mark.Comma (number p.high (sign mark.BlockClose rest)))))) rest
+pub pattern_as : (p : Pattern) → Lawful p → (b : Bool) → (p.low == p.prefix.len && p.high == p.prefix.len) ≡ b → (rest : List Kind)
+    → Took set_pattern_form p (kind.Prefix p.prefix ∷ (if b then rest else sign mark.BlockOpen (number p.low (sign mark.Comma (number p.high (sign mark.BlockClose rest)))))) rest
 pattern_as p (lows, highs) true same rest =
     let h : ((p.low == p.prefix.len) ≡ true) × ((p.high == p.prefix.len) ≡ true) = and_parts (p.low == p.prefix.len) (p.high == p.prefix.len) same in
     let low : p.low ≡ p.prefix.len = eqb-true p.low p.prefix.len h.0 in
@@ -88,7 +88,7 @@ pattern_as p (lows, highs) false same rest = (
   ),
 )
 
-pub pattern_again : (p : Pattern) (ts rest : List Kind) → Took pattern_text p ts rest → (others : List Kind) → Took pattern_text p (pattern_tokens p others) others
+pub pattern_again : (p : Pattern) (ts rest : List Kind) → Took set_pattern_form p ts rest → (others : List Kind) → Took set_pattern_form p (pattern_tokens p others) others
 pattern_again p ts rest (prefix, mid, token, end) others = pattern_as p (lawful prefix p mid rest end) (p.low == p.prefix.len && p.high == p.prefix.len) refl others
 
 -- Pairs and triples.
@@ -106,8 +106,8 @@ small_part : (b : Option ℕ) (left other : ℕ) → part_too_great b left ≡ N
 small_part None left other e = refl
 small_part (Some n) left other e = so_again _ _ (is_so _ _ e)
 
-abbrev tuple_item : Names → Bool → List SetTuple → Grammar SetTuple
-tuple_item names level items = tuple_text names level (arity_of items)
+abbrev pub tuple_item : Names → Bool → List SetTuple → Grammar SetTuple
+tuple_item names level items = tuple_form names level (arity_of items)
 
 -- a tuple that is spelt by its tokens
 abbrev TupleAgain : Names → List SetTuple → SetTuple → Type 0
@@ -129,14 +129,14 @@ third_end names true h a n None rest = (tt, _, (refl, refl), inl (tt, _, (refl, 
 third_end names true h a n (Some c) rest = (tt, _, (refl, refl), inr (c, _, inl (refl, refl), (tt, _, (refl, refl), (refl, refl))))
 third_end names false h a n c rest = absurd (let f : ⊥ = cc in f)
 
-pair_spells : (names : Names) (before : List SetTuple) (a : ℕ) (b : Option ℕ) (left left_b : ℕ) → may_be_pair (arity_of before) ≡ true → too_great a left ≡ None → part_too_great b left_b ≡ None
+pub pair_spells : (names : Names) (before : List SetTuple) (a : ℕ) (b : Option ℕ) (left left_b : ℕ) → may_be_pair (arity_of before) ≡ true → too_great a left ≡ None → part_too_great b left_b ≡ None
     → TupleAgain names before (of_two a b)
 pair_spells names before a None left left_b may small small_b =
     (may, λ rest. (tt, _, (refl, refl), (a, _, inl (refl, refl), (tt, _, (refl, refl), inl (star_end (may_be_pair (arity_of before)) may a _ 0 left small rest)))))
 pair_spells names before a (Some n) left left_b may small small_b =
-    (may, λ rest. (tt, _, (refl, refl), (a, _, inl (refl, refl), (tt, _, (refl, refl), inr (n, _, inl (refl, refl), inr (number_end (may_be_pair (arity_of before)) may a n _ _ left left_b small small_b rest))))))
+    (may, λ rest. (tt, _, (refl, refl), (a, _, inl (refl, refl), (tt, _, (refl, refl), inr (n, _, inl (refl, refl), inr (number_end (may_be_pair (arity_of before) || has_great_part a n) (ap (λ b. b || has_great_part a n) may) a n _ _ left left_b small small_b rest))))))
 
-triple_spells : (names : Names) (before : List SetTuple) (a b : ℕ) (c : Option ℕ) → may_be_triple (arity_of before) ≡ true → TupleAgain names before (of_three a b c)
+pub triple_spells : (names : Names) (before : List SetTuple) (a b : ℕ) (c : Option ℕ) → may_be_triple (arity_of before) ≡ true → TupleAgain names before (of_three a b c)
 triple_spells names before a b c may =
     (may, λ rest. (tt, _, (refl, refl), (a, _, inl (refl, refl), (tt, _, (refl, refl), inr (b, _, inl (refl, refl), inl (third_end names (may_be_triple (arity_of before)) may a b c rest))))))
 
@@ -150,10 +150,21 @@ starred_again : (names : Names) (before : List SetTuple) (b : Bool) → may_be_p
 starred_again names before true h a at at_b x ts rest (y, mid, star, took) = pair_again names before a None at at_b x mid rest h took
 starred_again names before false h a at at_b x ts rest never = absurd (never_took x ts rest never)
 
-numbered_again : (names : Names) (before : List SetTuple) (b : Bool) → may_be_pair (arity_of before) ≡ b → (a n at at_b : ℕ) (x : SetTuple) (ts rest : List Kind)
-    → Took (only b (pair_end a at (Some n) at_b)) x ts rest → TupleAgain names before x
-numbered_again names before true h a n at at_b x ts rest took = pair_again names before a (Some n) at at_b x ts rest h took
-numbered_again names before false h a n at at_b x ts rest never = absurd (never_took x ts rest never)
+-- a part that fits a pair isn't too great for one
+not_great : (a n : ℕ) (at at_b : ℕ) → too_great a at ≡ None → too_great n at_b ≡ None → has_great_part a n ≡ true → ⊥
+not_great a n at at_b small small_n great = by (or_cases (nat_lt 65535 a) (nat_lt 65535 n) great) where
+  fits : (m : ℕ) → nat_le m 65535 ≡ true → nat_lt 65535 m ≡ true → ⊥
+  fits m small great = let low = leb-true m 65535 small in let high = ltb-true 65535 m great in omega arith
+
+  by : (nat_lt 65535 a ≡ true) ⊎ (nat_lt 65535 n ≡ true) → ⊥
+  by (inl great) = fits a (is_so _ _ small) great
+  by (inr great) = fits n (is_so _ _ small_n) great
+
+numbered_again : (names : Names) (before : List SetTuple) (b : Bool) → may_be_pair (arity_of before) ≡ b → (a n at at_b : ℕ) (g : Bool) → has_great_part a n ≡ g → (x : SetTuple) (ts rest : List Kind)
+    → Took (only (b || g) (pair_end a at (Some n) at_b)) x ts rest → TupleAgain names before x
+numbered_again names before true h a n at at_b g e x ts rest took = pair_again names before a (Some n) at at_b x ts rest h took
+numbered_again names before false h a n at at_b true e x ts rest (y, mid, close, (small, (small_n, more))) = absurd (not_great a n at at_b small small_n e)
+numbered_again names before false h a n at at_b false e x ts rest never = absurd (never_took x ts rest never)
 
 triple_again : (names : Names) (before : List SetTuple) (b : Bool) → may_be_triple (arity_of before) ≡ b → (a n : ℕ) (x : SetTuple) (ts rest : List Kind)
     → Took (only b (sequence (the_mark mark.Comma) (λ tt. triple_end names a n))) x ts rest → TupleAgain names before x
@@ -168,7 +179,7 @@ tuple_again names true before x ts rest (y, a, open_, (first, b, number_, (z, c,
 tuple_again names true before x ts rest (y, a, open_, (first, b, number_, (z, c, comma, inr (second, d, number_b, inl tripled)))) =
     (refl, triple_again names before (may_be_triple (arity_of before)) refl first second x d rest tripled)
 tuple_again names true before x ts rest (y, a, open_, (first, b, number_, (z, c, comma, inr (second, d, number_b, inr paired)))) =
-    (refl, numbered_again names before (may_be_pair (arity_of before)) refl first second (length a) (length c) x d rest paired)
+    (refl, numbered_again names before (may_be_pair (arity_of before)) refl first second (length a) (length c) (has_great_part first second) refl x d rest paired)
 
 -- all tuples are of the first one's kind
 
@@ -194,22 +205,22 @@ SetAgain names level s = (l : Bool) → (level ≡ true → l ≡ true) → (res
 Always : {A : Type 0} → List A → A → Type 0
 Always items x = Unit {0}
 
-ints_again : (names : Names) (level : Bool) (x : ℕ × ℕ) (xs rs : List (ℕ × ℕ)) → rs ≡ x ∷ xs
+pub ints_again : (names : Names) (level : Bool) (x : ℕ × ℕ) (xs rs : List (ℕ × ℕ)) → rs ≡ x ∷ xs
     → ((rest : List Kind) → (j : ℕ) × Rounds (λ s. Took (round (λ before. range names) s)) j [] rs (list_of range_tokens (x ∷ xs) rest) rest) → SetAgain names level (set.Ints rs, IntSet)
 ints_again names level x xs rs all spells l le rest =
     inl (rs, sign mark.SetClose rest, subst (λ ys. Took (listed (λ before. range names)) rs (list_of range_tokens ys (sign mark.SetClose rest)) (sign mark.SetClose rest)) (sym all) (spells (sign mark.SetClose rest)), (tt, _, (refl, refl), (refl, refl)))
 
-ips_again : (names : Names) (level : Bool) (x : Addr) (xs rs : List Addr) → rs ≡ x ∷ xs
+pub ips_again : (names : Names) (level : Bool) (x : Addr) (xs rs : List Addr) → rs ≡ x ∷ xs
     → ((rest : List Kind) → (j : ℕ) × Rounds (λ s. Took (round (λ before. an_addr) s)) j [] rs (list_of addr_tokens (x ∷ xs) rest) rest) → SetAgain names level (set.Ips rs, IpSet)
 ips_again names level x xs rs all spells l le rest =
     inr (inl (rs, sign mark.SetClose rest, subst (λ ys. Took (listed (λ before. an_addr)) rs (list_of addr_tokens ys (sign mark.SetClose rest)) (sign mark.SetClose rest)) (sym all) (spells (sign mark.SetClose rest)), (tt, _, (refl, refl), (refl, refl))))
 
-prefixes_again : (names : Names) (level : Bool) (x : Pattern) (xs rs : List Pattern) → rs ≡ x ∷ xs
-    → ((rest : List Kind) → (j : ℕ) × Rounds (λ s. Took (round (λ before. pattern_text) s)) j [] rs (list_of pattern_tokens (x ∷ xs) rest) rest) → SetAgain names level (set.Prefixes rs, PrefixSet)
+pub prefixes_again : (names : Names) (level : Bool) (x : Pattern) (xs rs : List Pattern) → rs ≡ x ∷ xs
+    → ((rest : List Kind) → (j : ℕ) × Rounds (λ s. Took (round (λ before. set_pattern_form) s)) j [] rs (list_of pattern_tokens (x ∷ xs) rest) rest) → SetAgain names level (set.Prefixes rs, PrefixSet)
 prefixes_again names level x xs rs all spells l le rest =
-    inr (inr (inl (rs, sign mark.SetClose rest, subst (λ ys. Took (listed (λ before. pattern_text)) rs (list_of pattern_tokens ys (sign mark.SetClose rest)) (sign mark.SetClose rest)) (sym all) (spells (sign mark.SetClose rest)), (tt, _, (refl, refl), (refl, refl)))))
+    inr (inr (inl (rs, sign mark.SetClose rest, subst (λ ys. Took (listed (λ before. set_pattern_form)) rs (list_of pattern_tokens ys (sign mark.SetClose rest)) (sign mark.SetClose rest)) (sym all) (spells (sign mark.SetClose rest)), (tt, _, (refl, refl), (refl, refl)))))
 
-tuples_again : (names : Names) (x : SetTuple) (xs rs : List SetTuple) → rs ≡ x ∷ xs → Each Alike [] (x ∷ xs)
+pub tuples_again : (names : Names) (x : SetTuple) (xs rs : List SetTuple) → rs ≡ x ∷ xs → Each Alike [] (x ∷ xs)
     → ((rest : List Kind) → (j : ℕ) × Rounds (λ s. Took (round (tuple_item names true) s)) j [] rs (list_of tuple_tokens (x ∷ xs) rest) rest) → SetAgain names true (tuples_set (arity_of rs) rs)
 tuples_again names x xs rs all (alike, each) spells l le rest =
     subst (λ b. Took (elements names b) (tuples_set (arity_of rs) rs) (elements_tokens (tuples_set (arity_of rs) rs).0 (sign mark.SetClose rest)) rest) (sym (le refl))
@@ -232,10 +243,10 @@ unfolding Always
 by_ips names level rs ts rest (k, took) =
     (let h = listed_again (λ before. an_addr) (λ before. an_addr) addr_tokens Always (λ before x ts rest took. (tt, addr_again x)) k [] rs ts rest took in ips_again names level h.0 h.1 rs h.2 h.4)
 
-by_prefixes : (names : Names) (level : Bool) (rs : List Pattern) (ts rest : List Kind) → Took (listed (λ before. pattern_text)) rs ts rest → SetAgain names level (set.Prefixes rs, PrefixSet)
+by_prefixes : (names : Names) (level : Bool) (rs : List Pattern) (ts rest : List Kind) → Took (listed (λ before. set_pattern_form)) rs ts rest → SetAgain names level (set.Prefixes rs, PrefixSet)
 unfolding Always
 by_prefixes names level rs ts rest (k, took) =
-    (let h = listed_again (λ before. pattern_text) (λ before. pattern_text) pattern_tokens Always (λ before x ts rest took. (tt, pattern_again x ts rest took)) k [] rs ts rest took in prefixes_again names level h.0 h.1 rs h.2 h.4)
+    (let h = listed_again (λ before. set_pattern_form) (λ before. set_pattern_form) pattern_tokens Always (λ before x ts rest took. (tt, pattern_again x ts rest took)) k [] rs ts rest took in prefixes_again names level h.0 h.1 rs h.2 h.4)
 
 by_tuples : (names : Names) (level : Bool) (rs : List SetTuple) (ts rest : List Kind) → Took (listed (tuple_item names level)) rs ts rest → SetAgain names level (tuples_set (arity_of rs) rs)
 by_tuples names true rs ts rest (k, took) =

@@ -11,7 +11,7 @@ use Rattle.ixp_exprs.specs.Types.{is_of_values}
 use Rattle.ixp_exprs.specs.Names.{Names}
 use Rattle.ixp_exprs.specs.Operands.{settled, misfit_at}
 use Rattle.ixp_exprs.specs.Sets.{unless_so}
-use Rattle.ixp_stmts.specs.Statements.{Returned, same_as, may_meet, met, Said, said, Statements, statements_of, with_statement, block_end, is_if_else, may_return, return_text}
+use Rattle.ixp_stmts.specs.Statements.{Returned, same_as, may_meet, met, Said, said, Statements, statements_of, with_statement, block_end, is_if_else, may_return, return_form}
 use Rattle.ixp_canonical.specs.Canonical.{sign}
 use Rattle.ixp_canonical.specs.CanonicalItems.{stmt_tokens, stmts_tokens}
 use Rattle.ixp_canonical.proofs.Basics.{Within, sound, both_none, none_settled, is_so, so_again}
@@ -36,17 +36,17 @@ kept_may false r t e = e
 kept_may true r t e = any_type (is_of_values t) r.is_met r.ty t e
 
 -- no statement begins with `else`
-no_else : (st : StmtTree) (in_arm : Bool) (rest : List Kind) → is_if_else in_arm (stmt_tokens st rest) ≡ false
+pub no_else : (st : StmtTree) (in_arm : Bool) (rest : List Kind) → is_if_else in_arm (stmt_tokens st rest) ≡ false
 no_else (block ss) in_arm rest = refl
 no_else _ in_arm rest = refl
 
 module _ (names : Names) (scope : Scope) (w : Bool) where
   -- `return`
-  pub return_again : (n s : ℕ) (r : Returned) (one : Said StmtTree) (ts rest : List Kind) → Took (return_text (at names scope s) n r) one ts rest
-      → (m : ℕ) → Within n m → (s' : ℕ) (others : List Kind) → Took (return_text (at names scope s') m (kept w r)) (said (kept w one.returned) one.it) (stmt_tokens one.it others) others
+  pub return_again : (n s : ℕ) (r : Returned) (one : Said StmtTree) (ts rest : List Kind) → Took (return_form (at names scope s) n r) one ts rest
+      → (m : ℕ) → Within n m → (s' : ℕ) (others : List Kind) → Took (return_form (at names scope s') m (kept w r)) (said (kept w one.returned) one.it) (stmt_tokens one.it others) others
   return_again n s r one ts rest (x, a, word, (may, (value, b, took, (y, c, semicolon, (fit, (is, same)))))) m v s' others =
       let h : (settled value ≡ None) × (unless_so (may_meet r value.ty) (misfit_at s) ≡ None) = both_none (settled value) _ fit in
-      subst (λ (z : Said StmtTree). Took (return_text (at names scope s') m (kept w r)) (said (kept w z.returned) z.it) (stmt_tokens z.it others) others) (sym is)
+      subst (λ (z : Said StmtTree). Took (return_form (at names scope s') m (kept w r)) (said (kept w z.returned) z.it) (stmt_tokens z.it others) others) (sym is)
       (let whole = (expression_again names scope n s value a b took (none_settled value.misfit h.0) m v).whole in (
         tt,
         _,

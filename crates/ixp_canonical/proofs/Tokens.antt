@@ -18,7 +18,7 @@ use Rattle.ixp_exprs.specs.Types.{attribute_type}
 use Rattle.ixp_exprs.specs.Names.{is_define}
 use Rattle.ixp_exprs.specs.Lists.{only}
 use Rattle.ixp_exprs.specs.Operands.{Operand, closed, or_else}
-use Rattle.ixp_exprs.specs.Expressions.{Place, word_in, truth_in, state_in, literal_word, literal_in, has_parts, part_in, attribute_in, attribute_text, outside_define}
+use Rattle.ixp_exprs.specs.Expressions.{Place, word_in, truth_in, state_in, literal_word, literal_in, has_parts, part_in, attribute_in, attribute_form, outside_define}
 use Rattle.ixp_print.specs.Texts.{bool_text, state_text}
 use Rattle.ixp_canonical.specs.Canonical.{value_tokens, attr_tokens}
 use Rattle.ixp_canonical.proofs.Basics.{sound, never_took}
@@ -38,11 +38,11 @@ abbrev pub OneToken : Operand → Type 0
 OneToken o =
     (v : Value) × (t : ValueType) × (o ≡ closed (literal v) t) × (k : Kind) × (literal_in k ≡ Some (closed (literal v) t)) × ((rest : List Kind) → value_tokens v rest ≡ k ∷ rest)
 
-of_truth : (b : Bool) → literal_in (kind.Word (bool_text b)) ≡ Some (closed (literal (value.Bool b)) Truth)
+pub of_truth : (b : Bool) → literal_in (kind.Word (bool_text b)) ≡ Some (closed (literal (value.Bool b)) Truth)
 of_truth true = refl
 of_truth false = refl
 
-of_state : (s : Validity) → literal_in (kind.Word (state_text s)) ≡ Some (closed (literal (value.Roa s)) State)
+pub of_state : (s : Validity) → literal_in (kind.Word (state_text s)) ≡ Some (closed (literal (value.Roa s)) State)
 of_state Valid = refl
 of_state Invalid = refl
 of_state Unknown = refl
@@ -84,7 +84,7 @@ outside_is at class _ a e = absurd cc
 abbrev pub is_attribute : Operand → Type 0
 is_attribute o = (a : Attr) × (o.tree ≡ attribute a) × (o.ty ≡ attribute_type a)
 
-pub attribute_is : (a : Attr) (o : Operand) (ts rest : List Kind) → Took (attribute_text a) o ts rest → is_attribute o
+pub attribute_is : (a : Attr) (o : Operand) (ts rest : List Kind) → Took (attribute_form a) o ts rest → is_attribute o
 attribute_is a o ts rest (inr (is, same)) = (a, ap (λ x. x.tree) is, ap (λ x. x.ty) is)
 attribute_is a o ts rest (inl took) = by_parts (has_parts a) took
   where
@@ -94,7 +94,7 @@ attribute_is a o ts rest (inl took) = by_parts (has_parts a) took
     by_parts false never = absurd (never_took o ts rest never)
 
 pub attribute_again : (at : Place) (a : Attr) → is_define at.scope ≡ false → (rest : List Kind)
-    → Took (sequence (takes (word_in (outside_define at attribute_in))) attribute_text) (sound (attribute a) (attribute_type a) (has_parts a)) (attr_tokens a rest) rest
+    → Took (sequence (takes (word_in (outside_define at attribute_in))) attribute_form) (sound (attribute a) (attribute_type a) (has_parts a)) (attr_tokens a rest) rest
 attribute_again at attr.Net out rest = (attr.Net, _, (outside_again at attribute_in (codes "net") attr.Net out refl, refl), inr (refl, refl))
 attribute_again at attr.NetLen out rest = (attr.Net, _, (outside_again at attribute_in (codes "net") attr.Net out refl, refl), inl (tt, _, (refl, refl), (attr.NetLen, _, (refl, refl), (refl, refl))))
 attribute_again at attr.From out rest = (attr.From, _, (outside_again at attribute_in (codes "from") attr.From out refl, refl), inr (refl, refl))

@@ -15,7 +15,7 @@ use Rattle.ixp_exprs.specs.declared.types.ValueType.{ValueType}
 use Rattle.ixp_exprs.specs.declared.types.ValueType.TheVariants.{Bool as Truth, Int, Ip, Prefix, State}
 use Rattle.ixp_exprs.specs.declared.env.Signature.{Signature}
 use Rattle.ixp_exprs.specs.Operands.{Operand, closed, literal_number, pair_with, triple_with}
-use Rattle.ixp_exprs.specs.Expressions.{Place, truth_in, state_in, literal_word, literal_in, attribute_text, has_parts, named_value, Shape, plain, arguments, roa_values, Parts, with_part, ends_with, part_text, some_parts, front, enclosed, plain_tree, check_tree, Chain, comparison_of, chain_part, chain_of, expression_of, Deeper, nothing, deeper, is_left, opened, negation_text, plain_text, name_text, named_text, roa_table, checked_text, check_text, set_text, operand_text, unary_text, expression_text, called}
+use Rattle.ixp_exprs.specs.Expressions.{Place, truth_in, state_in, literal_word, literal_in, attribute_form, has_parts, named_value, Shape, plain, arguments, roa_values, Parts, with_part, ends_with, part_form, some_parts, front, enclosed, plain_tree, check_tree, Chain, comparison_of, chain_part, chain_of, expression_of, Deeper, nothing, deeper, is_left, opened, negation_form, plain_form, name_form, named_form, roa_table, checked_form, check_form, set_form, operand_form, unary_form, expression_form, called}
 use Rattle.ixp_print.specs.Texts.{is_chain, is_compound}
 use Rattle.ixp_canonical.specs.Canonical.{sign, expr_tokens, exprs_tokens, more_exprs_tokens, chain_tokens, more_chain_tokens}
 use Rattle.ixp_canonical.specs.Printed.{IsWritten}
@@ -136,7 +136,7 @@ attribute_is attr.PairsLen rest written = (tt, (tt, (tt, written)))
 attribute_is attr.Triples rest written = (tt, written)
 attribute_is attr.TriplesLen rest written = (tt, (tt, (tt, written)))
 
-keeps_attribute : (a : Attr) → Keeps (attribute_text a) IsOperand
+keeps_attribute : (a : Attr) → Keeps (attribute_form a) IsOperand
 keeps_attribute a =
     keeps_choice (keeps_only (has_parts a) (keeps_then (keeps_mark mark.Dot) (λ x. keeps_then (keeps_token _) (λ part. keeps_gives (attribute_is part)))))
     (keeps_gives (attribute_is a))
@@ -157,7 +157,7 @@ ending_is true parts all = all
 ending_is false parts all = all
 
 module _ (expression : Grammar Operand) (k : Keeps expression IsOperand) where
-  keeps_part : (shape : Shape) (place : ℕ) (before : Parts) → AreParts before → Keeps (part_text expression shape place before) (Kept AreParts AreParts)
+  keeps_part : (shape : Shape) (place : ℕ) (before : Parts) → AreParts before → Keeps (part_form expression shape place before) (Kept AreParts AreParts)
   keeps_part shape place before all =
       keeps_here (λ left.
       keeps_sequence k (λ o is.
@@ -222,16 +222,16 @@ keeps_opened m (deeper unary) f k kf = keeps_then (keeps_mark m) (λ x. kf unary
 keeps_opened m nothing f k kf = keeps_bars keeps_never
 
 module _ (at : Place) (fit : NumbersFit at.names) (inner : Deeper) (k : KeepsBelow inner) where
-  keeps_negation : Keeps (negation_text inner) IsOperand
+  keeps_negation : Keeps (negation_form inner) IsOperand
   keeps_negation =
       keeps_here (λ place. keeps_opened mark.Not inner _ k (λ unary ku. keeps_sequence ku (λ o one. keeps_checks (keeps_gives (negation_writes o.tree one)))))
 
-  keeps_plain : Keeps (plain_text at inner) IsOperand
+  keeps_plain : Keeps (plain_form at inner) IsOperand
   keeps_plain =
       keeps_opened mark.Open inner _ k (λ unary ku.
       keeps_sequence (keeps_enclosed (expression_of unary) (keeps_expression_of unary ku) at plain at.statement) (λ parts all. keeps_gives (plain_is parts.trees parts.ty all)))
 
-  keeps_name_text : (n : List ℕ) (place : ℕ) (s : Option Signature) → IsName n → Keeps (name_text at inner n place s) IsOperand
+  keeps_name_text : (n : List ℕ) (place : ℕ) (s : Option Signature) → IsName n → Keeps (name_form at inner n place s) IsOperand
   keeps_name_text n place (Some signature) is =
       keeps_checks
       (keeps_opened mark.Open inner _ k (λ unary ku.
@@ -239,13 +239,13 @@ module _ (at : Place) (fit : NumbersFit at.names) (inner : Deeper) (k : KeepsBel
       keeps_gives (call_writes n parts.trees is all))))
   keeps_name_text n place None is = keeps_value at n place is
 
-  keeps_named : Keeps (named_text at inner) IsOperand
+  keeps_named : Keeps (named_form at inner) IsOperand
   keeps_named = keeps_here (λ place. keeps_sequence keeps_name (λ n is. keeps_name_text n place (called at n) is))
 
   keeps_table : (place : ℕ) → Keeps (roa_table at place) IsName
   keeps_table place = keeps_here (λ left. keeps_sequence keeps_name (λ n is. keeps_checks (keeps_gives is)))
 
-  keeps_checked : (place : ℕ) → Keeps (checked_text at inner place) IsOperand
+  keeps_checked : (place : ℕ) → Keeps (checked_form at inner place) IsOperand
   keeps_checked place =
       keeps_opened mark.Open inner _ k (λ unary ku.
       keeps_sequence (keeps_table place) (λ table is.
@@ -253,16 +253,16 @@ module _ (at : Place) (fit : NumbersFit at.names) (inner : Deeper) (k : KeepsBel
       keeps_sequence (keeps_enclosed (expression_of unary) (keeps_expression_of unary ku) at roa_values place) (λ parts all.
       keeps_gives (check_is table parts.trees is all)))))
 
-  keeps_check : Keeps (check_text at inner) IsOperand
+  keeps_check : Keeps (check_form at inner) IsOperand
   keeps_check = keeps_here (λ place. keeps_then (keeps_token _) (λ x. keeps_checked place))
 
-  keeps_set : Keeps (set_text at inner) IsOperand
+  keeps_set : Keeps (set_form at inner) IsOperand
   keeps_set =
       keeps_then (keeps_mark mark.SetOpen) (λ x.
       keeps_sequence (keeps_elements at.names fit (is_left inner)) (λ s is. keeps_gives (λ rest written. (tt, is (sign mark.SetClose rest) (tt, written)))))
 
-  keeps_operand : Keeps (operand_text at inner) IsOperand
-  unfolding operand_text
+  keeps_operand : Keeps (operand_form at inner) IsOperand
+  unfolding operand_form
   keeps_operand =
       keeps_choice keeps_negation
       (keeps_choice keeps_plain
@@ -272,10 +272,10 @@ module _ (at : Place) (fit : NumbersFit at.names) (inner : Deeper) (k : KeepsBel
       (keeps_choice (keeps_then (keeps_token _) (λ a. keeps_attribute a))
       keeps_set)))))
 
-keeps_unary : (at : Place) → NumbersFit at.names → (levels : ℕ) → Keeps (unary_text at levels) IsOperand
+keeps_unary : (at : Place) → NumbersFit at.names → (levels : ℕ) → Keeps (unary_form at levels) IsOperand
 keeps_unary at fit zero = keeps_operand at fit nothing tt
-keeps_unary at fit (suc levels) = keeps_operand at fit (deeper (unary_text at levels)) (keeps_unary at fit levels)
+keeps_unary at fit (suc levels) = keeps_operand at fit (deeper (unary_form at levels)) (keeps_unary at fit levels)
 
 -- what written tokens say as an expression is written again
-pub keeps_expression : (at : Place) → NumbersFit at.names → (levels : ℕ) → Keeps (expression_text at levels) IsOperand
-keeps_expression at fit levels = keeps_expression_of (unary_text at levels) (keeps_unary at fit levels)
+pub keeps_expression : (at : Place) → NumbersFit at.names → (levels : ℕ) → Keeps (expression_form at levels) IsOperand
+keeps_expression at fit levels = keeps_expression_of (unary_form at levels) (keeps_unary at fit levels)

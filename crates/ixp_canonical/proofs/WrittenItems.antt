@@ -18,9 +18,9 @@ use Rattle.ixp_exprs.specs.Names.{Names, number_of, table_of, defined_number}
 use Rattle.ixp_exprs.specs.Declarations.{nothing_declared, Declares, standing, free_name}
 use Rattle.ixp_lang.specs.Trees.{ExprTree, literal, named}
 use Rattle.ixp_lang.specs.declared.value.Value.TheVariants as value
-use Rattle.ixp_protocols.specs.Protocols.{filter_name, use_text, Ways, ways_text, Owner, filler, peer_pipe, session, marked, now_taken, Owned, owned_table, device_end, Ends, ends_text, pipe_end, asn_text, local_text, neighbor_text, client_text, string_in, password_text, limit_text, family_text, Channel, channel_text, Peering, peering_text, session_with, bgp_end, protocol_end}
-use Rattle.ixp_read.specs.Functions.{type_text, has_sets, Params, param_text, params_text, written_text, levels_inside, as_written, Head, head_text, Body, frame_in, body_end, function_end, filter_end}
-use Rattle.ixp_read.specs.Items.{router_id_end, table_end, define_levels, define_place, defined_value, define_end, declaration_text, table_or, item_text, Begun, config_text}
+use Rattle.ixp_protocols.specs.Protocols.{filter_name, use_form, Ways, ways_form, Owner, filler, peer_pipe, session, marked, now_taken, Owned, owned_table, device_end, Ends, ends_form, pipe_end, as_number_form, local_form, neighbor_form, client_form, string_in, password_form, limit_form, family_form, Channel, channel_form, Peering, peering_form, session_with, bgp_end, protocol_end}
+use Rattle.ixp_read.specs.Functions.{type_form, has_sets, Params, param_form, params_form, written_form, levels_inside, as_written, Head, head_form, Body, frame_in, body_end, function_form, filter_form}
+use Rattle.ixp_read.specs.Items.{router_id_end, table_end, define_levels, define_place, defined_value, define_end, declaration_form, table_or, item_form, Begun, config_form}
 use Rattle.ixp_canonical.specs.Canonical.{Before, word, sign, addr_tokens}
 use Rattle.ixp_canonical.specs.CanonicalItems.{ty_tokens, param_tokens, params_tokens, more_params_tokens, use_tokens, ways_tokens, limit_tokens, client_tokens, password_tokens, local_tokens, asn_tokens, channel_tokens, bgp_tokens, item_tokens, items_tokens, config_tokens}
 use Rattle.ixp_canonical.specs.Printed.{IsWritten, AreWritten}
@@ -55,7 +55,7 @@ IsDeclared d = IsItem d.0 × NumbersFit d.1
 abbrev IsUse : Use → Type 0
 IsUse u = Writes (use_tokens u)
 
-keeps_use : (names : Names) → Keeps (use_text names) IsUse
+keeps_use : (names : Names) → Keeps (use_form names) IsUse
 keeps_use names =
     keeps_choice (keeps_then (keeps_word _) (λ x. keeps_ended mark.Semicolon (λ rest written. (tt, (tt, written)))))
     (keeps_choice (keeps_then (keeps_word _) (λ x. keeps_ended mark.Semicolon (λ rest written. (tt, (tt, written)))))
@@ -67,7 +67,7 @@ keeps_use names =
 abbrev AreWays : Ways → Type 0
 AreWays w = Writes (ways_tokens w.inward w.outward)
 
-keeps_ways : (names : Names) → Keeps (ways_text names) AreWays
+keeps_ways : (names : Names) → Keeps (ways_form names) AreWays
 keeps_ways names =
     keeps_then (keeps_word _) (λ x.
     keeps_sequence (keeps_use names) (λ inward one.
@@ -99,7 +99,7 @@ keeps_device names fit =
 abbrev AreEnds : Ends → Type 0
 AreEnds e = IsName e.table × IsName e.peer × NumbersFit e.names
 
-keeps_ends : (names : Names) → NumbersFit names → Keeps (ends_text names) AreEnds
+keeps_ends : (names : Names) → NumbersFit names → Keeps (ends_form names) AreEnds
 keeps_ends names fit =
     keeps_sequence (keeps_owned filler names fit) (λ table one.
     keeps_then (keeps_word _) (λ x. keeps_sequence (keeps_owned peer_pipe table.names one.1) (λ peer two. keeps_gives (one.0, two.0, two.1))))
@@ -115,18 +115,18 @@ keeps_pipe names fit =
 
 -- Sessions.
 
-keeps_asn : Keeps asn_text (λ a. IsNumber a.0)
+keeps_asn : Keeps as_number_form (λ a. IsNumber a.0)
 keeps_asn = keeps_then (keeps_word _) (λ x. keeps_sequence keeps_number (λ n fit. keeps_ended mark.Semicolon fit))
 
-keeps_local : Keeps local_text (λ l. IsNumber l.asn.0)
+keeps_local : Keeps local_form (λ l. IsNumber l.asn.0)
 keeps_local =
     keeps_then (keeps_word _) (λ x.
     keeps_choice (keeps_then (keeps_token _) (λ a. keeps_sequence keeps_asn (λ asn fit. keeps_gives fit))) (keeps_sequence keeps_asn (λ asn fit. keeps_gives fit)))
 
-keeps_neighbor : Keeps neighbor_text (λ n. IsNumber n.asn.0)
+keeps_neighbor : Keeps neighbor_form (λ n. IsNumber n.asn.0)
 keeps_neighbor = keeps_then (keeps_word _) (λ x. keeps_then (keeps_token _) (λ a. keeps_sequence keeps_asn (λ asn fit. keeps_gives fit)))
 
-keeps_client : Keeps client_text Any
+keeps_client : Keeps client_form Any
 keeps_client = keeps_choice (keeps_then (keeps_word _) (λ x. keeps_then (keeps_word _) (λ y. keeps_ended mark.Semicolon tt))) (keeps_gives tt)
 
 abbrev IsString : List ℕ → Type 0
@@ -140,10 +140,10 @@ abbrev IsPassword : Option (List ℕ) → Type 0
 IsPassword None = Unit {0}
 IsPassword (Some s) = IsString s
 
-keeps_password : Keeps password_text IsPassword
+keeps_password : Keeps password_form IsPassword
 keeps_password = keeps_choice (keeps_then (keeps_word _) (λ x. keeps_sequence (keeps_takes string_keeps) (λ s is. keeps_ended mark.Semicolon is))) (keeps_gives tt)
 
-keeps_limit : Keeps limit_text NumberFits
+keeps_limit : Keeps limit_form NumberFits
 keeps_limit =
     keeps_choice
     (keeps_then (keeps_word _) (λ x.
@@ -151,13 +151,13 @@ keeps_limit =
     keeps_sequence keeps_number (λ n fit. keeps_then (keeps_word _) (λ z. keeps_then (keeps_word _) (λ u. keeps_ended mark.Semicolon fit))))))
     (keeps_gives tt)
 
-keeps_family : Keeps family_text Any
+keeps_family : Keeps family_form Any
 keeps_family = keeps_choice (keeps_then (keeps_word _) (λ x. keeps_gives tt)) (keeps_then (keeps_word _) (λ x. keeps_gives tt))
 
 abbrev IsChannel : Channel → Type 0
 IsChannel c = IsName c.table × AreWays c.ways × NumberFits c.limit × NumbersFit c.names
 
-keeps_channel : (names : Names) → NumbersFit names → Keeps (channel_text names) IsChannel
+keeps_channel : (names : Names) → NumbersFit names → Keeps (channel_form names) IsChannel
 keeps_channel names fit =
     keeps_then keeps_family (λ family.
     keeps_then (keeps_mark mark.BlockOpen) (λ x.
@@ -168,7 +168,7 @@ keeps_channel names fit =
 abbrev IsPeering : Peering → Type 0
 IsPeering p = IsNumber p.here_.asn.0 × IsNumber p.there.asn.0 × IsPassword p.password
 
-keeps_peering : Keeps peering_text IsPeering
+keeps_peering : Keeps peering_form IsPeering
 keeps_peering =
     keeps_sequence keeps_local (λ here_ one.
     keeps_sequence keeps_neighbor (λ there two.
@@ -252,7 +252,7 @@ type_writes ty.PrefixSet rest written = (tt, (tt, written))
 type_writes ty.PairSet rest written = (tt, (tt, written))
 type_writes ty.LcSet rest written = (tt, (tt, written))
 
-keeps_type : Keeps type_text Any
+keeps_type : Keeps type_form Any
 keeps_type = keeps_then (keeps_token _) (λ t. keeps_choice (keeps_only (has_sets t) (keeps_then (keeps_word _) (λ x. keeps_gives tt))) (keeps_gives tt))
 
 abbrev IsParam : Ty × List ℕ → Type 0
@@ -272,14 +272,14 @@ params_write : (ps : List (Ty × List ℕ)) → AreAll IsParam ps → Writes (pa
 params_write [] all rest written = written
 params_write (p ∷ ps) (one, all) rest written = param_writes p one _ (more_params_write ps all rest written)
 
-keeps_param : (number : ℕ) (before : Params) → AreParams before → Keeps (param_text number before) AreParams
+keeps_param : (number : ℕ) (before : Params) → AreParams before → Keeps (param_form number before) AreParams
 keeps_param number before all =
     keeps_then keeps_type (λ t.
     keeps_here (λ left.
     keeps_sequence keeps_name (λ n is.
     keeps_checks (keeps_gives (all_more IsParam before.params (t, n) all.0 is, standing_fits before.names n _ all.1 tt)))))
 
-keeps_params : (number : ℕ) (names : Names) → NumbersFit names → Keeps (params_text number names) AreParams
+keeps_params : (number : ℕ) (names : Names) → NumbersFit names → Keeps (params_form number names) AreParams
 keeps_params number names fit =
     keeps_then (keeps_mark mark.Open) (λ x.
     keeps_choice (keeps_ended mark.Close (tt, fit))
@@ -287,13 +287,13 @@ keeps_params number names fit =
     (keeps_rounds AreParams (tt, fit) (λ before all. keeps_sequence (keeps_param number before all) (λ params more. keeps_choice (keeps_ended mark.Semicolon more) (keeps_gives more))))
     (λ params all. keeps_ended mark.Close all)))
 
-keeps_written : Keeps written_text Any
+keeps_written : Keeps written_form Any
 keeps_written = keeps_choice (keeps_then (keeps_mark mark.Arrow) (λ x. keeps_then keeps_type (λ t. keeps_gives tt))) (keeps_gives tt)
 
 abbrev IsHead : Head → Type 0
 IsHead h = IsName h.name × AreParams h.params
 
-keeps_head : (number : ℕ) (names : Names) → NumbersFit names → Keeps (head_text number names) IsHead
+keeps_head : (number : ℕ) (names : Names) → NumbersFit names → Keeps (head_form number names) IsHead
 keeps_head number names fit =
     keeps_sequence (keeps_free names) (λ n is.
     keeps_sequence (keeps_params number (standing names n declared.Begun) (standing_fits names n declared.Begun fit tt)) (λ params all. keeps_gives (is, all)))
@@ -308,14 +308,14 @@ keeps_body_end number names fit =
     keeps_then (keeps_mark mark.BlockOpen) (λ x.
     keeps_sequence (keeps_body (frame_in number names) fit levels_inside (as_written type_)) (λ body all. keeps_checks (keeps_gives all)))))
 
-keeps_function : (number : ℕ) (names : Names) → NumbersFit names → Keeps (function_end number names) IsDeclared
+keeps_function : (number : ℕ) (names : Names) → NumbersFit names → Keeps (function_form number names) IsDeclared
 keeps_function number names fit =
     keeps_sequence (keeps_head number names fit) (λ head is.
     keeps_sequence (keeps_body_end number head.params.names is.1.1) (λ body all.
     keeps_gives
     (λ rest written. (tt, (is.0, (tt, params_write head.params.params is.1.0 _ (tt, body_writes body.statements all rest written)))), standing_fits head.params.names head.name _ is.1.1 tt)))
 
-keeps_filter_end : (names : Names) → NumbersFit names → Keeps (filter_end names) IsDeclared
+keeps_filter_end : (names : Names) → NumbersFit names → Keeps (filter_form names) IsDeclared
 keeps_filter_end names fit =
     keeps_sequence (keeps_free names) (λ n is.
     keeps_then (keeps_mark mark.BlockOpen) (λ x.
@@ -351,8 +351,8 @@ keeps_define statement names fit =
     keeps_sequence (keeps_defined statement names fit) (λ o so.
     keeps_gives (λ rest written. (tt, (is, (tt, so _ (tt, written)))), standing_fits names n _ fit (defined_fits names o.tree fit so)))))
 
-keeps_item : (number : ℕ) (names : Names) → NumbersFit names → Keeps (item_text number names) IsDeclared
-unfolding item_text table_or declaration_text
+keeps_item : (number : ℕ) (names : Names) → NumbersFit names → Keeps (item_form number names) IsDeclared
+unfolding item_form table_or declaration_form
 keeps_item number names fit =
     keeps_here (λ place.
     keeps_choice (keeps_then (keeps_word _) (λ x. keeps_router_id names fit))
@@ -368,7 +368,7 @@ keeps_item number names fit =
 abbrev IsBegun : Begun → Type 0
 IsBegun b = AreAll IsItem b.items × NumbersFit b.names
 
-keeps_config : Keeps config_text (AreAll IsItem)
+keeps_config : Keeps config_form (AreAll IsItem)
 keeps_config =
     keeps_rounds IsBegun (tt, nothing_fits) (λ before all.
     keeps_choice (keeps_sequence (keeps_item _ before.names all.1) (λ d is. keeps_gives (all_more IsItem before.items d.0 all.0 is.0, is.1))) (keeps_unless (keeps_gives all.0)))
@@ -378,5 +378,5 @@ items_write [] all rest written = written
 items_write (i ∷ items) (one, all) rest written = one _ (items_write items all rest written)
 
 -- the configuration that written tokens spell has canonical tokens that are written
-pub spelt_written : (c : List ItemTree) (tokens : List Kind) → AreWritten tokens → Took config_text c tokens [] → AreWritten (config_tokens c)
+pub spelt_written : (c : List ItemTree) (tokens : List Kind) → AreWritten tokens → Took config_form c tokens [] → AreWritten (config_tokens c)
 spelt_written c tokens written took = items_write c (keeps_config.keeps c tokens [] written took).0 [] tt

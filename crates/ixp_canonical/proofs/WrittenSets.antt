@@ -1,5 +1,5 @@
 -- What written tokens say of sets is written again.
-use Rattle.std.proofs.Common.{ℕ, Bool, true, false, ◌&&◌, ◌==◌, List, [], ◌∷◌, Option, Some, None, arith, if◌then◌else◌}
+use Rattle.std.proofs.Common.{ℕ, Bool, true, false, ◌&&◌, ◌||◌, ◌==◌, List, [], ◌∷◌, Option, Some, None, arith, if◌then◌else◌}
 use Rattle.ixp_num.specs.declared.addr.Addr.{Addr}
 use Rattle.ixp_num.specs.declared.prefix.Prefix.{Prefix}
 use Rattle.ixp_num.specs.declared.pattern.Pattern.{Pattern}
@@ -11,7 +11,7 @@ use Rattle.ixp_tokens.specs.declared.token.Mark.TheVariants as mark
 use Rattle.ixp_exprs.specs.Names.{Names, number_of}
 use Rattle.ixp_tokens.specs.Pieces.{an_addr}
 use Rattle.ixp_exprs.specs.Lists.{listed}
-use Rattle.ixp_exprs.specs.Sets.{or_zero, numeral, range, bounded_length, bounds, pattern_text, pair_end, triple_end, may_be_pair, may_be_triple, second_end, tuple_end, tuple_text, arity_of, pairs_in, triples_in, tuples_set, elements}
+use Rattle.ixp_exprs.specs.Sets.{or_zero, numeral, range, bounded_length, bounds, set_pattern_form, pair_end, triple_end, has_great_part, may_be_pair, may_be_triple, second_end, tuple_end, tuple_form, arity_of, pairs_in, triples_in, tuples_set, elements}
 use Rattle.ixp_exprs.proofs.SetTuples.{SetTuple, of_two, of_three}
 use Rattle.ixp_canonical.specs.Canonical.{number, sign, range_tokens, part_tokens, addr_tokens, pattern_tokens, pair_tokens, triple_tokens, elements_tokens}
 use Rattle.ixp_canonical.specs.Printed.{AreWritten}
@@ -56,7 +56,7 @@ module _ (names : Names) (fit : NumbersFit names) where
   keeps_second_end : (before : List SetTuple) (first at second place : ℕ) → IsNumber first → IsNumber second → Keeps (second_end names (arity_of before) first at second place) IsTuple
   keeps_second_end before first at second place one two =
       keeps_choice (keeps_only (may_be_triple (arity_of before)) (keeps_then (keeps_mark mark.Comma) (λ x. keeps_triple_end first second one two)))
-      (keeps_only (may_be_pair (arity_of before)) (keeps_pair_end first at (Some second) place one two))
+      (keeps_only (may_be_pair (arity_of before) || has_great_part first second) (keeps_pair_end first at (Some second) place one two))
 
   keeps_tuple_end : (before : List SetTuple) (first at : ℕ) → IsNumber first → Keeps (tuple_end names (arity_of before) first at) IsTuple
   keeps_tuple_end before first at one =
@@ -64,7 +64,7 @@ module _ (names : Names) (fit : NumbersFit names) where
       keeps_choice (keeps_only (may_be_pair (arity_of before)) (keeps_then (keeps_mark mark.Star) (λ x. keeps_pair_end first at None place one tt)))
       (keeps_sequence keeps_numeral (λ second two. keeps_second_end before first at second place one two)))
 
-  keeps_tuple : (is_level_left : Bool) (before : List SetTuple) → Keeps (tuple_text names is_level_left (arity_of before)) IsTuple
+  keeps_tuple : (is_level_left : Bool) (before : List SetTuple) → Keeps (tuple_form names is_level_left (arity_of before)) IsTuple
   keeps_tuple true before =
       keeps_then (keeps_mark mark.Open) (λ x.
       keeps_here (λ at. keeps_sequence keeps_numeral (λ first one. keeps_then (keeps_mark mark.Comma) (λ y. keeps_tuple_end before first at one))))
@@ -90,7 +90,7 @@ keeps_bounds p =
     keeps_sequence (keeps_length 0 (bits_of p.family)) (λ low one.
     keeps_then (keeps_mark mark.Comma) (λ x. keeps_sequence (keeps_length low (bits_of p.family)) (λ high two. keeps_ended mark.BlockClose (one, two))))
 
-keeps_pattern : Keeps pattern_text IsPattern
+keeps_pattern : Keeps set_pattern_form IsPattern
 keeps_pattern =
     keeps_then (keeps_token _) (λ p.
     keeps_choice (keeps_then (keeps_mark mark.BlockOpen) (λ x. keeps_bounds p))

@@ -6,8 +6,8 @@ use Rattle.ixp_tokens.specs.declared.token.Mark.TheVariants as mark
 use Rattle.ixp_exprs.specs.declared.types.ValueType.{ValueType}
 use Rattle.ixp_exprs.specs.declared.types.ValueType.TheVariants.{Int, Ip, Pair, Triple, PairSet, TripleSet}
 use Rattle.ixp_exprs.specs.Names.{function_of}
-use Rattle.ixp_exprs.specs.Expressions.{Place, arguments, expression_text}
-use Rattle.ixp_stmts.specs.Statements.{Frame, place_in, Returned, Said, value_end, enclosed_end, params_of, call_text, return_text, next_hop_end, prepend_end, change_end, change_text, plain_text, label_text, labels_text, Statements, statements_of, block_end, Deeper, nothing, deeper, block_text, no_branch, branch_text, else_text, test_end, if_text, Arms, arms, arms_text, case_end, Subject, subject_end, case_text, statement_with, statement_text, body_text}
+use Rattle.ixp_exprs.specs.Expressions.{Place, arguments, expression_form}
+use Rattle.ixp_stmts.specs.Statements.{Frame, place_in, Returned, Said, value_end, enclosed_end, params_of, call_form, return_form, next_hop_end, prepend_end, change_end, change_form, plain_form, label_form, labels_form, Statements, statements_of, block_end, Deeper, nothing, deeper, block_form, no_branch, branch_form, else_form, test_end, if_form, Arms, arms, arms_form, case_end, Subject, subject_end, case_form, statement_with, statement_form, body_form}
 use Rattle.ixp_canonical.specs.Canonical.{sign}
 use Rattle.ixp_canonical.specs.CanonicalItems.{label_tokens, change_tokens, stmt_tokens, stmts_tokens, else_tokens, other_tokens, arms_tokens, body_tokens}
 use Rattle.ixp_canonical.proofs.Keeping.{Keeps, keeps_gives, keeps_token, keeps_sequence, keeps_then, keeps_choice, keeps_checks, keeps_bars, keeps_unless, keeps_here, keeps_rounds, keeps_mark, keeps_word, keeps_never, keeps_ended, keeps_number, keeps_name, AreAll, all_more, keeps_listed, Writes, list_writes}
@@ -57,15 +57,15 @@ module _ (at : Place) (fit : NumbersFit at.names) (levels : ℕ) where
       keeps_then (keeps_mark mark.Open) (λ x.
       keeps_sequence (keeps_expression at fit levels) (λ o is. keeps_then (keeps_mark mark.Close) (λ y. keeps_checks (keeps_ended mark.Semicolon is))))
 
-  keeps_call : Keeps (call_text at levels) IsStmt
+  keeps_call : Keeps (call_form at levels) IsStmt
   keeps_call =
       keeps_sequence keeps_name (λ n is.
       keeps_checks
       (keeps_then (keeps_mark mark.Open) (λ x.
-      keeps_sequence (keeps_enclosed (expression_text at levels) (keeps_expression at fit levels) at (arguments (params_of (function_of (at.names n)))) at.statement) (λ parts all.
+      keeps_sequence (keeps_enclosed (expression_form at levels) (keeps_expression at fit levels) at (arguments (params_of (function_of (at.names n)))) at.statement) (λ parts all.
       keeps_ended mark.Semicolon (λ rest written. (is, (tt, exprs_write parts.trees all _ (tt, (tt, written)))))))))
 
-  keeps_return : (returned : Returned) → Keeps (return_text at levels returned) IsSaid
+  keeps_return : (returned : Returned) → Keeps (return_form at levels returned) IsSaid
   keeps_return returned =
       keeps_then (keeps_word _) (λ x.
       keeps_checks
@@ -91,8 +91,8 @@ module _ (at : Place) (fit : NumbersFit at.names) (levels : ℕ) where
   change_is : (list change : List ℕ) (e : ExprTree) → IsExpr e → Writes (change_tokens list change e)
   change_is list change e is rest written = (tt, (tt, (tt, (tt, is _ (tt, (tt, written))))))
 
-  keeps_change : Keeps (change_text at levels) IsStmt
-  unfolding change_text
+  keeps_change : Keeps (change_form at levels) IsStmt
+  unfolding change_form
   keeps_change =
       keeps_choice keeps_call
       (keeps_choice (keeps_then (keeps_word _) (λ x. keeps_next_hop))
@@ -102,7 +102,7 @@ module _ (at : Place) (fit : NumbersFit at.names) (levels : ℕ) where
       (keeps_choice (keeps_then (keeps_word _) (λ x. keeps_ended mark.Semicolon (λ rest written. (tt, (tt, written)))))
       (keeps_then (keeps_word _) (λ x. keeps_ended mark.Semicolon (λ rest written. (tt, (tt, written))))))))))
 
-keeps_plain : (frame : Frame) → NumbersFit frame.names → (levels : ℕ) (returned : Returned) → Keeps (plain_text frame levels returned) IsSaid
+keeps_plain : (frame : Frame) → NumbersFit frame.names → (levels : ℕ) (returned : Returned) → Keeps (plain_form frame levels returned) IsSaid
 keeps_plain frame fit levels returned =
     keeps_here (λ statement.
     keeps_choice (keeps_return (place_in frame statement) fit levels returned) (keeps_sequence (keeps_change (place_in frame statement) fit levels) (λ change is. keeps_gives is)))
@@ -112,7 +112,7 @@ keeps_plain frame fit levels returned =
 abbrev IsLabel : Label → Type 0
 IsLabel l = Writes (label_tokens l)
 
-keeps_label : (is_of_states : Bool) (place : ℕ) → Keeps (label_text is_of_states place) IsLabel
+keeps_label : (is_of_states : Bool) (place : ℕ) → Keeps (label_form is_of_states place) IsLabel
 keeps_label is_of_states place =
     keeps_choice
     (keeps_sequence keeps_number (λ low one.
@@ -120,7 +120,7 @@ keeps_label is_of_states place =
     (keeps_choice (keeps_then (keeps_mark mark.Range) (λ x. keeps_sequence keeps_number (λ high two. keeps_gives (range_writes low high one two)))) (keeps_gives (range_writes low low one one)))))
     (keeps_then (keeps_token _) (λ state. keeps_checks (keeps_gives (λ rest written. (tt, written)))))
 
-keeps_labels : (is_of_states : Bool) (place : ℕ) → Keeps (labels_text is_of_states place) (AreAll IsLabel)
+keeps_labels : (is_of_states : Bool) (place : ℕ) → Keeps (labels_form is_of_states place) (AreAll IsLabel)
 keeps_labels is_of_states place = keeps_sequence (keeps_listed (λ before. keeps_label is_of_states place)) (λ labels all. keeps_ended mark.Colon all)
 
 -- Statements that hold others.
@@ -147,7 +147,7 @@ module _ (statement : Statements) (k : IsKept statement) where
   keeps_block_end : (returned : Returned) → Keeps (block_end statement returned) AreSaid
   keeps_block_end returned = keeps_sequence (keeps_statements false returned) (λ body all. keeps_ended mark.BlockClose all)
 
-  keeps_arms : (is_of_states : Bool) (place : ℕ) (returned : Returned) → Keeps (arms_text statement is_of_states place returned) AreArms
+  keeps_arms : (is_of_states : Bool) (place : ℕ) (returned : Returned) → Keeps (arms_form statement is_of_states place returned) AreArms
   keeps_arms is_of_states place returned =
       keeps_rounds AreArms tt (λ before all.
       keeps_choice
@@ -169,24 +169,24 @@ keeps_no_branch frame =
     (keeps_choice (keeps_here (λ place. keeps_sequence keeps_name (λ n is. keeps_checks keeps_never))) (keeps_here (λ place. keeps_then (keeps_token _) (λ w. keeps_checks keeps_never))))
 
 module _ (frame : Frame) (fit : NumbersFit frame.names) (levels : ℕ) (inner : Deeper) where
-  keeps_block : KeepsBelow inner → (returned : Returned) → Keeps (block_text inner returned) IsSaid
+  keeps_block : KeepsBelow inner → (returned : Returned) → Keeps (block_form inner returned) IsSaid
   keeps_block k returned = by_case inner k
     where
-      by_case : (i : Deeper) → KeepsBelow i → Keeps (block_text i returned) IsSaid
+      by_case : (i : Deeper) → KeepsBelow i → Keeps (block_form i returned) IsSaid
       by_case (deeper l statement) below =
           keeps_then (keeps_mark mark.BlockOpen) (λ x. keeps_sequence (keeps_block_end statement below returned) (λ body all. keeps_gives (block_is body.it all)))
       by_case nothing below = keeps_bars keeps_never
 
-  keeps_branch : KeepsBelow inner → (in_arm : Bool) (returned : Returned) → Keeps (branch_text frame inner in_arm returned) AreSaid
+  keeps_branch : KeepsBelow inner → (in_arm : Bool) (returned : Returned) → Keeps (branch_form frame inner in_arm returned) AreSaid
   keeps_branch k in_arm returned = by_case inner k
     where
-      by_case : (i : Deeper) → KeepsBelow i → Keeps (branch_text frame i in_arm returned) AreSaid
+      by_case : (i : Deeper) → KeepsBelow i → Keeps (branch_form frame i in_arm returned) AreSaid
       by_case (deeper l statement) below =
           keeps_choice (keeps_then (keeps_mark mark.BlockOpen) (λ x. keeps_block_end statement below returned))
           (keeps_unless (keeps_sequence (below in_arm returned) (λ one is. keeps_gives (is, tt))))
       by_case nothing below = keeps_no_branch frame
 
-  keeps_else : KeepsBelow inner → (in_arm : Bool) (test : ExprTree) (then_do : Said (List StmtTree)) → IsExpr test → AreSaid then_do → Keeps (else_text frame inner in_arm test then_do) IsSaid
+  keeps_else : KeepsBelow inner → (in_arm : Bool) (test : ExprTree) (then_do : Said (List StmtTree)) → IsExpr test → AreSaid then_do → Keeps (else_form frame inner in_arm test then_do) IsSaid
   keeps_else k in_arm test then_do is all =
       keeps_choice
       (keeps_unless (keeps_then (keeps_word _) (λ x. keeps_sequence (keeps_branch k in_arm then_do.returned) (λ else_do others. keeps_gives (if_is test then_do.it else_do.it is all others)))))
@@ -195,7 +195,7 @@ module _ (frame : Frame) (fit : NumbersFit frame.names) (levels : ℕ) (inner : 
   keeps_test : (statement : ℕ) → Keeps (test_end (place_in frame statement) levels) IsExpr
   keeps_test statement = keeps_sequence (keeps_expression (place_in frame statement) fit levels) (λ o is. keeps_then (keeps_word _) (λ x. keeps_checks (keeps_gives is)))
 
-  keeps_if : KeepsBelow inner → (in_arm : Bool) (returned : Returned) → Keeps (if_text frame levels inner in_arm returned) IsSaid
+  keeps_if : KeepsBelow inner → (in_arm : Bool) (returned : Returned) → Keeps (if_form frame levels inner in_arm returned) IsSaid
   keeps_if k in_arm returned =
       keeps_here (λ statement.
       keeps_then (keeps_word _) (λ x.
@@ -207,13 +207,13 @@ module _ (frame : Frame) (fit : NumbersFit frame.names) (levels : ℕ) (inner : 
   keeps_subject : (at : Place) → NumbersFit at.names → (l : ℕ) → Keeps (subject_end at l) IsSubject
   keeps_subject at fits l = keeps_sequence (keeps_expression at fits l) (λ o is. keeps_then (keeps_mark mark.BlockOpen) (λ x. keeps_checks (keeps_gives is)))
 
-  keeps_case : KeepsBelow inner → (returned : Returned) → Keeps (case_text frame inner returned) IsSaid
+  keeps_case : KeepsBelow inner → (returned : Returned) → Keeps (case_form frame inner returned) IsSaid
   keeps_case k returned = by_case inner k
     where
       case_is : (e : ExprTree) (some_arms : List (List Label × List StmtTree)) (other : List StmtTree) → IsExpr e → AreAll IsArm some_arms → AreAll IsStmt other → IsStmt (case_of e (arms some_arms) (stmts other))
       case_is e some_arms other is all others rest written = (tt, is _ (tt, arms_write some_arms all _ (other_writes other others _ (tt, written))))
 
-      by_case : (i : Deeper) → KeepsBelow i → Keeps (case_text frame i returned) IsSaid
+      by_case : (i : Deeper) → KeepsBelow i → Keeps (case_form frame i returned) IsSaid
       by_case (deeper l statement) below =
           keeps_here (λ place.
           keeps_then (keeps_word _) (λ x.
@@ -227,10 +227,10 @@ module _ (frame : Frame) (fit : NumbersFit frame.names) (levels : ℕ) (inner : 
   keeps_statement_with k in_arm returned =
       keeps_choice (keeps_block k returned) (keeps_choice (keeps_if k in_arm returned) (keeps_choice (keeps_case k returned) (keeps_plain frame fit levels returned)))
 
-keeps_statement : (frame : Frame) → NumbersFit frame.names → (levels : ℕ) → IsKept (statement_text frame levels)
+keeps_statement : (frame : Frame) → NumbersFit frame.names → (levels : ℕ) → IsKept (statement_form frame levels)
 keeps_statement frame fit zero = keeps_statement_with frame fit zero nothing tt
-keeps_statement frame fit (suc levels) = keeps_statement_with frame fit (suc levels) (deeper levels (statement_text frame levels)) (keeps_statement frame fit levels)
+keeps_statement frame fit (suc levels) = keeps_statement_with frame fit (suc levels) (deeper levels (statement_form frame levels)) (keeps_statement frame fit levels)
 
 -- what written tokens say as the statements of a block is written again
-pub keeps_body : (frame : Frame) → NumbersFit frame.names → (levels : ℕ) (returned : Returned) → Keeps (body_text frame levels returned) AreSaid
-keeps_body frame fit levels returned = keeps_block_end (statement_text frame levels) (keeps_statement frame fit levels) returned
+pub keeps_body : (frame : Frame) → NumbersFit frame.names → (levels : ℕ) (returned : Returned) → Keeps (body_form frame levels returned) AreSaid
+keeps_body frame fit levels returned = keeps_block_end (statement_form frame levels) (keeps_statement frame fit levels) returned

@@ -2,20 +2,21 @@
 //! for example, changes nothing. The functions do nothing: they are called for what they ensure.
 #![tactic(auto)]
 
-ghost use Rattle.std.specs.Prelude.{◌≡◌, ℕ, ◌≤◌, List, []};
+ghost use Rattle.std.specs.Prelude.{◌≡◌, ℕ, ◌≤◌, true, List, []};
 ghost use Rattle.ixp_lang.specs.Trees.{ExprTree, ItemTree};
 ghost use Rattle.ixp_tokens.specs.declared.token.Kind.{Kind};
 ghost use Rattle.ixp_tokens.specs.Grammars.{Took};
 ghost use Rattle.ixp_exprs.specs.declared.types.ValueType.{ValueType};
 ghost use Rattle.ixp_exprs.specs.declared.context.Scope.{Scope};
 ghost use Rattle.ixp_exprs.specs.Names.{Names};
-ghost use Rattle.ixp_read.specs.Items.{config_text};
+ghost use Rattle.ixp_read.specs.Items.{config_form};
 ghost use Rattle.ixp_print.specs.Texts.{config_text as printed};
 ghost use Rattle.ixp_canonical.specs.Canonical.{expr_tokens};
 ghost use Rattle.ixp_canonical.specs.CanonicalItems.{config_tokens};
 ghost use Rattle.ixp_read.specs.Answers.{HasTokens, SpellsText};
 ghost use Rattle.ixp_canonical.specs.Printed.{AreWritten};
 ghost use Rattle.ixp_canonical.specs.Spelling.{Spells, EndsChains};
+ghost use Rattle.ixp_sound.specs.SoundItems.{is_sound};
 
 /// An expression's canonical tokens spell its tree, with its type, wherever some tokens do: in any statement, and with as
 /// many levels or more. Behind them neither `&&` nor `||` may stand, which would go on with a chain.
@@ -27,7 +28,12 @@ pub fn canonical_tokens_spell_their_expression()
 /// The canonical tokens of a configuration spell it whole, with nothing behind them, wherever some tokens do. They have braces
 /// round each branch, parentheses only where they are needed, no types that functions return, and no `else` that does nothing.
 pub fn canonical_tokens_spell_their_configuration()
-    ensures { (configuration : List ItemTree) (tokens : List Kind) → Took config_text configuration tokens [] → Took config_text configuration (config_tokens configuration) [] }
+    ensures { (configuration : List ItemTree) (tokens : List Kind) → Took config_form configuration tokens [] → Took config_form configuration (config_tokens configuration) [] }
+{}
+
+/// A sound configuration is spelt by its canonical tokens.
+pub fn sound_trees_are_spelt()
+    ensures { (configuration : List ItemTree) → is_sound configuration ≡ true → Took config_form configuration (config_tokens configuration) [] }
 {}
 
 /// The text of a configuration that [`ixp_print`] writes has the configuration's canonical tokens, if names,

@@ -2,7 +2,7 @@
 use Rattle.std.proofs.Common.{◌≡◌, ◌≢◌, ◌↔◌, ℕ, true, false, IsTrue, ◌⊎◌, subst, List, Option, Some, None, Ok, Err, inl, inr, refl, sym, ap, ◌∙◌}
 use Rattle.ixp_lang.specs.declared.item.Bgp.{Bgp}
 use Rattle.ixp_lang.specs.Trees.{ItemTree}
-use Rattle.ixp_lang.specs.Walks.{sessions_of, session_named}
+use Rattle.ixp_lang.specs.Walks.{bgp_sessions, session_named}
 use Rattle.ixp_trial.specs.declared.trial.Trial.{Trial}
 use Rattle.ixp_causes.specs.declared.Cause.{Cause}
 use Rattle.ixp_trial.specs.declared.fault.TrialFault.{TrialFault}
@@ -13,13 +13,13 @@ use Rattle.ixp_cli.specs.declared.end.NoAnswer.TheVariants.{Bad, NoMemory}
 use Rattle.ixp_cli.specs.Evals.{IsConfiguration, IsOfOtherFamily, IsNoText, IsNoTrial, IsNoEval, IsRefused}
 use Rattle.ixp_cli.specs.Runs.{Refused, no_answer}
 
-same_session : (items : List ItemTree) (n : List ℕ) (b c : Bgp) → session_named (sessions_of items) n ≡ Some b → session_named (sessions_of items) n ≡ Some c → b ≡ c
+same_session : (items : List ItemTree) (n : List ℕ) (b c : Bgp) → session_named (bgp_sessions items) n ≡ Some b → session_named (bgp_sessions items) n ≡ Some c → b ≡ c
 same_session items n b c here there = let one : ◌≡◌ {A = Option Bgp} (Some b) (Some c) = sym here ∙ there in cc
 
-pub of_other_family : (items : List ItemTree) (t : Trial) (b : Bgp) → session_named (sessions_of items) t.session ≡ Some b → b.family ≢ t.route.net.family → IsTrue true ↔ IsOfOtherFamily items t
+pub of_other_family : (items : List ItemTree) (t : Trial) (b : Bgp) → session_named (bgp_sessions items) t.session ≡ Some b → b.family ≢ t.route.net.family → IsTrue true ↔ IsOfOtherFamily items t
 of_other_family items t b named ne = ((λ _. (b, named, ne)), λ _. refl)
 
-pub of_one_family : (items : List ItemTree) (t : Trial) (b : Bgp) → session_named (sessions_of items) t.session ≡ Some b → b.family ≡ t.route.net.family → IsTrue false ↔ IsOfOtherFamily items t
+pub of_one_family : (items : List ItemTree) (t : Trial) (b : Bgp) → session_named (bgp_sessions items) t.session ≡ Some b → b.family ≡ t.route.net.family → IsTrue false ↔ IsOfOtherFamily items t
 of_one_family items t b named same =
     ((λ e. absurd (let h : ◌≡◌ false true = e in cc)), λ other. absurd (other.2 (ap (λ x. x.family) (same_session items t.session other.0 b other.1 named) ∙ same)))
 

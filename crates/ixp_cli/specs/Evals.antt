@@ -7,7 +7,7 @@ use Rattle.ixp_lang.specs.declared.item.Bgp.{Bgp}
 use Rattle.ixp_lang.specs.Faults.{Fault, pair_range, no_return, no_verdict, no_filter}
 use Rattle.ixp_lang.specs.Texts.{fate_text}
 use Rattle.ixp_lang.specs.Trees.{ItemTree}
-use Rattle.ixp_lang.specs.Walks.{sessions_of, session_named, walk}
+use Rattle.ixp_lang.specs.Walks.{bgp_sessions, session_named, walk}
 use Rattle.ixp_read.specs.declared.fault.ReadFault.{ReadFault}
 use Rattle.ixp_read.specs.Answers.{SpellsText, ConfigAnswer}
 use Rattle.ixp_read.specs.Causes as text
@@ -26,7 +26,7 @@ IsConfiguration input configuration = (text : List ℕ) × IsFilterText input te
 
 -- the route's session has a channel of another family; a session that isn't there has none
 abbrev pub IsOfOtherFamily : List ItemTree → Trial → Type 0
-IsOfOtherFamily configuration t = (b : Bgp) × (session_named (sessions_of configuration) t.session ≡ Some b) × (b.family ≢ t.route.net.family)
+IsOfOtherFamily configuration t = (b : Bgp) × (session_named (bgp_sessions configuration) t.session ≡ Some b) × (b.family ≢ t.route.net.family)
 
 -- the configuration can take the trial's route, and nothing is behind that
 abbrev pub IsTaken : List ItemTree → Trial → Type 0

@@ -1,6 +1,6 @@
 //! The command `eval`: the fate of a route by the filter text that it is tried with.
 ghost use Rattle.std.specs.Prelude.{◌≡◌, ◌++◌, ◌↔◌, IfOk, IfErr, MatchOption, OnOk, Result, IsTrue};
-ghost use Rattle.ixp_lang.specs.declared.fate.Fate.{Fate as IsFate};
+ghost use Rattle.ixp_lang.specs.declared.fate.Fate.{Fate as FateValue};
 ghost use Rattle.ixp_lang.specs.Faults.{Fault};
 ghost use Rattle.ixp_lang.specs.Views.{config_view};
 ghost use Rattle.ixp_eval.specs.Answers.{Gives};
@@ -92,7 +92,7 @@ fn trial_of(alloc: Global, input: &[u8], config: &Config) -> Result<Trial, NoAns
 
 /// Adds the text of what a walk gives.
 fn put_outcome(outcome: &Result<Fate, EvalFault>, out: &mut Vec<u8>) -> Result<(), AllocError>
-    ensures { (given : Result IsFate Fault) → Gives outcome.now given → OnOk result (out.new.items ≡ out.old.items ++ outcome_text given) }
+    ensures { (given : Result FateValue Fault) → Gives outcome.now given → OnOk result (out.new.items ≡ out.old.items ++ outcome_text given) }
 {
     match outcome {
         Ok(fate) => print_fate(fate, None, out),
