@@ -1,0 +1,14 @@
+//! Keepers over the kit's `sqlite`: the rows of a [`Keeper`](ixp_io::Keeper) as rows of one table of a database.
+//!
+//! [`SqlKeeper`] stands over an open connection to any store; [`FileKeeper`] stands over a file, which it opens at its
+//! first call. Neither tells its rows. A batch is one transaction, which is on the disk before the call answers Ok. Want
+//! of memory is answered as such; every other refusal of the database is a counted fault.
+#![tactic(auto)]
+
+mod file_keeper;
+mod refusals;
+mod sql_keeper;
+mod statements;
+
+pub use file_keeper::{FileKeeper, PathKeeper};
+pub use sql_keeper::SqlKeeper;

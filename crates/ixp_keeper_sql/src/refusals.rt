@@ -1,0 +1,21 @@
+//! What a refusal of the database is to a keeper.
+ghost use Rattle.std.specs.Prelude.{◌≡◌, ◌+◌, ◌<◌, ◌⊎◌};
+ghost use Rattle.ixp_io.specs.Faults.{last_count};
+
+use ixp_io::KeepFault;
+use sqlite::{Error, ErrorCode};
+
+/// Want of memory is answered as such, and every other refusal is counted.
+pub fn counted(faults: &mut u64, refusal: &Error) -> KeepFault
+    requires { faults.old < last_count }
+    ensures { ((result ≡ KeepFault.NoMemory) × (faults.new ≡ faults.old))
+        ⊎ ((result ≡ KeepFault.Failed) × (faults.new ≡ faults.old + 1)) }
+{
+    match refusal {
+        Error::SqliteFailure(ErrorCode::OutOfMemory) => KeepFault::NoMemory,
+        _ => {
+            *faults += 1;
+            KeepFault::Failed
+        }
+    }
+}
