@@ -1,0 +1,21 @@
+//! What is done with links, and beside them.
+use ixp_io::Clock;
+use std::sync::Wait;
+
+/// Work in the background. Threads share it.
+pub trait Background {
+    /// Does what is to be done, once. It doesn't wait for work.
+    fn turn<R: Wait>(&self, rt: &R);
+
+    /// Waits until there is work, or until no more comes. False ends the background.
+    fn has_work<R: Wait>(&self, rt: &R) -> bool;
+
+    /// No more work comes: all links were served.
+    fn end<R: Wait>(&self, rt: &R);
+}
+
+/// What is done with links. Threads share it.
+pub trait Host<L>: Background {
+    /// Serves a link to its end.
+    fn host<R: Wait, C: Clock>(&self, rt: &R, link: L, clock: &mut C);
+}

@@ -1,0 +1,38 @@
+//! Workers, each of which serves one link after the other.
+use crate::{Host, Queue, SharedClock};
+use ixp_io::Clock;
+use std::sync::{Mutex, Wait};
+use std::thread::Scope;
+
+// Serves links until the queue is closed and empty.
+fn work<R: Wait, C: Clock, L: Drop, H: Host<L>>(
+    rt: &R,
+    queue: &Queue<L>,
+    clock: &Mutex<C>,
+    host: &H,
+) {
+    for _ in rt.forever() {
+        let Some(link) = queue.take(rt) else {
+            break;
+        };
+        host.host(rt, link, &mut SharedClock::new(rt, clock));
+    }
+}
+
+/// Starts workers, and tells how many could be started.
+pub fn start_workers<'s, E, R: Wait + Sync, C: Clock + Send, L: Drop + Send, H: Host<L> + Sync>(
+    scope: &Scope<'s, E>,
+    rt: &'s R,
+    queue: &'s Queue<L>,
+    clock: &'s Mutex<C>,
+    host: &'s H,
+    workers: u32,
+) -> u32 {
+    let mut started = 0u32;
+    for _ in 0..workers {
+        if scope.spawn(move || work(rt, queue, clock, host)).is_ok() {
+            started = started.saturating_add(1);
+        }
+    }
+    started
+}
