@@ -1,0 +1,200 @@
+//! Keepers over files.
+use crate::batches::{change, count, shown, step};
+use ixp_io::{Change, KeepFault, Keeper};
+use ixp_keeper_sql::FileKeeper;
+use sqlite::{Connection, Error, File, FileStore};
+use std::alloc::{AllocError, Global};
+use std::fs;
+use std::test::Fail;
+
+/// A file and the log beside it.
+type Names = [&'static str; 2];
+
+// Removes what an earlier run has left.
+fn clear(rt: &HostRuntime, names: Names) {
+    for name in names {
+        let _ = fs::remove_file(rt, name);
+    }
+}
+
+const BATCHES: u32 = 20;
+
+const ROWS: u32 = 1000;
+
+// Rows with the numbers from this one on.
+fn numbered(alloc: Global, first: u32) -> Result<Vec<Change>, AllocError> {
+    let mut batch = Vec::new(alloc);
+    for number in 0..ROWS {
+        let key = first.saturating_add(number).to_be_bytes();
+        batch.push(change(alloc, 2, key.as_slice(), Some([b'x'; 80].as_slice()))?)?;
+    }
+    Ok(batch)
+}
+
+fn fill<P: Keeper>(alloc: Global, keeper: &mut P) -> Result<(), KeepFault> {
+    for number in 0..BATCHES {
+        let batch = numbered(alloc, number.saturating_mul(ROWS))?;
+        keeper.commit(alloc, batch.as_slice())?;
+    }
+    Ok(())
+}
+
+fn filled(rt: &HostRuntime, path: &str) -> Result<u64, KeepFault> {
+    let mut keeper = FileKeeper::new(rt, path)?;
+    let done = fill(rt.alloc(), &mut keeper);
+    let faults = keeper.faults();
+    keeper.close();
+    done?;
+    Ok(faults)
+}
+
+fn counted(rt: &HostRuntime, path: &str) -> Result<u32, KeepFault> {
+    let mut keeper = FileKeeper::new(rt, path)?;
+    let rows = count(rt.alloc(), &mut keeper, 100_000);
+    keeper.close();
+    rows
+}
+
+const MANY: Names = ["many.db", "many.db-wal"];
+
+#[test]
+fn twenty_thousand_rows_are_loaded(rt: HostRuntime) {
+    clear(&rt, MANY);
+    assert!(rt; filled(&rt, "many.db") == Ok(0));
+    assert!(rt; counted(&rt, "many.db") == Ok(20_000));
+    clear(&rt, MANY);
+}
+
+fn commit<P: Keeper>(alloc: Global, keeper: &mut P, number: u8) -> Result<(), KeepFault> {
+    let batch = step(alloc, number)?;
+    keeper.commit(alloc, batch.as_slice())
+}
+
+// Makes a batch by a keeper of its own.
+fn made(rt: &HostRuntime, path: &str, number: u8) -> Result<(), KeepFault> {
+    let mut keeper = FileKeeper::new(rt, path)?;
+    let done = commit(rt.alloc(), &mut keeper, number);
+    keeper.close();
+    done
+}
+
+// The rows after two batches.
+fn stepped(rt: &HostRuntime, path: &str) -> Result<Vec<u8>, KeepFault> {
+    made(rt, path, 1)?;
+    made(rt, path, 2)?;
+    let mut keeper = FileKeeper::new(rt, path)?;
+    let rows = shown(rt.alloc(), &mut keeper);
+    keeper.close();
+    rows
+}
+
+const STEPPED: &[u8] = b"\x00\x01\x02\x02\x01\x00\xff\x01x\x02\x02\x00\xff\x01x\x03\x02\x00";
+
+const KEPT: Names = ["kept.db", "kept.db-wal"];
+
+#[test]
+fn a_file_keeps_rows_between_programs(rt: HostRuntime) -> Result<(), Fail> {
+    clear(&rt, KEPT);
+    match stepped(&rt, "kept.db") {
+        Ok(rows) => assert!(rt; rows.as_slice() == STEPPED, "{rows:?}"),
+        Err(fault) => assert!(rt; false, "{fault:?}"),
+    }
+    clear(&rt, KEPT);
+    Ok(())
+}
+
+/// What a question and a commit are answered, and the count of faults.
+type Answers = (Option<KeepFault>, Option<KeepFault>, u64);
+
+fn answers<P: Keeper>(alloc: Global, keeper: &mut P) -> Answers {
+    let row = keeper.next_row(alloc, None).err();
+    let done = commit(alloc, keeper, 1).err();
+    (row, done, keeper.faults())
+}
+
+fn asked(rt: &HostRuntime, path: &str) -> Result<Answers, AllocError> {
+    let mut keeper = FileKeeper::new(rt, path)?;
+    let answers = answers(rt.alloc(), &mut keeper);
+    keeper.close();
+    Ok(answers)
+}
+
+const REFUSED: Answers = (Some(KeepFault::Failed), Some(KeepFault::Failed), 2);
+
+const TEXT: Names = ["text.db", "text.db-wal"];
+
+#[test]
+fn a_file_that_is_no_database_is_a_fault(rt: HostRuntime) -> Result<(), Fail> {
+    clear(&rt, TEXT);
+    fs::write(&rt, "text.db", [b'#'; 8192].as_slice())?;
+    assert!(rt; asked(&rt, "text.db")? == REFUSED);
+    assert!(rt; fs::read(&rt, "text.db")?.as_slice() == [b'#'; 8192].as_slice());
+    clear(&rt, TEXT);
+    Ok(())
+}
+
+type FileConnection = Connection<FileStore<File>>;
+
+fn make_table(conn: &mut FileConnection) -> Result<(), Error> {
+    conn.execute("CREATE TABLE note (title TEXT NOT NULL)", &[])?;
+    Ok(())
+}
+
+fn number_of_objects(conn: &mut FileConnection) -> Result<i64, Error> {
+    conn.query_row("SELECT count(*) FROM sqlite_schema", &[])?
+        .get(0)
+}
+
+fn make_notes(rt: &HostRuntime, path: &str) -> Result<(), Error> {
+    let mut conn = Connection::open(rt, path)?;
+    let made = make_table(&mut conn);
+    conn.close()?;
+    made
+}
+
+fn objects(rt: &HostRuntime, path: &str) -> Result<i64, Error> {
+    let mut conn = Connection::open(rt, path)?;
+    let number = number_of_objects(&mut conn);
+    conn.close()?;
+    number
+}
+
+const NOTES: Names = ["notes.db", "notes.db-wal"];
+
+#[test]
+fn another_programs_file_is_a_fault_and_stays(rt: HostRuntime) -> Result<(), Fail> {
+    clear(&rt, NOTES);
+    assert!(rt; make_notes(&rt, "notes.db").is_ok());
+    assert!(rt; asked(&rt, "notes.db")? == REFUSED);
+    assert!(rt; objects(&rt, "notes.db") == Ok(1));
+    clear(&rt, NOTES);
+    Ok(())
+}
+
+/// What a commit is answered, and what a second keeper over the file is, which is asked while the first one has it open.
+fn second(rt: &HostRuntime, path: &str) -> Result<(Option<KeepFault>, Answers), AllocError> {
+    let mut first = FileKeeper::new(rt, path)?;
+    let before = commit(rt.alloc(), &mut first, 1).err();
+    let answers = asked(rt, path);
+    first.close();
+    Ok((before, answers?))
+}
+
+const TAKEN: Names = ["taken.db", "taken.db-wal"];
+
+#[test]
+fn a_second_program_over_the_file_is_a_fault(rt: HostRuntime) {
+    clear(&rt, TAKEN);
+    assert!(rt; second(&rt, "taken.db") == Ok((None, REFUSED)));
+    clear(&rt, TAKEN);
+}
+
+fn is_send<T: Send>(_it: &T) {}
+
+#[test]
+fn a_keeper_may_go_to_another_thread(rt: HostRuntime) -> Result<(), Fail> {
+    let keeper = FileKeeper::new(&rt, "ixpm.db")?;
+    is_send(&keeper);
+    keeper.close();
+    Ok(())
+}
