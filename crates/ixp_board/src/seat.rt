@@ -86,6 +86,24 @@ impl<S: Story, N: BoardName> Seat<S, N> {
         self.last = next;
         Ok(view)
     }
+
+    /// Looks at what was published last without a share of its own: `view` lends it afterwards. Where nothing is new it writes
+    /// nothing that readers share, so it doesn't get slower the more they are. It waits for nobody. Where memory runs out
+    /// nothing was seen.
+    pub fn refresh(&mut self) -> Result<(), AllocError>
+        ensures seen { IsPrefix self.old self.new }
+        ensures legal { IsLegal S.legal self.new }
+        ensures err { OnErr result (self.new ≡ self.old) }
+    {
+        self.last.front().legal();
+        let (reader, published) = enter(self.reader.take(), &self.last);
+        self.reader = reader;
+        let Some(next) = published? else {
+            return Ok(());
+        };
+        self.last = next;
+        Ok(())
+    }
 }
 
 /// Enters what was published last, and takes a note of it if it goes on from the last note.

@@ -60,6 +60,12 @@ fn published<N: BoardName, W: Publish<Note<Sum<u64>, N>>, R: Wait>(
     sum_seen(seat).ok()
 }
 
+/// The sum that the seat lends once it has looked.
+fn lent<N: BoardName>(seat: &mut Seat<Sum<u64>, N>) -> Option<u64> {
+    seat.refresh().ok()?;
+    Some(*seat.view().get())
+}
+
 /// What two seats look at after a turn that the first learns of, and after one that neither does.
 fn two_turns<N: BoardName, W: Publish<Note<Sum<u64>, N>>, R: Wait>(
     rt: &R,
@@ -71,7 +77,7 @@ fn two_turns<N: BoardName, W: Publish<Note<Sum<u64>, N>>, R: Wait>(
     let (seat, other) = seats.split_at_mut(1);
     let first = learnt(rt, pen, &mut seat[0]);
     let second = published(rt, pen, &mut other[0]);
-    [first, second, sum_seen(&mut seat[0]).ok()]
+    [first, second, lent(&mut seat[0])]
 }
 
 fn two_turns_on_a_board<N: BoardName, R: Wait>(
