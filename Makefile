@@ -1,8 +1,13 @@
-# `make run` proves and builds the program and runs it on the example; `make test` is the gate.
-.PHONY: run test
+# `make run` tries the program on an example, compiled without its proofs; `make build` proves and builds it to
+# crates/ixpm/out/ixpm; `make test` is the gate.
+.PHONY: run build test
 
 run:
-	@cd crates/ixpm && rt run -- fate < ../../examples/small.txt
+	@echo "The program is compiled without its proofs; 'make build' proves it." >&2
+	@cd crates/ixpm && rt try -- fate < ../../examples/small.txt
+
+build:
+	@cd crates/ixpm && rt run -- --version
 
 test:
 	@rt ci

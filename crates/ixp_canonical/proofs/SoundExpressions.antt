@@ -1,19 +1,16 @@
 -- An expression that fits is spelt by its canonical tokens.
 use Rattle.std.proofs.Common.{◌≡◌, ℕ, zero, suc, inl, inr, Bool, true, false, ◌&&◌, not, nat_le, List, [], ◌∷◌, ◌++◌, length, Option, Some, None, refl, sym, ap, ◌∙◌, subst, append_assoc, if◌then◌else◌, arith}
 use Rattle.std.specs.Option.{is_some, is_none}
-use Rattle.std.proofs.lemmas.Bool.{and_parts, and_from}
+use Rattle.std.proofs.lemmas.Bool.{and_parts}
 use Rattle.std.proofs.lemmas.List.{length_push}
 use Rattle.ixp_tokens.specs.declared.fault.Cause.{Cause}
-use Rattle.ixp_tokens.specs.declared.token.Kind.{Kind}
 use Rattle.ixp_tokens.specs.declared.token.Kind.TheVariants as kind
 use Rattle.ixp_tokens.specs.declared.token.Mark.TheVariants as mark
-use Rattle.ixp_tokens.specs.Grammars.{Took}
 use Rattle.ixp_lang.specs.Trees.{ExprTree, literal, named, attribute, call, roa_check, pair, triple, set_literal, negation, conjunction, disjunction, comparison, ExprTrees, exprs_end, exprs_more, exprs}
 use Rattle.ixp_lang.specs.declared.value.Value.{Value}
 use Rattle.ixp_lang.specs.declared.value.Value.TheVariants as value
 use Rattle.ixp_lang.specs.declared.value.SetLit.{SetLit}
 use Rattle.ixp_lang.specs.declared.expr.Attr.{Attr}
-use Rattle.ixp_lang.specs.declared.expr.Op.{Op}
 use Rattle.ixp_exprs.specs.declared.types.ValueType.{ValueType}
 use Rattle.ixp_exprs.specs.declared.types.ValueType.TheVariants.{Int, Bool as Truth, Ip, Prefix, Pair, Triple, State}
 use Rattle.ixp_exprs.specs.declared.env.Signature.{Signature}
@@ -23,18 +20,17 @@ use Rattle.ixp_exprs.specs.declared.context.Scope.{Scope}
 use Rattle.ixp_exprs.specs.Types.{same_type, attribute_type, takes_left, takes_right}
 use Rattle.ixp_exprs.specs.Names.{Names, value_of, function_of, is_define}
 use Rattle.ixp_exprs.specs.Sets.{if_missing}
-use Rattle.ixp_exprs.specs.Operands.{Operand, closed, literal_number, pair_with, pair_tree, triple_with, triple_tree, fits as fits_type}
-use Rattle.ixp_exprs.specs.Expressions.{plain, arguments, roa_values, fits_argument, fits_next, no_parts, called, type_or, has_parts, operand_form, no_roa_table, no_value}
+use Rattle.ixp_exprs.specs.Operands.{Operand, closed, literal_number, pair_with, triple_with, fits as fits_type}
+use Rattle.ixp_exprs.specs.Expressions.{plain, arguments, roa_values, fits_argument, no_parts, type_or, has_parts, operand_form, no_roa_table}
 use Rattle.ixp_print.specs.Texts.{is_chain, is_compound, bool_text, state_text}
-use Rattle.ixp_canonical.specs.Canonical.{expr_tokens}
 use Rattle.ixp_canonical.proofs.Basics.{sound, so_again, none_both, fits_again}
 use Rattle.ixp_canonical.proofs.Parentheses.{at, Expressed}
-use Rattle.ixp_canonical.proofs.Operators.{Single, Joined, of_and, of_or, comparing, row_again}
+use Rattle.ixp_canonical.proofs.Operators.{of_and, of_or, comparing, row_again}
 use Rattle.ixp_canonical.proofs.Tokens.{of_truth, of_state, attribute_again}
 use Rattle.ixp_canonical.proofs.Sets.{SetAgain}
 use Rattle.ixp_canonical.proofs.Expressions.{flat, literal_case, set_case, value_case, level_left, ArgumentsAgain, call_spells, check_spells, tuple_spells, negation_spells}
-use Rattle.ixp_sound.specs.Sound.{deeper, is_left, is_small, is_small_pair, value_type, value_fits, set_type, set_fits, returned, params_of, is_roa_table, type_of, fits, arguments_fit, parts_fit}
-use Rattle.ixp_canonical.proofs.SoundLists.{and3, off, one_less, small_again, set_spelt}
+use Rattle.ixp_sound.specs.Sound.{is_left, is_small, value_fits, set_type, set_fits, returned, params_of, is_roa_table, type_of, fits, arguments_fit, parts_fit}
+use Rattle.ixp_canonical.proofs.SoundLists.{and3, off, small_again, set_spelt}
 use Rattle.ixp_canonical.proofs.SoundParts.{operand, part, AreParts, parts_with, parts_spelt, AllJoined, chained_of}
 
 abbrev pub trees_of : ExprTrees → List ExprTree

@@ -1,5 +1,5 @@
 -- A configuration that fits is spelt by its canonical tokens.
-use Rattle.std.proofs.Common.{◌≡◌, ℕ, zero, suc, inl, inr, Bool, true, false, ◌&&◌, not, List, [], ◌∷◌, ◌++◌, length, map, Option, Some, None, codes, refl, sym, ap, ◌∙◌, subst, if◌then◌else◌, append_assoc, append-nil, arith}
+use Rattle.std.proofs.Common.{◌≡◌, ℕ, suc, inl, inr, Bool, true, false, ◌&&◌, not, List, [], ◌∷◌, ◌++◌, length, map, Option, Some, None, codes, refl, sym, ap, subst, if◌then◌else◌, append_assoc, append-nil, arith}
 use Rattle.std.specs.Option.{is_none}
 use Rattle.std.proofs.lemmas.Bool.{and_parts}
 use Rattle.std.proofs.lemmas.List.{length_push}
@@ -9,7 +9,7 @@ use Rattle.ixp_num.specs.declared.family.Family.TheVariants.{V4, V6}
 use Rattle.ixp_tokens.specs.declared.fault.Cause.{Cause}
 use Rattle.ixp_tokens.specs.declared.token.Kind.{Kind}
 use Rattle.ixp_tokens.specs.declared.token.Mark.TheVariants as mark
-use Rattle.ixp_tokens.specs.Grammars.{sequence, onward, done, Rounds, Took}
+use Rattle.ixp_tokens.specs.Grammars.{sequence, done, Rounds, Took}
 use Rattle.ixp_tokens.specs.Pieces.{the_word}
 use Rattle.ixp_lang.specs.declared.item.Ty.{Ty}
 use Rattle.ixp_lang.specs.declared.item.Use.{Use}
@@ -18,20 +18,19 @@ use Rattle.ixp_lang.specs.declared.item.Pipe.{Pipe}
 use Rattle.ixp_lang.specs.declared.item.Bgp.{Bgp}
 use Rattle.ixp_lang.specs.declared.item.Kind.{Kind as TableKind}
 use Rattle.ixp_lang.specs.declared.item.Kind.TheVariants as table
-use Rattle.ixp_lang.specs.Trees.{ExprTree, StmtTrees, stmts, ItemTree, router_id_item, table_item, define_item, function_item, filter_item, device_item, pipe_item, bgp_item}
+use Rattle.ixp_lang.specs.Trees.{ExprTree, StmtTrees, ItemTree, router_id_item, table_item, define_item, function_item, filter_item, device_item, pipe_item, bgp_item}
 use Rattle.ixp_exprs.specs.declared.types.ValueType.{ValueType}
 use Rattle.ixp_exprs.specs.declared.env.Declared.TheVariants as declared
 use Rattle.ixp_exprs.specs.declared.env.Table.{Table}
 use Rattle.ixp_exprs.specs.declared.context.Scope.TheVariants as scope
 use Rattle.ixp_exprs.specs.Types.{type_of as written_type}
 use Rattle.ixp_exprs.specs.Names.{Names, table_of, defined_number}
-use Rattle.ixp_exprs.specs.Declarations.{nothing_declared, Declares, standing, free_name, is_free_in}
-use Rattle.ixp_protocols.specs.Protocols.{is_filter, use_form, Ways, ways_form, Owner, filler, peer_pipe, session, was_taken, taken_fault, marked, owned_table, Owned, protocol_end, Local, local_form}
-use Rattle.ixp_read.specs.Functions.{Params, param_round, no_params, params_form, as_written, levels_inside, Head, Body, function_within, filter_within}
-use Rattle.ixp_read.specs.Items.{if_v4, unowned, define_levels, define_within, declaration_form, table_or, item_form, Begun, with_item, config_form, config_round}
-use Rattle.ixp_print.specs.Texts.{kind_text}
-use Rattle.ixp_canonical.specs.Canonical.{name, sign, word, addr_tokens}
-use Rattle.ixp_canonical.specs.CanonicalItems.{params_tokens, more_params_tokens, param_tokens, use_tokens, ways_tokens, table_tokens, local_tokens, asn_tokens, item_tokens, items_tokens, config_tokens}
+use Rattle.ixp_exprs.specs.Declarations.{nothing_declared, standing, free_name, is_free_in}
+use Rattle.ixp_protocols.specs.Protocols.{is_filter, use_form, ways_form, Owner, filler, peer_pipe, session, was_taken, taken_fault, owned_table, protocol_end, Local, local_form}
+use Rattle.ixp_read.specs.Functions.{Params, param_round, params_form, as_written, levels_inside, function_within, filter_within}
+use Rattle.ixp_read.specs.Items.{if_v4, define_levels, define_within, declaration_form, table_or, item_form, Begun, config_form, config_round}
+use Rattle.ixp_canonical.specs.Canonical.{name, sign, word}
+use Rattle.ixp_canonical.specs.CanonicalItems.{params_tokens, use_tokens, ways_tokens, table_tokens, local_tokens, asn_tokens, item_tokens, items_tokens, config_tokens}
 use Rattle.ixp_canonical.proofs.Basics.{within_same, sound, so_again}
 use Rattle.ixp_canonical.proofs.Bodies.{type_spells}
 use Rattle.ixp_canonical.proofs.Sessions.{neighbor_spells, client_spells, password_spells, limit_spells, family_spells}

@@ -1,25 +1,22 @@
 -- Tests taken apart, and lists whose elements are spelt.
-use Rattle.std.proofs.Common.{◌≡◌, ℕ, zero, suc, inl, inr, Bool, true, false, ◌&&◌, not, nat_le, List, [], ◌∷◌, ◌++◌, Option, Some, None, refl, sym, ap, ◌∙◌, subst, append_assoc, ◌≤◌, ◌==◌, leb-true, le-leb, arith}
+use Rattle.std.proofs.Common.{◌≡◌, ℕ, zero, suc, inl, inr, Bool, true, false, ◌&&◌, not, nat_le, List, [], ◌∷◌, ◌++◌, Option, Some, None, refl, sym, ap, subst, append_assoc, ◌≤◌, ◌==◌, leb-true, le-leb, arith}
 use Rattle.std.specs.List.{list_all}
 use Rattle.std.proofs.lemmas.Bool.{and_parts, and_from}
-use Rattle.ixp_num.specs.declared.addr.Addr.{Addr}
 use Rattle.ixp_num.specs.declared.pattern.Pattern.{Pattern}
 use Rattle.ixp_num.specs.Families.{bits_of}
 use Rattle.ixp_tokens.specs.declared.token.Kind.{Kind}
-use Rattle.ixp_tokens.specs.declared.token.Mark.TheVariants as mark
 use Rattle.ixp_tokens.specs.Grammars.{Grammar, Rounds, Took}
 use Rattle.ixp_tokens.specs.Pieces.{an_addr}
 use Rattle.ixp_lang.specs.declared.value.SetLit.{SetLit}
 use Rattle.ixp_lang.specs.declared.value.SetLit.TheVariants as set
-use Rattle.ixp_exprs.specs.declared.types.ValueType.{ValueType}
 use Rattle.ixp_exprs.specs.Names.{Names}
-use Rattle.ixp_exprs.specs.Sets.{range, set_pattern_form, tuple_form, arity_of, may_be_pair, may_be_triple, pairs_in, triples_in, tuples_set}
+use Rattle.ixp_exprs.specs.Sets.{range, set_pattern_form, arity_of, may_be_pair, may_be_triple, pairs_in, triples_in}
 use Rattle.ixp_exprs.proofs.SetTuples.{SetTuple, of_two, of_three}
 use Rattle.ixp_canonical.specs.Canonical.{Before, list_of, range_tokens, addr_tokens, pattern_tokens}
 use Rattle.ixp_canonical.proofs.Basics.{so_again}
 use Rattle.ixp_canonical.proofs.Listed.{round, Each}
 use Rattle.ixp_canonical.proofs.Sets.{SetAgain, Alike, tuple_tokens, tuple_item, range_again, addr_again, pattern_as, ints_again, ips_again, prefixes_again, tuples_again, pair_spells, triple_spells}
-use Rattle.ixp_sound.specs.Sound.{deeper, is_left, some_of, is_lawful, is_small, is_small_pair, set_fits, set_type}
+use Rattle.ixp_sound.specs.Sound.{deeper, is_left, is_lawful, is_small, is_small_pair, set_fits, set_type}
 
 pub and3 : (a b c : Bool) → (a && b && c) ≡ true → (a ≡ true) × (b ≡ true) × (c ≡ true)
 and3 a b c e = (let h : ((a && b) ≡ true) × (c ≡ true) = and_parts (a && b) c e in let k : (a ≡ true) × (b ≡ true) = and_parts a b h.0 in (k.0, k.1, h.1))

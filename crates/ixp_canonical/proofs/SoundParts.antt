@@ -1,27 +1,23 @@
 -- What stands in parentheses, and the parts of a chain, from what is known of each.
-use Rattle.std.proofs.Common.{◌≡◌, ℕ, zero, suc, inl, inr, Bool, true, false, ◌&&◌, not, nat_le, List, [], ◌∷◌, ◌++◌, length, Option, Some, None, refl, sym, ap, ◌∙◌, subst, append_assoc, arith}
-use Rattle.std.specs.Option.{is_some}
-use Rattle.std.proofs.lemmas.Bool.{and_parts, and_from}
-use Rattle.std.proofs.lemmas.List.{length_push}
-use Rattle.ixp_tokens.specs.declared.fault.Cause.{Cause}
+use Rattle.std.proofs.Common.{◌≡◌, ℕ, zero, suc, inl, inr, Bool, true, false, List, [], ◌∷◌, ◌++◌, length, None, refl, sym, ap, subst, append_assoc}
 use Rattle.ixp_tokens.specs.declared.token.Kind.{Kind}
 use Rattle.ixp_tokens.specs.declared.token.Kind.TheVariants as kind
 use Rattle.ixp_tokens.specs.declared.token.Mark.{Mark}
 use Rattle.ixp_tokens.specs.declared.token.Mark.TheVariants as mark
 use Rattle.ixp_tokens.specs.Grammars.{Rounds, Took}
-use Rattle.ixp_lang.specs.Trees.{ExprTree, ExprTrees, exprs, conjunction, disjunction}
+use Rattle.ixp_lang.specs.Trees.{ExprTree, ExprTrees, exprs}
 use Rattle.ixp_exprs.specs.declared.types.ValueType.{ValueType}
 use Rattle.ixp_exprs.specs.declared.types.ValueType.TheVariants.{Bool as Truth}
 use Rattle.ixp_exprs.specs.declared.context.Scope.{Scope}
 use Rattle.ixp_exprs.specs.Types.{same_type}
 use Rattle.ixp_exprs.specs.Names.{Names}
-use Rattle.ixp_exprs.specs.Expressions.{Shape, Parts, may_go_on, may_end, fits_next, part_form, expression_form, enclosed}
+use Rattle.ixp_exprs.specs.Expressions.{Shape, Parts, may_go_on, may_end, fits_next, part_form, expression_form}
 use Rattle.ixp_print.specs.Texts.{is_chain, is_compound}
 use Rattle.ixp_canonical.specs.Canonical.{expr_tokens, exprs_tokens, chain_tokens, wrapped as wrapped_tokens}
 use Rattle.ixp_canonical.proofs.Basics.{Within, sound}
 use Rattle.ixp_canonical.proofs.Parentheses.{at, Unjoined, Expressed, comma_again, close_again}
-use Rattle.ixp_canonical.proofs.Operators.{Joint, of_and, of_or, Alone, Compared, Single, Joined, Chained, ChainRounds, single_enclosed, joined_single, unjoined, joint_apart, joint_again, misfit_again, no_misfit}
-use Rattle.ixp_sound.specs.Sound.{wrapped, deeper}
+use Rattle.ixp_canonical.proofs.Operators.{Joint, Alone, Compared, Single, Joined, Chained, ChainRounds, single_enclosed, joined_single, unjoined, joint_apart, joint_again, misfit_again, no_misfit}
+use Rattle.ixp_sound.specs.Sound.{wrapped}
 
 module _ (names : Names) (scope : Scope) where
   -- an expression that needs no parentheses

@@ -1,39 +1,34 @@
 -- Statements that fit are spelt by their canonical tokens.
-use Rattle.std.proofs.Common.{◌≡◌, ℕ, zero, suc, inl, inr, Bool, true, false, ◌&&◌, ◌||◌, ◌==◌, not, List, [], ◌∷◌, ◌++◌, Option, Some, None, codes, refl, sym, ap, ◌∙◌, subst, append_assoc, append-nil}
+use Rattle.std.proofs.Common.{◌≡◌, ℕ, zero, suc, inl, inr, Bool, true, false, ◌&&◌, ◌||◌, ◌==◌, List, [], ◌∷◌, ◌++◌, Option, Some, None, codes, refl, sym, ap, ◌∙◌, subst, append_assoc, append-nil}
 use Rattle.std.specs.Option.{is_some}
 use Rattle.std.specs.List.{list_all}
 use Rattle.std.proofs.lemmas.Bool.{and_parts}
-use Rattle.ixp_tokens.specs.declared.fault.Cause.{Cause}
-use Rattle.ixp_tokens.specs.declared.fault.Cause.TheVariants.{Unknown}
 use Rattle.ixp_tokens.specs.declared.token.Kind.{Kind}
-use Rattle.ixp_tokens.specs.declared.token.Kind.TheVariants as kind
 use Rattle.ixp_tokens.specs.declared.token.Mark.TheVariants as mark
 use Rattle.ixp_tokens.specs.Grammars.{Rounds, Took}
 use Rattle.ixp_lang.specs.declared.stmt.Label.{Label}
 use Rattle.ixp_lang.specs.declared.stmt.Label.TheVariants.{Range as Between, State as IsState}
-use Rattle.ixp_lang.specs.Trees.{ExprTree, ExprTrees, exprs, StmtTree, block, if_then, case_of, return_value, accept, reject, call_statement, set_next_hop, prepend, add_pair, delete_pairs, add_triple, delete_triples, StmtTrees, stmts_end, stmts_more, stmts, ArmTrees, arms_end, arms_more}
+use Rattle.ixp_lang.specs.Trees.{ExprTree, ExprTrees, StmtTree, block, if_then, case_of, return_value, accept, reject, call_statement, set_next_hop, prepend, add_pair, delete_pairs, add_triple, delete_triples, StmtTrees, stmts_end, stmts_more, stmts, ArmTrees, arms_end, arms_more}
 use Rattle.ixp_exprs.specs.declared.types.ValueType.{ValueType}
 use Rattle.ixp_exprs.specs.declared.types.ValueType.TheVariants.{Int, Bool as Truth, Ip, Pair, Triple, State, PairSet, TripleSet}
 use Rattle.ixp_exprs.specs.declared.env.Signature.{Signature}
 use Rattle.ixp_exprs.specs.declared.context.Scope.{Scope}
 use Rattle.ixp_exprs.specs.Types.{same_type}
 use Rattle.ixp_exprs.specs.Names.{Names, function_of}
-use Rattle.ixp_exprs.specs.Sets.{if_missing}
-use Rattle.ixp_exprs.specs.Expressions.{Parts}
-use Rattle.ixp_stmts.specs.Statements.{Frame, Returned, Said, said, may_return, may_meet, met, value_end, enclosed_end, return_form, change_form, params_of as params_there, plain_form, label_form, labels_form, is_state, no_case, subject_end, statements_of, block_end, deeper as inner, branch_form, else_form, is_if_else, test_end, if_form, Arms, arms as made_arms, arms_form, case_end, case_form, statement_with, statement_form, body_form}
+use Rattle.ixp_stmts.specs.Statements.{Frame, Returned, Said, said, may_return, may_meet, met, value_end, enclosed_end, change_form, params_of as params_there, plain_form, label_form, labels_form, is_state, block_end, deeper as inner, else_form, is_if_else, test_end, arms as made_arms, case_end, statement_with, statement_form, body_form}
 use Rattle.ixp_canonical.specs.Canonical.{word, sign, list_of, expr_tokens}
 use Rattle.ixp_canonical.specs.CanonicalItems.{label_tokens, last_tokens, stmt_tokens, stmts_tokens, else_tokens, other_tokens, arms_tokens}
-use Rattle.ixp_canonical.proofs.Basics.{within_same, sound, so_again, fits_again, there_again}
+use Rattle.ixp_canonical.proofs.Basics.{within_same, sound, so_again, fits_again}
 use Rattle.ixp_canonical.proofs.Parentheses.{at}
 use Rattle.ixp_canonical.proofs.Cases.{state_again, range_label}
 use Rattle.ixp_canonical.proofs.Statements.{no_else}
 use Rattle.ixp_canonical.proofs.PlainStatements.{call_spells}
 use Rattle.ixp_canonical.proofs.Arms.{free_labels, free_other}
-use Rattle.ixp_sound.specs.Sound.{deeper, some_of, params_of, type_of, fits, arguments_fit}
+use Rattle.ixp_sound.specs.Sound.{some_of, params_of, type_of, fits, arguments_fit}
 use Rattle.ixp_sound.specs.SoundStatements.{label_fits, returned_by, returned_in, returned_arms, is_of, stmt_fits, stmts_fit, arms_fit}
 use Rattle.ixp_canonical.proofs.SoundLists.{and3, list_spelt, all_spell}
 use Rattle.ixp_canonical.proofs.SoundParts.{parts_with}
-use Rattle.ixp_canonical.proofs.SoundExpressions.{Fit, spelt, trees_of, trees_again, all_arguments, more_arguments}
+use Rattle.ixp_canonical.proofs.SoundExpressions.{spelt, trees_of, trees_again, all_arguments, more_arguments}
 
 abbrev pub row_of : StmtTrees → List StmtTree
 row_of stmts_end = []

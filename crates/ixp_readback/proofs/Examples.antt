@@ -1,9 +1,8 @@
 -- Closed texts.
-use Rattle.std.proofs.Common.{◌≡◌, Bool, true, false, List, [], ◌∷◌, codes, None, refl}
+use Rattle.std.proofs.Common.{◌≡◌, true, false, [], ◌∷◌, codes, None, refl}
 use Rattle.std.specs.Fmt.{digits}
-use Rattle.ixp_lang.specs.Trees.{ItemTree, device_item, table_item, define_item, filter_item, literal, named, stmts, return_value, accept, if_then, stmts_end}
+use Rattle.ixp_lang.specs.Trees.{device_item, define_item, filter_item, literal, named, stmts, return_value, if_then, stmts_end}
 use Rattle.ixp_lang.specs.declared.value.Value.TheVariants as value
-use Rattle.ixp_lang.specs.declared.item.Kind.TheVariants.{Ipv4}
 use Rattle.ixp_compile.specs.Pieces.{in_turn}
 use Rattle.ixp_compile.specs.Header.{header}
 use Rattle.ixp_compile.specs.Fragment.{fragment}

@@ -1,16 +1,15 @@
 -- What a valid registry gives the sessions of its routers: lawful sets, an address, numbers of their own.
-use Rattle.std.proofs.Common.{◌≡◌, ℕ, ◌<◌, ◌≤◌, ◌^◌, Bool, true, false, ◌&&◌, ◌||◌, ◌==◌, ◌⊎◌, inl, inr, not, nat_le, List, [], ◌∷◌, ◌++◌, map, filter, filter_map, flat_map, decimal, Option, Some, None, refl, sym, ap, ◌∙◌, subst, arith, append_assoc, true≢false, if◌then◌else◌}
+use Rattle.std.proofs.Common.{◌≡◌, ℕ, ◌<◌, ◌≤◌, ◌^◌, Bool, true, false, ◌&&◌, ◌||◌, ◌==◌, ◌⊎◌, inl, inr, nat_le, List, [], ◌∷◌, ◌++◌, map, filter, filter_map, flat_map, decimal, Option, Some, None, refl, sym, ap, ◌∙◌, subst, arith, append_assoc, if◌then◌else◌}
 use Rattle.std.specs.List.{AllByRecursion, Contains, cons_option, list_any, list_all}
 use Rattle.std.proofs.lemmas.Bool.{and_parts, and_from, le-leb, leb-true}
 use Rattle.ixp_num.specs.declared.addr.Addr.{Addr}
 use Rattle.ixp_num.specs.declared.asn.Asn.{Asn}
 use Rattle.ixp_num.specs.declared.family.Family.{Family}
-use Rattle.ixp_num.specs.declared.family.Family.TheVariants.{V4, V6}
 use Rattle.ixp_num.specs.declared.pattern.Pattern.{Pattern}
 use Rattle.ixp_num.specs.declared.prefix.Prefix.{Prefix}
 use Rattle.ixp_num.specs.AddressForms.{version_of}
 use Rattle.ixp_num.specs.Families.{bits_of, same_family}
-use Rattle.ixp_num.specs.Prefixes.{covers, same_addr}
+use Rattle.ixp_num.specs.Prefixes.{same_addr}
 use Rattle.ixp_num.proofs.SameParts.{family_same}
 use Rattle.ixp_lang.specs.Meaning.{same_name}
 use Rattle.ixp_tables.specs.Tables.{find, if_there}
@@ -27,7 +26,7 @@ use Rattle.ixp_registry.specs.declared.rules.MemberRule.{MemberRule}
 use Rattle.ixp_registry.specs.Keys.{member_key, irr_key, router_key}
 use Rattle.ixp_registry.specs.Sessions.{Session, address_of, is_session, origins_in, prefixes_in, rules_of, session_at, session_with, member_addresses}
 use Rattle.ixp_registry.specs.Valid.{Valid, ValidIrrList, ValidRouter}
-use Rattle.ixp_registry.specs.Words.{has_bounds, pattern_has_bounds}
+use Rattle.ixp_registry.specs.Words.{pattern_has_bounds}
 use Rattle.ixp_pfxset.specs.BlockList.{blocks}
 use Rattle.ixp_pfxset.specs.Blocks.{IsBlock}
 use Rattle.ixp_pfxset.specs.declared.mode.Mode.{Mode}
@@ -37,7 +36,6 @@ use Rattle.ixp_pfxset.proofs.Least.{low_high, row_within}
 use Rattle.ixp_pfxset.proofs.Members.{first_in, later_in, in_cases, none_in}
 use Rattle.ixp_pfxset.proofs.Merging.{member_is_block}
 use Rattle.ixp_policy.specs.Import.{has_address}
-use Rattle.ixp_compile.specs.declared.inputs.Inputs.{Inputs}
 use Rattle.ixp_compile.specs.Generated.{header_inputs, inputs, router_sessions, allowed_set, covered_set, mode_of}
 use Rattle.ixp_compile.specs.Header.{bogons_of}
 use Rattle.ixp_compile.proofs.Addresses.{addresses_have}

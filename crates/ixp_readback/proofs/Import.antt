@@ -1,6 +1,6 @@
--- The import filter of a session.
-use Rattle.std.proofs.Common.{◌≡◌, ℕ, zero, suc, Bool, true, false, ◌==◌, List, [], ◌∷◌, ◌++◌, codes, Option, Some, None, refl, sym, ap, ◌∙◌, subst, if◌then◌else◌}
-use Rattle.ixp_lang.specs.Trees.{ItemTree, StmtTree, function_item, filter_item, stmts, call, exprs, accept}
+-- The import filter of a session fits.
+use Rattle.std.proofs.Common.{◌≡◌, ℕ, suc, Bool, true, false, List, [], ◌∷◌, codes, Option, Some, None, refl, if◌then◌else◌}
+use Rattle.ixp_lang.specs.Trees.{StmtTree, filter_item, stmts, call, exprs, accept}
 use Rattle.ixp_num.specs.declared.addr.Addr.{Addr}
 use Rattle.ixp_num.specs.declared.asn.Asn.{Asn}
 use Rattle.ixp_num.specs.declared.pattern.Pattern.{Pattern}
@@ -10,13 +10,11 @@ use Rattle.ixp_exprs.specs.declared.types.ValueType.TheVariants as type
 use Rattle.ixp_exprs.specs.declared.context.Scope.TheVariants as scope
 use Rattle.ixp_exprs.specs.declared.env.Declared.{Declared}
 use Rattle.ixp_exprs.specs.declared.env.Declared.TheVariants.{Function, Define, Table}
-use Rattle.ixp_stmts.specs.Statements.{Returned}
 use Rattle.ixp_compile.specs.declared.inputs.Inputs.{Inputs}
-use Rattle.ixp_compile.specs.Pieces.{roas, in_turn, tell, when}
+use Rattle.ixp_compile.specs.Pieces.{roas, tell}
 use Rattle.ixp_compile.specs.Fragment.{irr_name, origins_name, blackhole_name, in_name, net_test, first_tests, transit_test, origin_test, registered_origin, blackhole_test, blackhole_set, told_registered, state_test, prefix_test, in_body}
 use Rattle.ixp_sound.specs.Sound.{some_of}
-use Rattle.ixp_sound.specs.SoundItems.{item_fits, names_behind, items_fit}
-use Rattle.ixp_sound.specs.SoundStatements.{returned_in, stmts_fit}
+use Rattle.ixp_sound.specs.SoundItems.{item_fits}
 use Rattle.ixp_readback.proofs.Parts.{PartFits, part_of, no_part, both_parts, if_fits, fits_alone, when_fits}
 
 -- `name();`

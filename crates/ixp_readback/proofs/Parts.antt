@@ -1,12 +1,12 @@
--- Parts of a filter that fit, one behind the other.
+-- Parts of a filter that fit, one after the other.
 use Rattle.std.proofs.Common.{◌≡◌, ℕ, suc, if◌then◌else◌, Bool, true, false, ◌&&◌, List, [], ◌∷◌, ◌++◌, refl, sym, ap, ◌∙◌, subst}
-use Rattle.std.proofs.lemmas.Bool.{and_parts, and_from}
+use Rattle.std.proofs.lemmas.Bool.{and_from}
 use Rattle.ixp_exprs.specs.declared.types.ValueType.TheVariants.{Bool as Truth}
 use Rattle.ixp_lang.specs.Trees.{ExprTree, StmtTree, stmts}
 use Rattle.ixp_exprs.specs.declared.context.Scope.{Scope}
 use Rattle.ixp_exprs.specs.Names.{Names}
 use Rattle.ixp_stmts.specs.Statements.{Returned}
-use Rattle.ixp_compile.specs.Pieces.{in_turn, when}
+use Rattle.ixp_compile.specs.Pieces.{when}
 use Rattle.ixp_sound.specs.SoundStatements.{is_of, returned_in, stmts_fit, stmt_fits, returned_by}
 
 module _ (names : Names) (scope : Scope) (n : ℕ) where

@@ -1,13 +1,12 @@
 -- A session's part fits.
-use Rattle.std.proofs.Common.{◌≡◌, ℕ, zero, suc, Bool, true, false, ◌&&◌, not, List, [], ◌∷◌, ◌++◌, codes, decimal, Option, Some, None, refl, sym, ap, ◌∙◌, subst, if◌then◌else◌}
+use Rattle.std.proofs.Common.{◌≡◌, ℕ, Bool, true, false, not, List, [], ◌∷◌, ◌++◌, codes, decimal, Option, Some, None, refl, sym, ap, subst, if◌then◌else◌}
 use Rattle.std.specs.List.{list_all}
 use Rattle.std.proofs.lemmas.Bool.{and_parts, and_from}
-use Rattle.ixp_lang.specs.Trees.{ItemTree, table_item, define_item, function_item, filter_item, pipe_item, bgp_item, set_literal, stmts}
+use Rattle.ixp_lang.specs.Trees.{ItemTree, table_item, function_item, filter_item, pipe_item, bgp_item, stmts}
 use Rattle.ixp_lang.specs.declared.value.SetLit.{SetLit}
 use Rattle.ixp_lang.specs.declared.value.SetLit.TheVariants as set
 use Rattle.ixp_num.specs.declared.family.Family.{Family}
 use Rattle.ixp_num.specs.declared.family.Family.TheVariants.{V4, V6}
-use Rattle.ixp_num.specs.declared.asn.Asn.{Asn}
 use Rattle.ixp_num.specs.declared.pattern.Pattern.{Pattern}
 use Rattle.ixp_tokens.specs.Pieces.{same_word}
 use Rattle.ixp_exprs.specs.Names.{Names}
@@ -21,7 +20,7 @@ use Rattle.ixp_compile.specs.Pieces.{roas, master, table_kind, defined, numbers}
 use Rattle.ixp_compile.specs.MemberRules.{is_receive, receive_body}
 use Rattle.ixp_compile.specs.Fragment.{in_name, in_body, up_name, up_body, receive_name, down_name, down_body, table_name, pipe_name, bgp_name, pipe_of, bgp_of, irr_name, origins_name, blackhole_name, member_sets, session_filters, protocols, fragment}
 use Rattle.ixp_sound.specs.Sound.{some_of, is_lawful, set_type, set_fits}
-use Rattle.ixp_sound.specs.SoundItems.{item_fits, names_behind, items_fit}
+use Rattle.ixp_sound.specs.SoundItems.{item_fits}
 use Rattle.ixp_num.specs.declared.addr.Addr.{Addr}
 use Rattle.ixp_exprs.specs.declared.env.Table.{Table as TableOf}
 use Rattle.ixp_exprs.specs.Names.{table_of}
@@ -35,7 +34,7 @@ use Rattle.ixp_read.specs.Functions.{as_written}
 use Rattle.ixp_sound.specs.SoundStatements.{returned_in}
 use Rattle.ixp_sound.specs.SoundItems.{with_table}
 use Rattle.ixp_readback.proofs.Import.{procedure, gives, a_set, IfAny, IfSet, Heads, Sets, in_fits}
-use Rattle.ixp_readback.proofs.Ways.{same_self, up_fits, received, receive_fits, down_fits, pipe_fits, bgp_fits}
+use Rattle.ixp_readback.proofs.OtherFilters.{same_self, up_fits, received, receive_fits, down_fits, pipe_fits, bgp_fits}
 use Rattle.ixp_readback.proofs.Facts.{names_after, known_again, Facts, Known, apart, known_behind, known_front, known_both, Leads, then_leads, nothing_leads, item_leads, if_leads}
 
 -- A set that may be left out.

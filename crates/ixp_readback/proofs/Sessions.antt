@@ -1,7 +1,5 @@
--- All sessions' parts fit, one behind the other.
-use Rattle.std.proofs.Common.{◌≡◌, ℕ, zero, suc, Bool, true, false, ◌&&◌, ◌==◌, not, List, [], ◌∷◌, ◌++◌, decimal, flat_map, Option, Some, None, refl, sym, ap, ◌∙◌, subst}
-use Rattle.std.specs.List.{list_all}
-use Rattle.std.proofs.lemmas.Bool.{and_parts, and_from}
+-- All sessions' parts fit, one after the other.
+use Rattle.std.proofs.Common.{◌≡◌, false, List, [], ◌∷◌, ◌++◌, decimal, flat_map, Option, refl, sym, subst}
 use Rattle.ixp_lang.specs.Trees.{ItemTree}
 use Rattle.ixp_num.specs.declared.addr.Addr.{Addr}
 use Rattle.ixp_num.specs.declared.family.Family.{Family}
@@ -10,9 +8,8 @@ use Rattle.ixp_tokens.specs.Pieces.{same_word}
 use Rattle.ixp_exprs.specs.Names.{Names}
 use Rattle.ixp_compile.specs.declared.inputs.Inputs.{Inputs}
 use Rattle.ixp_compile.specs.Fragment.{fragment, table_name, irr_name, origins_name, blackhole_name, in_name, up_name, receive_name, down_name, pipe_name, bgp_name}
-use Rattle.ixp_sound.specs.Sound.{some_of, is_lawful}
 use Rattle.ixp_readback.specs.Fit.{IsFit, IsOther, AreFit}
-use Rattle.ixp_readback.proofs.Facts.{Facts, Known, apart, known_front, known_both, Leads, then_leads, nothing_leads}
+use Rattle.ixp_readback.proofs.Facts.{Facts, Known, known_front, Leads, then_leads, nothing_leads}
 use Rattle.ixp_readback.proofs.Session.{heads, own_apart, Apart, free_names, session_leads, apart_both}
 
 -- the session's names are none of another one's

@@ -1,14 +1,12 @@
 -- The generated texts of a valid registry are sound.
-use Rattle.std.proofs.Common.{◌≡◌, ℕ, true, List, [], ◌∷◌, ◌++◌, map, flat_map, append-nil, None, Some, sym, ap, ◌∙◌, subst}
+use Rattle.std.proofs.Common.{◌≡◌, ℕ, true, List, [], ◌∷◌, map, append-nil, Some, sym, ap, ◌∙◌, subst}
 use Rattle.std.specs.List.{AllByRecursion}
-use Rattle.ixp_lang.specs.Trees.{device_item}
 use Rattle.ixp_tables.specs.Tables.{find}
 use Rattle.ixp_registry.specs.declared.registry.Registry.{Registry}
 use Rattle.ixp_registry.specs.declared.router.Router.{Router}
 use Rattle.ixp_registry.specs.Keys.{router_key}
 use Rattle.ixp_registry.specs.Sessions.{Session, session}
 use Rattle.ixp_registry.specs.Valid.{Valid}
-use Rattle.ixp_compile.specs.Fragment.{fragment}
 use Rattle.ixp_compile.specs.Generated.{header_inputs, inputs, router_sessions, allowed_set, covered_set, session_part, footer, generated, own_part}
 use Rattle.ixp_compile.specs.Header.{header}
 use Rattle.ixp_compile.specs.Pieces.{in_turn}

@@ -1,27 +1,23 @@
--- From the head's items to what is known behind them.
-use Rattle.std.proofs.Common.{◌≡◌, ℕ, zero, suc, ◌≤◌, Bool, true, false, ◌&&◌, ◌||◌, not, List, [], ◌∷◌, ◌++◌, codes, Option, Some, None, refl, sym, ap, ◌∙◌, subst, if◌then◌else◌}
-use Rattle.std.specs.List.{list_all, list_any}
+-- What is known of names at each item of the head, and after it.
+use Rattle.std.proofs.Common.{◌≡◌, ℕ, suc, Bool, true, false, ◌&&◌, not, List, [], ◌∷◌, ◌++◌, codes, Option, Some, None, refl, sym, ap, subst, if◌then◌else◌}
 use Rattle.std.proofs.lemmas.Bool.{and_parts, and_from}
-use Rattle.ixp_lang.specs.Trees.{ItemTree, StmtTrees, stmts, function_item, table_item, router_id_item, filter_item, set_literal}
-use Rattle.ixp_lang.specs.declared.item.Ty.TheVariants.{Int}
+use Rattle.ixp_lang.specs.Trees.{ItemTree, StmtTrees, function_item}
 use Rattle.ixp_lang.specs.declared.value.SetLit.{SetLit}
 use Rattle.ixp_tokens.specs.Pieces.{same_word}
 use Rattle.ixp_exprs.specs.Names.{Names}
 use Rattle.ixp_exprs.specs.Declarations.{standing, is_free_in}
 use Rattle.ixp_exprs.specs.declared.types.ValueType.{ValueType}
-use Rattle.ixp_exprs.specs.declared.types.ValueType.TheVariants as type
 use Rattle.ixp_exprs.specs.declared.context.Scope.TheVariants as scope
 use Rattle.ixp_exprs.specs.declared.env.Declared.{Declared}
-use Rattle.ixp_exprs.specs.declared.env.Declared.TheVariants.{Begun, Function, Filter, Table, Define}
+use Rattle.ixp_exprs.specs.declared.env.Declared.TheVariants.{Begun, Function}
 use Rattle.ixp_read.specs.Functions.{as_written}
 use Rattle.ixp_compile.specs.Pieces.{defined}
 use Rattle.ixp_sound.specs.Sound.{set_type, set_fits}
-use Rattle.ixp_sound.specs.SoundItems.{item_fits, names_behind, inside, items_fit}
+use Rattle.ixp_sound.specs.SoundItems.{item_fits, names_behind, items_fit}
 use Rattle.ixp_sound.specs.SoundStatements.{stmts_fit, returned_in}
-use Rattle.ixp_readback.proofs.Import.{a_set}
 use Rattle.ixp_readback.proofs.Facts.{Facts, Known, apart, known_behind, names_after}
 use Rattle.ixp_readback.proofs.Session.{if_any}
-use Rattle.ixp_readback.proofs.Heading.{Free, free_here, free_later, free_behind, one_param}
+use Rattle.ixp_readback.proofs.FreeNames.{Free, free_later}
 
 -- what is free yet, what is known, and that functions from here on may have parameters of the two names
 abbrev pub Stage : Facts → Facts → ℕ → Names → Type 0

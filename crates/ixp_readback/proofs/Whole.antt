@@ -1,11 +1,9 @@
 -- The whole generated text is sound.
-use Rattle.std.proofs.Common.{◌≡◌, ℕ, zero, suc, ◌≤◌, Bool, true, false, ◌&&◌, ◌||◌, List, [], ◌∷◌, ◌++◌, flat_map, codes, Option, Some, None, refl, sym, ap, ◌∙◌, subst}
+use Rattle.std.proofs.Common.{◌≡◌, ℕ, Bool, true, false, ◌||◌, List, [], ◌∷◌, ◌++◌, flat_map, Option, None, refl, sym, subst}
 use Rattle.std.specs.List.{list_all, list_any}
-use Rattle.std.proofs.lemmas.Bool.{and_parts, and_from}
 use Rattle.ixp_lang.specs.Trees.{ItemTree, device_item}
 use Rattle.ixp_num.specs.declared.addr.Addr.{Addr}
 use Rattle.ixp_num.specs.declared.family.Family.{Family}
-use Rattle.ixp_num.specs.declared.family.Family.TheVariants.{V4, V6}
 use Rattle.ixp_num.specs.declared.pattern.Pattern.{Pattern}
 use Rattle.ixp_tokens.specs.Pieces.{same_word}
 use Rattle.ixp_exprs.specs.Names.{Names}
@@ -16,13 +14,13 @@ use Rattle.ixp_compile.specs.Pieces.{in_turn, master, roas}
 use Rattle.ixp_compile.specs.Header.{bogons_of, header}
 use Rattle.ixp_compile.specs.Fragment.{fragment}
 use Rattle.ixp_sound.specs.Sound.{is_lawful}
-use Rattle.ixp_sound.specs.SoundItems.{items_fit, is_sound}
-use Rattle.ixp_readback.proofs.Facts.{Facts, Known, apart, word_same, known_front, known_both, names_after}
+use Rattle.ixp_sound.specs.SoundItems.{is_sound}
+use Rattle.ixp_readback.proofs.Facts.{Facts, Known, apart, word_same, known_front, known_both}
 use Rattle.ixp_readback.proofs.Session.{heads, free_names, apart_both}
 use Rattle.ixp_readback.proofs.Sessions.{ahead, sessions_lead}
 use Rattle.ixp_readback.specs.Fit.{AreFit}
-use Rattle.ixp_readback.proofs.Stages.{Stage, behind, Goes, then_goes, stays}
-use Rattle.ixp_readback.proofs.Heads.{head_words, is_head, sets_todo, header_goes, heads_known, Last}
+use Rattle.ixp_readback.proofs.Stages.{Stage, Goes, then_goes}
+use Rattle.ixp_readback.proofs.WholeHead.{head_words, is_head, sets_todo, header_goes, heads_known, Last}
 
 -- what holds of each word holds of one that is among them
 abbrev AllOf : (List ℕ → Type 0) → List (List ℕ) → Type 0

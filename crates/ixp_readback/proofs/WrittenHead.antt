@@ -1,24 +1,21 @@
 -- The tokens of a generated head are such as texts have.
-use Rattle.std.proofs.Common.{◌≡◌, ℕ, ◌<◌, ◌≤◌, ◌^◌, Bool, true, false, ◌&&◌, ◌==◌, nat_lt, nat_le, max, List, [], ◌∷◌, ◌++◌, map, codes, Option, Some, None, refl, sym, ap, ◌∙◌, if◌then◌else◌}
+use Rattle.std.proofs.Common.{◌≡◌, ℕ, Bool, true, ◌&&◌, ◌==◌, nat_le, List, [], ◌∷◌, ◌++◌, map, codes, Option, Some, None, refl, ◌∙◌}
 use Rattle.std.specs.List.{list_all}
-use Rattle.std.proofs.lemmas.Bool.{and_parts, and_from}
 use Rattle.ixp_num.specs.declared.addr.Addr.{Addr}
 use Rattle.ixp_num.specs.declared.asn.Asn.{Asn}
 use Rattle.ixp_num.specs.declared.family.Family.{Family}
 use Rattle.ixp_num.specs.declared.family.Family.TheVariants.{V4, V6}
 use Rattle.ixp_num.specs.declared.pattern.Pattern.{Pattern}
-use Rattle.ixp_lang.specs.Trees.{ItemTree, StmtTree, function_item, filter_item, stmts}
-use Rattle.ixp_lang.specs.declared.item.Ty.TheVariants.{Int}
+use Rattle.ixp_lang.specs.Trees.{StmtTree}
 use Rattle.ixp_lang.specs.declared.value.SetLit.TheVariants as set
-use Rattle.ixp_tokens.specs.declared.token.Kind.{Kind}
 use Rattle.ixp_canonical.specs.CanonicalItems.{items_tokens}
 use Rattle.ixp_canonical.specs.Canonical.{range_tokens, pattern_tokens}
 use Rattle.ixp_compile.specs.declared.inputs.HeaderInputs.{HeaderInputs}
-use Rattle.ixp_compile.specs.Pieces.{in_turn, defined, where_any, numbers, master, roas, table_kind, roa_kind, when, drop_with}
-use Rattle.ixp_compile.specs.Header.{bogons_of, joined_ranges, drop_body, blackhole_body, blackhole_function, net_body, is_too_long, community_tests, bogon_as_body, transit_body, sends_body, pair_answers, pad_body, out_body, blackhole_hop, pairs_taken_away, tables, public_sets, shared_functions, header}
+use Rattle.ixp_compile.specs.Pieces.{defined, where_any, numbers, when, drop_with}
+use Rattle.ixp_compile.specs.Header.{bogons_of, joined_ranges, blackhole_function, net_body, is_too_long, community_tests, sends_body, pair_answers, out_body, blackhole_hop, pairs_taken_away, tables, public_sets, shared_functions, header}
 use Rattle.ixp_sound.specs.Sound.{is_lawful}
-use Rattle.ixp_readback.proofs.WrittenNames.{HeadNames, head_names, master_named, roas_named}
-use Rattle.ixp_readback.proofs.WrittenTokens.{written, is_word_name, is_small, is_small_range, Same, PartSame, ItemsSame, both_same, both_items, if_same, list_same, range_same, pattern_same, define_same}
+use Rattle.ixp_readback.proofs.WrittenNames.{HeadNames, master_named, roas_named}
+use Rattle.ixp_readback.proofs.WrittenTokens.{written, is_word_name, is_small, is_small_range, PartSame, ItemsSame, both_same, both_items, if_same, list_same, range_same, pattern_same, define_same}
 
 -- numbers of 32 bits, and lawful sets
 pub record SmallHead (h : HeaderInputs) : Type 0 where

@@ -1,15 +1,15 @@
 -- The names in generated texts are names that texts have.
-use Rattle.std.proofs.Common.{◌≡◌, ℕ, zero, suc, ◌<◌, ◌≤◌, ◌^◌, Bool, true, false, ◌&&◌, ◌||◌, ◌==◌, not, nat_le, List, [], ◌∷◌, ◌++◌, codes, decimal, refl, ◌∙◌, arith, le-leb, lit<, lit≤, rules}
+use Rattle.std.proofs.Common.{◌≡◌, ℕ, ◌<◌, ◌≤◌, ◌^◌, Bool, true, false, ◌||◌, nat_le, List, [], ◌∷◌, codes, decimal, refl, arith, le-leb, lit≤, rules}
 use Rattle.std.specs.List.{list_all, AllByRecursion}
-use Rattle.std.proofs.lemmas.Bool.{and_parts, and_from}
+use Rattle.std.proofs.lemmas.Bool.{and_from}
 use Rattle.std.proofs.lemmas.Fmt.{digits_decimal}
 use Rattle.std.proofs.lemmas.Str.Parse.{IsNumeralModel, numerals_by_fold}
 use Rattle.ixp_num.specs.declared.family.Family.{Family}
 use Rattle.ixp_num.specs.declared.family.Family.TheVariants.{V4, V6}
-use Rattle.ixp_num.specs.Names.{is_name, is_name_byte, is_within}
+use Rattle.ixp_num.specs.Names.{is_within}
 use Rattle.ixp_num.specs.Forms.{IsDigit, value_after}
-use Rattle.ixp_tokens.specs.Bytes.{begins_with, is_letter, is_word_byte}
-use Rattle.ixp_tokens.specs.Words.{is_keyword, is_profile_word, is_foreign_word}
+use Rattle.ixp_tokens.specs.Bytes.{is_letter, is_word_byte}
+use Rattle.ixp_tokens.specs.Words.{is_profile_word, is_foreign_word}
 use Rattle.ixp_lang.proofs.NumberedNames.{numbered_is_name}
 use Rattle.ixp_compile.specs.Pieces.{master, roas}
 use Rattle.ixp_compile.specs.Fragment.{table_name, irr_name, origins_name, blackhole_name, in_name, up_name, receive_name, down_name, pipe_name, bgp_name}

@@ -1,5 +1,5 @@
 -- The tokens of a session's part are such as texts have.
-use Rattle.std.proofs.Common.{◌≡◌, ℕ, ◌+◌, ◌<◌, ◌^◌, ◌==◌, Bool, true, false, ◌&&◌, nat_lt, nat_le, List, [], ◌∷◌, ◌++◌, map, filter, flat_map, reverse, codes, length, Option, Some, None, is_none, refl, sym, ap, ◌∙◌, subst, arith, le-leb, if◌then◌else◌}
+use Rattle.std.proofs.Common.{◌≡◌, ℕ, ◌+◌, ◌<◌, ◌^◌, ◌==◌, Bool, true, false, ◌&&◌, nat_le, List, [], ◌∷◌, ◌++◌, map, filter, flat_map, reverse, codes, Option, Some, None, is_none, refl, sym, ap, ◌∙◌, subst, if◌then◌else◌}
 use Rattle.std.specs.List.{list_all}
 use Rattle.std.proofs.lemmas.Bool.{and_parts, and_from}
 use Rattle.std.proofs.lemmas.List.{reverse-append}
@@ -21,7 +21,7 @@ use Rattle.ixp_compile.specs.Pieces.{defined, numbers, run, truth_value, when}
 use Rattle.ixp_compile.specs.MemberRules.{within, is_printed, any_number, number_or_0, pairs_rewritten, steering_actions, action_written, rewriting, where_about, advertise_rule, advertise_rules, is_receive, receive_test, receive_rule, receive_body}
 use Rattle.ixp_compile.specs.Fragment.{irr_name, origins_name, blackhole_name, if_blackholes, member_sets, net_test, first_tests, transit_test, origin_test, registered_origin, blackhole_test, blackhole_set, told_registered, state_test, prefix_test, in_body, up_body, down_body, if_not_empty, if_not_0, session_filters, protocols, fragment}
 use Rattle.ixp_sound.specs.Sound.{is_lawful}
-use Rattle.ixp_readback.proofs.Ways.{lawful_within}
+use Rattle.ixp_readback.proofs.OtherFilters.{lawful_within}
 use Rattle.ixp_readback.proofs.WrittenHead.{patterns_defined, numbers_defined}
 use Rattle.ixp_readback.proofs.WrittenNames.{HeadNames, SessionNames, master_named, roas_named}
 use Rattle.ixp_readback.proofs.WrittenTokens.{written, is_word_name, is_small, is_said, is_small_range, Same, PartSame, ItemsSame, both_same, both_items, if_same, if_items, addrs_written, pattern_same}

@@ -1,5 +1,5 @@
 -- The generated texts of a valid registry have tokens that texts have, so their printed texts spell them.
-use Rattle.std.proofs.Common.{◌≡◌, ℕ, ◌+◌, ◌<◌, ◌≤◌, ◌^◌, Bool, true, false, ◌&&◌, ◌||◌, ◌==◌, not, nat_le, max, List, [], ◌∷◌, ◌++◌, map, flat_map, filter_map, length, Option, Some, None, refl, sym, ap, ◌∙◌, subst, arith, lit<, lit≤, if◌then◌else◌}
+use Rattle.std.proofs.Common.{◌≡◌, ℕ, ◌+◌, ◌<◌, ◌≤◌, ◌^◌, Bool, true, false, ◌||◌, ◌==◌, not, nat_le, max, List, [], ◌∷◌, ◌++◌, map, flat_map, filter_map, length, Option, Some, None, refl, sym, ap, subst, arith, lit<, lit≤, if◌then◌else◌}
 use Rattle.std.specs.Prelude.{IfSome}
 use Rattle.std.specs.List.{AllByRecursion, cons_option, list_all}
 use Rattle.std.proofs.lemmas.Bool.{and_parts, and_from, leb-true, eqb-true, ne_eqb, lt-ltb, le-leb}
@@ -13,7 +13,6 @@ use Rattle.ixp_tables.specs.Tables.{find, if_there}
 use Rattle.ixp_tables.proofs.Looking.{all_found}
 use Rattle.ixp_tokens.specs.Bytes.{is_text_byte}
 use Rattle.ixp_registry.specs.declared.lists.OriginList.{OriginList}
-use Rattle.ixp_registry.specs.declared.members.Member.{Member}
 use Rattle.ixp_registry.specs.declared.network.IfAddr.{IfAddr}
 use Rattle.ixp_registry.specs.declared.network.Interface.{Interface}
 use Rattle.ixp_registry.specs.declared.registry.Registry.{Registry}
@@ -41,7 +40,7 @@ use Rattle.ixp_readback.proofs.FromRows.{Told, told, Fits, all_fit, all_at, bogo
 use Rattle.ixp_readback.proofs.WrittenHead.{SmallHead, header_same}
 use Rattle.ixp_readback.proofs.WrittenNames.{head_names, session_names}
 use Rattle.ixp_readback.proofs.WrittenSession.{SmallSession, is_small_action, is_small_rule, fragment_same}
-use Rattle.ixp_readback.proofs.WrittenTokens.{written, all_written, is_small, is_small_range, is_said, ItemsSame, both_items}
+use Rattle.ixp_readback.proofs.WrittenTokens.{all_written, is_small, is_small_range, is_said, ItemsSame, both_items}
 
 small : (n : ℕ) → n < 2 ^ 32 → is_small n ≡ true
 small n h = lt-ltb n (2 ^ 32) h

@@ -1,6 +1,6 @@
 -- The text of a route server by the rows of a registry, and when a text does what the rules over the rows say. This page and what
 -- it names is what there is to believe of generated texts.
-use Rattle.std.specs.Prelude.{◌≡◌, ℕ, true, List, [], Option, Some, Ok, codes, reverse}
+use Rattle.std.specs.Prelude.{◌≡◌, ℕ, true, List, Option, Some, Ok, codes, reverse}
 use Rattle.std.specs.Option.{is_some}
 use Rattle.ixp_lang.specs.declared.route.Route.{Route}
 use Rattle.ixp_lang.specs.declared.route.Verdict.TheVariants.{Accept}

@@ -1,7 +1,7 @@
--- The other filters of a session, and its protocols.
-use Rattle.std.proofs.Common.{◌≡◌, ℕ, zero, suc, ◌≤◌, Bool, true, false, ◌&&◌, ◌==◌, not, nat_le, List, [], ◌∷◌, ◌++◌, map, filter, reverse, flat_map, codes, decimal, Option, Some, None, refl, sym, ap, ◌∙◌, subst, if◌then◌else◌, le-leb, arith}
+-- A session's other filters and its protocols fit.
+use Rattle.std.proofs.Common.{◌≡◌, ℕ, suc, ◌≤◌, Bool, true, false, ◌&&◌, ◌==◌, nat_le, List, [], ◌∷◌, ◌++◌, map, filter, reverse, flat_map, codes, Option, Some, None, refl, le-leb, arith}
 use Rattle.std.proofs.lemmas.Bool.{and_parts, and_from, eq-eqb}
-use Rattle.ixp_lang.specs.Trees.{ItemTree, StmtTree, function_item, filter_item, pipe_item, bgp_item, stmts, call, exprs, accept, return_value}
+use Rattle.ixp_lang.specs.Trees.{StmtTree, function_item, filter_item, pipe_item, bgp_item, stmts, accept, return_value}
 use Rattle.ixp_num.specs.declared.asn.Asn.{Asn}
 use Rattle.ixp_num.specs.declared.family.Family.{Family}
 use Rattle.ixp_num.specs.declared.prefix.Prefix.{Prefix}
@@ -11,7 +11,6 @@ use Rattle.ixp_registry.specs.declared.rules.Action.TheVariants.{AsIs, Prepend, 
 use Rattle.ixp_registry.specs.declared.rules.MemberRule.{MemberRule}
 use Rattle.ixp_tokens.specs.Pieces.{same_word}
 use Rattle.ixp_exprs.specs.Names.{Names}
-use Rattle.ixp_exprs.specs.declared.types.ValueType.{ValueType}
 use Rattle.ixp_exprs.specs.declared.types.ValueType.TheVariants as type
 use Rattle.ixp_exprs.specs.declared.context.Scope.{Scope}
 use Rattle.ixp_exprs.specs.declared.context.Scope.TheVariants as scope
@@ -19,12 +18,12 @@ use Rattle.ixp_exprs.specs.declared.env.Declared.TheVariants.{Function, Filter, 
 use Rattle.ixp_stmts.specs.Statements.{Returned, may_meet, met}
 use Rattle.ixp_read.specs.Functions.{as_written}
 use Rattle.ixp_compile.specs.declared.inputs.Inputs.{Inputs}
-use Rattle.ixp_compile.specs.Pieces.{roas, master, in_turn, tell, when, truth_value}
-use Rattle.ixp_compile.specs.MemberRules.{within, net_within, any_number, pairs_rewritten, action_written, rewriting, where_about, advertise_rule, advertise_rules, receive_test, receive_rule, receive_body, is_receive, is_printed, number_or_0}
-use Rattle.ixp_compile.specs.Fragment.{in_name, up_name, up_body, receive_name, down_name, down_body, table_name, pipe_name, bgp_name, pipe_of, bgp_of, irr_name, origins_name, blackhole_name}
-use Rattle.ixp_sound.specs.Sound.{some_of, is_lawful, fits, type_of}
-use Rattle.ixp_sound.specs.SoundItems.{item_fits, names_behind, items_fit}
-use Rattle.ixp_sound.specs.SoundStatements.{is_of, returned_in, returned_by, stmts_fit, stmt_fits}
+use Rattle.ixp_compile.specs.Pieces.{master, truth_value}
+use Rattle.ixp_compile.specs.MemberRules.{within, net_within, pairs_rewritten, action_written, rewriting, where_about, advertise_rule, advertise_rules, receive_test, receive_rule, receive_body, is_receive, is_printed, number_or_0}
+use Rattle.ixp_compile.specs.Fragment.{in_name, up_name, up_body, receive_name, down_name, down_body, table_name, pipe_name, bgp_name, pipe_of, bgp_of}
+use Rattle.ixp_sound.specs.Sound.{is_lawful}
+use Rattle.ixp_sound.specs.SoundItems.{item_fits}
+use Rattle.ixp_sound.specs.SoundStatements.{is_of, returned_in, stmts_fit}
 use Rattle.ixp_readback.proofs.Parts.{PartFits, part_of, no_part, both_parts, if_fits, fits_alone, when_fits}
 use Rattle.ixp_readback.proofs.Import.{procedure, gives}
 

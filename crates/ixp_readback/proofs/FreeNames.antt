@@ -1,7 +1,7 @@
--- Functions of the head, one behind the other.
-use Rattle.std.proofs.Common.{◌≡◌, ℕ, zero, suc, ◌<◌, ◌≤◌, Bool, true, false, ◌&&◌, ◌==◌, not, nat_le, List, [], ◌∷◌, ◌++◌, codes, Option, Some, None, refl, sym, ap, ◌∙◌, subst, if◌then◌else◌, arith}
-use Rattle.std.proofs.lemmas.Bool.{and_parts, and_from, leb-true, eqb-true}
-use Rattle.ixp_lang.specs.Trees.{ItemTree, function_item, StmtTrees, stmts}
+-- A parameter's name is free for each function that follows.
+use Rattle.std.proofs.Common.{◌≡◌, ℕ, suc, ◌≤◌, Bool, true, false, ◌==◌, not, List, [], ◌∷◌, codes, Option, Some, None, refl, ap, arith}
+use Rattle.std.proofs.lemmas.Bool.{and_from, eqb-true}
+use Rattle.ixp_lang.specs.Trees.{function_item, StmtTrees, stmts}
 use Rattle.ixp_lang.specs.declared.item.Ty.TheVariants.{Int}
 use Rattle.ixp_tokens.specs.Pieces.{same_word}
 use Rattle.ixp_exprs.specs.Names.{Names}
@@ -11,14 +11,13 @@ use Rattle.ixp_exprs.specs.declared.types.ValueType.TheVariants as type
 use Rattle.ixp_exprs.specs.declared.context.Scope.TheVariants as scope
 use Rattle.ixp_exprs.specs.declared.env.Declared.{Declared}
 use Rattle.ixp_exprs.specs.declared.env.Declared.TheVariants.{Begun, Function, Parameter}
-use Rattle.ixp_read.specs.Functions.{as_written, levels_inside}
-use Rattle.ixp_stmts.specs.Statements.{Returned}
-use Rattle.ixp_compile.specs.Header.{drop_body, count_body, pad_body, sends_body}
-use Rattle.ixp_sound.specs.SoundItems.{item_fits, names_behind, inside, items_fit}
-use Rattle.ixp_sound.specs.SoundStatements.{stmts_fit, returned_in}
-use Rattle.ixp_readback.proofs.Facts.{Facts, Known, apart, known_behind, names_after}
-use Rattle.ixp_readback.proofs.Ways.{same_self, eq_self}
-use Rattle.ixp_readback.proofs.Header.{pad_fits, count_fits, drop_free_fits, sends_fits}
+use Rattle.ixp_read.specs.Functions.{as_written}
+use Rattle.ixp_compile.specs.Header.{drop_body, count_body, pad_body}
+use Rattle.ixp_sound.specs.SoundItems.{names_behind, inside, items_fit}
+use Rattle.ixp_sound.specs.SoundStatements.{returned_in}
+use Rattle.ixp_readback.proofs.Facts.{Facts, Known, apart, known_behind}
+use Rattle.ixp_readback.proofs.OtherFilters.{eq_self}
+use Rattle.ixp_readback.proofs.HeadFunctions.{pad_fits, count_fits, drop_free_fits}
 
 -- a parameter of a function from this number on may have the name
 abbrev pub Free : ℕ → Names → List ℕ → Type 0

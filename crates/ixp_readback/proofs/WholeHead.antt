@@ -1,8 +1,8 @@
--- The whole head, and the whole text.
-use Rattle.std.proofs.Common.{◌≡◌, ℕ, zero, suc, ◌≤◌, Bool, true, false, ◌&&◌, ◌||◌, ◌==◌, not, nat_le, List, [], ◌∷◌, ◌++◌, flat_map, codes, Option, Some, None, refl, sym, ap, ◌∙◌, subst, if◌then◌else◌}
+-- The whole head fits, and leaves its names declared.
+use Rattle.std.proofs.Common.{◌≡◌, ℕ, suc, Bool, true, false, not, nat_le, List, [], ◌∷◌, ◌++◌, codes, Option, Some, None, refl, sym, ap, subst}
 use Rattle.std.specs.List.{list_all, list_any}
 use Rattle.std.proofs.lemmas.Bool.{and_parts, and_from}
-use Rattle.ixp_lang.specs.Trees.{ItemTree, StmtTrees, StmtTree, stmts, function_item, table_item, router_id_item, filter_item, device_item}
+use Rattle.ixp_lang.specs.Trees.{ItemTree, StmtTrees, StmtTree, stmts, function_item, table_item, router_id_item, filter_item}
 use Rattle.ixp_lang.specs.declared.item.Ty.TheVariants.{Int}
 use Rattle.ixp_lang.specs.declared.value.SetLit.TheVariants as set
 use Rattle.ixp_num.specs.declared.asn.Asn.{Asn}
@@ -12,11 +12,10 @@ use Rattle.ixp_num.specs.declared.family.Family.TheVariants.{V4, V6}
 use Rattle.ixp_num.specs.declared.pattern.Pattern.{Pattern}
 use Rattle.ixp_tokens.specs.Pieces.{same_word}
 use Rattle.ixp_exprs.specs.Names.{Names}
-use Rattle.ixp_exprs.specs.Declarations.{standing, is_free_in, nothing_declared}
+use Rattle.ixp_exprs.specs.Declarations.{standing, is_free_in}
 use Rattle.ixp_exprs.specs.declared.types.ValueType.{ValueType}
 use Rattle.ixp_exprs.specs.declared.types.ValueType.TheVariants as type
 use Rattle.ixp_exprs.specs.declared.context.Scope.TheVariants as scope
-use Rattle.ixp_exprs.specs.declared.env.Declared.{Declared}
 use Rattle.ixp_exprs.specs.declared.env.Declared.TheVariants.{Begun, Function, Filter, Table, Parameter}
 use Rattle.ixp_read.specs.Functions.{as_written}
 use Rattle.ixp_read.specs.Items.{unowned}
@@ -24,20 +23,20 @@ use Rattle.ixp_compile.specs.declared.inputs.HeaderInputs.{HeaderInputs}
 use Rattle.ixp_lang.specs.declared.expr.Attr.TheVariants as attr
 use Rattle.ixp_lang.specs.declared.expr.Op.TheVariants as op
 use Rattle.ixp_lang.specs.Trees.{named}
-use Rattle.ixp_compile.specs.Pieces.{when, compared, drop_with, in_turn, defined, numbers, where_any, master, roas, table_kind, roa_kind}
+use Rattle.ixp_compile.specs.Pieces.{when, compared, drop_with, defined, numbers, where_any, master, roas, table_kind, roa_kind}
 use Rattle.ixp_compile.specs.Header.{identifier, bogons_of, joined_ranges, drop_body, blackhole_body, blackhole_function, net_body, bogon_as_body, transit_body, sends_body, count_body, pad_body, out_body, tables, public_sets, shared_functions, header}
 use Rattle.ixp_sound.specs.Sound.{is_lawful}
-use Rattle.ixp_sound.specs.SoundItems.{item_fits, names_behind, inside, items_fit}
+use Rattle.ixp_sound.specs.SoundItems.{item_fits, inside}
 use Rattle.ixp_sound.specs.SoundStatements.{stmts_fit, returned_in}
 use Rattle.ixp_readback.proofs.Parts.{PartFits, part_of, no_part, fits_alone, returned_alone}
 use Rattle.ixp_readback.proofs.Import.{procedure, gives, a_set, IfAny}
-use Rattle.ixp_readback.proofs.Facts.{Facts, Known, apart, known_behind, known_front, names_after}
-use Rattle.ixp_readback.proofs.Ways.{eq_self}
-use Rattle.ixp_readback.proofs.Header.{drop_free_fits, count_fits, pad_fits, sends_fits}
-use Rattle.ixp_readback.proofs.Heading.{Free, free_here, free_later, free_behind, one_param}
+use Rattle.ixp_readback.proofs.Facts.{Facts, Known, apart, known_behind, known_front}
+use Rattle.ixp_readback.proofs.OtherFilters.{eq_self}
+use Rattle.ixp_readback.proofs.HeadFunctions.{drop_free_fits, count_fits, pad_fits, sends_fits}
+use Rattle.ixp_readback.proofs.FreeNames.{free_here, free_later, free_behind, one_param}
 use Rattle.ixp_readback.proofs.Session.{if_any, any_apart, bh_fact, bh_apart, apart_both, heads, plain_table}
-use Rattle.ixp_readback.proofs.Head.{IfHop, net_part, out_fits}
-use Rattle.ixp_readback.proofs.Stages.{Stage, behind, Goes, then_goes, stays, is_plain, same_free, kept_free, declares, procedure_goes, set_goes}
+use Rattle.ixp_readback.proofs.HeadBodies.{IfHop, net_part, out_fits}
+use Rattle.ixp_readback.proofs.Stages.{Stage, Goes, then_goes, stays, is_plain, same_free, kept_free, declares, procedure_goes, set_goes}
 
 -- A function of one parameter.
 

@@ -1,33 +1,20 @@
--- The head of the text fits.
-use Rattle.std.proofs.Common.{◌≡◌, ℕ, zero, suc, ◌<◌, ◌≤◌, Bool, true, false, ◌&&◌, ◌==◌, not, nat_le, List, [], ◌∷◌, ◌++◌, codes, Option, Some, None, refl, sym, ap, ◌∙◌, subst, if◌then◌else◌}
-use Rattle.std.specs.List.{list_all}
-use Rattle.std.proofs.lemmas.Bool.{and_parts, and_from}
-use Rattle.ixp_lang.specs.Trees.{ItemTree, StmtTree, router_id_item, table_item, function_item, filter_item, StmtTrees, stmts, call, exprs, accept}
+-- The bodies of the head's longer functions fit.
+use Rattle.std.proofs.Common.{◌≡◌, ℕ, Bool, true, ◌==◌, nat_le, List, [], ◌∷◌, codes, Option, Some, None, refl}
+use Rattle.ixp_lang.specs.Trees.{StmtTree, filter_item, stmts}
 use Rattle.ixp_lang.specs.declared.item.Ty.TheVariants.{Int}
-use Rattle.ixp_lang.specs.declared.value.SetLit.TheVariants as set
 use Rattle.ixp_num.specs.declared.addr.Addr.{Addr}
-use Rattle.ixp_num.specs.declared.family.Family.{Family}
-use Rattle.ixp_num.specs.declared.family.Family.TheVariants.{V4, V6}
 use Rattle.ixp_num.specs.declared.pattern.Pattern.{Pattern}
-use Rattle.ixp_tokens.specs.Pieces.{same_word}
 use Rattle.ixp_exprs.specs.Names.{Names}
-use Rattle.ixp_exprs.specs.Declarations.{standing, is_free_in, nothing_declared}
-use Rattle.ixp_exprs.specs.declared.types.ValueType.{ValueType}
 use Rattle.ixp_exprs.specs.declared.types.ValueType.TheVariants as type
 use Rattle.ixp_exprs.specs.declared.context.Scope.TheVariants as scope
-use Rattle.ixp_exprs.specs.declared.env.Declared.{Declared}
-use Rattle.ixp_exprs.specs.declared.env.Declared.TheVariants.{Begun, Function, Filter, Table}
-use Rattle.ixp_read.specs.Functions.{as_written}
+use Rattle.ixp_exprs.specs.declared.env.Declared.TheVariants.{Function, Filter}
 use Rattle.ixp_compile.specs.declared.inputs.HeaderInputs.{HeaderInputs}
-use Rattle.ixp_compile.specs.Pieces.{where_any, defined, numbers, master, roas, table_kind, roa_kind}
-use Rattle.ixp_compile.specs.Header.{bogons_of, joined_ranges, drop_body, blackhole_body, blackhole_function, is_too_long, community_tests, net_body, bogon_as_body, transit_body, sends_body, count_body, pad_body, out_body, blackhole_hop, pairs_taken_away, shared_functions}
-use Rattle.ixp_sound.specs.Sound.{is_lawful, type_of}
-use Rattle.ixp_sound.specs.SoundItems.{item_fits, names_behind, inside, items_fit}
-use Rattle.ixp_sound.specs.SoundStatements.{is_of, stmts_fit, returned_in}
-use Rattle.ixp_readback.proofs.Parts.{PartFits, part_of, no_part, both_parts, if_fits, fits_alone, when_fits, returned_alone}
+use Rattle.ixp_compile.specs.Pieces.{where_any}
+use Rattle.ixp_compile.specs.Header.{bogons_of, is_too_long, community_tests, net_body, out_body, blackhole_hop, pairs_taken_away}
+use Rattle.ixp_sound.specs.SoundItems.{item_fits}
+use Rattle.ixp_sound.specs.SoundStatements.{is_of}
+use Rattle.ixp_readback.proofs.Parts.{PartFits, part_of, no_part, both_parts, if_fits, fits_alone}
 use Rattle.ixp_readback.proofs.Import.{procedure, gives, a_set, IfAny}
-use Rattle.ixp_readback.proofs.Facts.{Facts, Known, apart, known_behind, names_after}
-use Rattle.ixp_readback.proofs.Ways.{same_self, eq_self}
 
 -- Bodies.
 
