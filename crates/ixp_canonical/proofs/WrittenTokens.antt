@@ -13,7 +13,9 @@ use Rattle.ixp_read.specs.Answers.{SpellsText}
 use Rattle.ixp_canonical.specs.Printed.{IsWritten, AreWritten}
 use Rattle.ixp_canonical.proofs.Items.{configuration_law}
 use Rattle.ixp_read.proofs.AnswerLaws.{one_spelling}
+use Rattle.ixp_sound.specs.SoundItems.{is_sound}
 use Rattle.ixp_canonical.proofs.PrintedItems.{printed_law}
+use Rattle.ixp_canonical.proofs.SoundItems.{configuration_spelt}
 use Rattle.ixp_canonical.proofs.WrittenItems.{spelt_written}
 
 stands_written : (k : Kind) (text rest : List ℕ) → Stands k text rest → IsWritten k
@@ -38,3 +40,6 @@ spells_law c text spells = (config_tokens c, printed_law c (written_law text c s
 
 pub alone_law : (c other : List ItemTree) (text : List ℕ) → SpellsText text c → SpellsText (config_text c) other → other ≡ c
 alone_law c other text spells again = one_spelling (config_text c) other c again (spells_law c text spells)
+
+pub sound_printed : (c : List ItemTree) → is_sound c ≡ true → AreWritten (config_tokens c) → SpellsText (config_text c) c
+sound_printed c sound written = (config_tokens c, printed_law c written, configuration_spelt c sound)

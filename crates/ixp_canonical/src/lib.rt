@@ -31,9 +31,12 @@ pub fn canonical_tokens_spell_their_configuration()
     ensures { (configuration : List ItemTree) (tokens : List Kind) → Took config_form configuration tokens [] → Took config_form configuration (config_tokens configuration) [] }
 {}
 
-/// A sound configuration is spelt by its canonical tokens.
+/// A sound configuration is spelt by its canonical tokens. If its names, numbers and strings are such as texts have, the text that
+/// is printed of it spells it.
 pub fn sound_trees_are_spelt()
-    ensures { (configuration : List ItemTree) → is_sound configuration ≡ true → Took config_form configuration (config_tokens configuration) [] }
+    ensures tokens { (configuration : List ItemTree) → is_sound configuration ≡ true → Took config_form configuration (config_tokens configuration) [] }
+    ensures printed { (configuration : List ItemTree) → is_sound configuration ≡ true → AreWritten (config_tokens configuration) →
+        SpellsText (printed configuration) configuration }
 {}
 
 /// The text of a configuration that [`ixp_print`] writes has the configuration's canonical tokens, if names,

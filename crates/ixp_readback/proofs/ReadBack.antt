@@ -12,28 +12,17 @@ use Rattle.ixp_policy.specs.Tags.{tagged}
 use Rattle.ixp_compile.specs.Generated.{generated, own_part}
 use Rattle.ixp_compile.specs.Rewriting.{rewritten}
 use Rattle.ixp_compile.proofs.Rights.{right, own_right, own_up, own_sends, own_counts}
-use Rattle.ixp_canonical.specs.CanonicalItems.{config_tokens}
-use Rattle.ixp_canonical.proofs.PrintedItems.{printed_law}
-use Rattle.ixp_canonical.proofs.SoundItems.{configuration_spelt}
-use Rattle.ixp_canonical.proofs.WrittenTokens.{alone_law}
+use Rattle.ixp_canonical.proofs.WrittenTokens.{alone_law, sound_printed}
 use Rattle.ixp_readback.specs.Right.{Gen, Part, Right, RightOwn}
 use Rattle.ixp_readback.proofs.SoundTexts.{whole_sound, own_sound}
 use Rattle.ixp_readback.proofs.WrittenTexts.{whole_written, own_written}
 
 module _ (r : Registry) (handle : List ℕ) (router : Router) (valid : Valid r) (there : find router_key handle r.routers ≡ Some router) where
   pub whole_spelt : SpellsText (Gen r router) (generated r router)
-  whole_spelt = (
-    config_tokens (generated r router),
-    printed_law (generated r router) (whole_written r valid handle router there),
-    configuration_spelt (generated r router) (whole_sound r handle router valid there),
-  )
+  whole_spelt = sound_printed (generated r router) (whole_sound r handle router valid there) (whole_written r valid handle router there)
 
   pub own_spelt : (n : ℕ) (s : Session) → session r router n ≡ Some s → SpellsText (Part r router s) (own_part r router s)
-  own_spelt n s its = (
-    config_tokens (own_part r router s),
-    printed_law (own_part r router s) (own_written r valid handle router there n s its),
-    configuration_spelt (own_part r router s) (own_sound r handle router valid there n s its),
-  )
+  own_spelt n s its = sound_printed (own_part r router s) (own_sound r handle router valid there n s its) (own_written r valid handle router there n s its)
 
   pub alone : (other : List ItemTree) → SpellsText (Gen r router) other → other ≡ generated r router
   alone other spelt = alone_law (generated r router) other (Gen r router) whole_spelt spelt
