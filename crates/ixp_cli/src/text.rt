@@ -1,5 +1,5 @@
 //! The lines of a small registry's dump.
-ghost use Rattle.std.specs.Prelude.{◌≡◌, ◌++◌, OnOk};
+ghost use Rattle.std.specs.Prelude.{◌≡◌, ◌++◌, OnOk, codes};
 ghost use Rattle.ixp_cli.specs.SmallTexts.{member_line, port_line, interface_line, address_line, origin_line, prefix_line, router_line, connected, router_head, router_id, router_end, first_line, site_line, switch_line, vlan_line, end_line, brought_text, route_line};
 
 use crate::small::{RouteLine, Version};
@@ -81,6 +81,13 @@ pub fn put_interface(out: &mut Vec<u8>, number: u64) -> Result<(), AllocError>
     put(out, b" 1\n")
 }
 
+/// Neither a bound nor a secret.
+fn put_flags(out: &mut Vec<u8>) -> Result<(), AllocError>
+    ensures { OnOk result (out.new.items ≡ out.old.items ++ codes " 0 1 1 0 -\n") }
+{
+    put(out, b" 0 1 1 0 -\n")
+}
+
 pub fn put_address(out: &mut Vec<u8>, number: u64, addr: &Addr) -> Result<(), AllocError>
     ensures { OnOk result (out.new.items ≡ out.old.items ++ address_line number addr.now) }
 {
@@ -88,7 +95,7 @@ pub fn put_address(out: &mut Vec<u8>, number: u64, addr: &Addr) -> Result<(), Al
     put_number(out, number)?;
     put(out, b" ")?;
     print_addr(addr, out)?;
-    put(out, b" 0 1 1 0 -\n")
+    put_flags(out)
 }
 
 pub fn put_origin(out: &mut Vec<u8>, number: u64, asn: Asn) -> Result<(), AllocError>
