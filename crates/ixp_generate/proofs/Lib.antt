@@ -1,0 +1,5 @@
+pub mod RulesBackwards
+pub mod Ascending
+pub mod SessionTexts
+pub mod WholeParts
+pub mod Bodies

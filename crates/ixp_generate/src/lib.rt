@@ -1,0 +1,20 @@
+//! The texts of a route server, made of the rows of a registry.
+//!
+//! [`generate`] makes the text of a router, a head, a part for each of its sessions and a foot, and [`part`] that of one session
+//! alone. Each text is the printed tree of `ixp_compile`'s definitions, byte for byte. By their types [`fragment`]
+//! depends on a session's `Inputs` alone, and [`header_of`] on a router's `HeaderInputs`: what [`inputs`] and [`header_inputs`] take
+//! from the rows.
+#![tactic(auto)]
+
+mod fault;
+mod head;
+mod member_rules;
+mod pieces;
+mod rows;
+mod session;
+mod texts;
+mod values;
+
+pub use fault::GenFault;
+pub use texts::{footer, fragment, generate, header, header_of, part};
+pub use values::{header_inputs, inputs};
