@@ -1,4 +1,9 @@
-"""What the benches share: the processor time of a program, and how a time for each item grows with the input."""
+"""What the benches share: the processor time and the peak memory of a program, and how a time for each item grows with the input.
+
+As a script, with a file and the words of a program, it runs that program and writes into the file what it took. A bench that holds much memory
+starts its programs so, since a process begins with its parent's peak memory.
+"""
+import json
 import os
 import resource
 import subprocess
@@ -10,10 +15,10 @@ RUNS = 5
 
 
 class Measured:
-    """A run's processor time, its time on the clock, both in seconds, and its output."""
+    """A run's processor time and its time on the clock in seconds, its peak memory in bytes, and its output."""
 
-    def __init__(self, used, clock, output):
-        self.used, self.clock, self.output = used, clock, output
+    def __init__(self, used, clock, memory, output):
+        self.used, self.clock, self.memory, self.output = used, clock, memory, output
 
 
 def processor_time(ran):
@@ -24,18 +29,30 @@ def clock_time(ran):
     return ran.clock
 
 
+def run(words, given):
+    """Runs a program on a file."""
+    given.seek(0)
+    with tempfile.NamedTemporaryFile("r") as taken:
+        output = subprocess.run([sys.executable, __file__, taken.name] + words, stdin=given, stdout=subprocess.PIPE, check=True).stdout
+        return Measured(*json.load(taken), output.decode())
+
+
+def take(result, words):
+    """Runs a program, and writes its processor time, its time on the clock and its peak memory."""
+    begun = time.monotonic()
+    status = subprocess.run(words).returncode
+    clock, usage = time.monotonic() - begun, resource.getrusage(resource.RUSAGE_CHILDREN)
+    with open(result, "w") as file:
+        json.dump([usage.ru_utime + usage.ru_stime, clock, 1024 * usage.ru_maxrss], file)
+    sys.exit(status)
+
+
 def measure(words, text="", runs=RUNS, by=processor_time):
     """Runs a program some times on an input: the run that took the least time, of the processor if nothing else is said."""
-    least = None
-    for _ in range(runs):
-        before, begun = resource.getrusage(resource.RUSAGE_CHILDREN), time.monotonic()
-        ran = subprocess.run(words, input=text.encode(), stdout=subprocess.PIPE, check=True)
-        clock, after = time.monotonic() - begun, resource.getrusage(resource.RUSAGE_CHILDREN)
-        used = after.ru_utime - before.ru_utime + after.ru_stime - before.ru_stime
-        found = Measured(used, clock, ran.stdout.decode())
-        if least is None or by(found) < by(least):
-            least = found
-    return least
+    with tempfile.TemporaryFile() as given:
+        given.write(text.encode())
+        given.flush()
+        return min((run(words, given) for _ in range(runs)), key=by)
 
 
 def bird_time(bird, text):
@@ -56,6 +73,36 @@ def growth(what, item, each, most):
     return ratio >= most
 
 
+def address(value):
+    """The IPv4 address of a number."""
+    return "%d.%d.%d.%d" % (value >> 24, value >> 16 & 255, value >> 8 & 255, value & 255)
+
+
+def dump(rows):
+    """The dump of these rows."""
+    return "ixp-registry 2\n%s\nend %d\n" % ("\n".join(rows), len(rows))
+
+
+def exchange(lists, rules=()):
+    """The rows of an exchange on one VLAN with one router, whose members have these lists of prefixes, and these rules."""
+    numbers = range(1, len(lists) + 1)
+    rows = ["site 1 0 BENCH"]
+    rows += ["member %d %d connected - m%d" % (k, 100000 + k, k) for k in numbers]
+    rows.append("switch 1 sw1")
+    rows += ["port %d 1 10000 %d p%d" % (k, k, k) for k in numbers]
+    rows.append("vlan 1 100 10.0.0.0/8 - lan")
+    rows += ["interface %d %d %d 1" % (k, k, k) for k in numbers]
+    rows += ["address %d %s 0 1 1 0 -" % (k, address((10 << 24) + (64 << 16) + k)) for k in numbers]
+    rows.append("router rs1 1 4 10.255.0.1 65500 10.255.0.1 8 24 0 - 0")
+    rows += ["prefix %d %s" % (k, net) for k, nets in zip(numbers, lists) for net in nets]
+    rows += ["origin %d 4 %d" % (k, 100000 + k) for k in numbers]
+    return rows + list(rules)
+
+
 def end(grows):
     """Ends with status 1 where a time grows too much."""
     sys.exit(1 if any(grows) else 0)
+
+
+if __name__ == "__main__":
+    take(sys.argv[1], sys.argv[2:])

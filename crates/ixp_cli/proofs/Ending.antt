@@ -2,7 +2,7 @@
 use Rattle.std.proofs.Common.{◌≡◌, ◌↔◌, ℕ, Option, Some, None, refl, sym, ap, subst, ◌∙◌}
 use Rattle.ixp_cli.specs.declared.command.Command.{Command}
 use Rattle.ixp_cli.specs.declared.end.End.{End}
-use Rattle.ixp_cli.specs.declared.end.End.TheVariants.{Done, Usage, BadInput, ReadFault, WriteFault, NoMemory}
+use Rattle.ixp_cli.specs.declared.end.End.TheVariants.{Done, Usage, BadInput, ReadFault, WriteFault, NoMemory, UnknownRouter}
 use Rattle.ixp_cli.specs.Runs.{Flow, Outside, Ends, CommandEnds, IsStatus, Runs, Tells, status_of, error_text}
 
 pub a_run : (command : Option Command) (before after : Outside) (end : End) (status : Option ℕ) → Ends command before.input after.input before.output after.output end
@@ -21,6 +21,7 @@ of_end (Some c) i j k l (BadInput cause) e = other_status 2 (Some c) c (λ h. cc
 of_end (Some c) i j k l ReadFault e = other_status 3 (Some c) c (λ h. cc)
 of_end (Some c) i j k l WriteFault e = other_status 4 (Some c) c (λ h. cc)
 of_end (Some c) i j k l NoMemory e = other_status 8 (Some c) c (λ h. cc)
+of_end (Some c) i j k l (UnknownRouter router) e = other_status 9 (Some c) c (λ h. cc)
 
 pub usage_is : (o : Option Command) (i j k l : Flow) (end : End) (status : Option ℕ) → Ends o i j k l end → status ≡ Some (status_of end) → (status ≡ Some 1) ↔ (o ≡ None)
 usage_is o i j k l end status e is = subst (λ (s : Option ℕ). (s ≡ Some 1) ↔ (o ≡ None)) (sym is) (of_end o i j k l end e)
@@ -32,6 +33,7 @@ lawful (BadInput cause) = refl
 lawful ReadFault = refl
 lawful WriteFault = refl
 lawful NoMemory = refl
+lawful (UnknownRouter router) = refl
 
 pub is_status : (end : End) (status : Option ℕ) → status ≡ Some (status_of end) → IsStatus status
 is_status end status is = subst IsStatus (sym is) (lawful end)

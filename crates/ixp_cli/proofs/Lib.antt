@@ -1,5 +1,7 @@
 pub mod Ending
 pub mod Evaluating
+pub mod Generating
+pub mod Handles
 pub mod Inputs
 pub mod LongInputs
 pub mod Members

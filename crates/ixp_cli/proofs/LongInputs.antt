@@ -3,7 +3,7 @@ use Rattle.std.proofs.Common.{◌≡◌, ◌<◌, ◌≤◌, ℕ, List, [], ◌+
 use Rattle.ixp_causes.specs.declared.Cause.{Cause}
 use Rattle.ixp_cli.specs.declared.command.Command.{Command}
 use Rattle.ixp_cli.specs.declared.end.End.{End}
-use Rattle.ixp_cli.specs.declared.end.End.TheVariants.{Done, Usage, BadInput, ReadFault, WriteFault, NoMemory}
+use Rattle.ixp_cli.specs.declared.end.End.TheVariants.{Done, Usage, BadInput, ReadFault, WriteFault, NoMemory, UnknownRouter}
 use Rattle.ixp_cli.specs.Runs.{Flow, Outside, Answers, CommandEnds, IsLongEnd, IsRefused, IsTold, ReadsAll, Runs, input_limit, too_long}
 use Rattle.ixp_io.specs.Told.{Moves, IsDone}
 
@@ -30,6 +30,7 @@ module _ (command : Command) (left : List ℕ) (input input' output output' : Fl
   long_end ReadFault e = tt
   long_end WriteFault (read, written, all, answer, took, rose) = absurd (never read all)
   long_end NoMemory e = tt
+  long_end (UnknownRouter router) (read, all, vain, same) = absurd (never read all)
 
 pub long_run : (command : Command) (before after : Outside) (status : Option ℕ) (left : List ℕ) → before.input.bytes ≡ Some left → input_limit < length left → Runs (Some command) before after status
     → (end : End) × IsLongEnd end × IsTold end before.errors after.errors status

@@ -1,5 +1,6 @@
 pub mod Checks
 pub mod Evals
+pub mod Generates
 pub mod Inputs
 pub mod Runs
 pub mod SmallFates

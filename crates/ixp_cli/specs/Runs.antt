@@ -1,5 +1,5 @@
 -- What a run of the program does.
-use Rattle.std.specs.Prelude.{◌≡◌, ◌<◌, ◌≤◌, ◌⊎◌, ◌+◌, ℕ, ◌==◌, ◌||◌, List, [], ◌∷◌, ◌++◌, length, Option, Some, None, Result, Ok, Err, codes, IsTrue, if◌then◌else◌}
+use Rattle.std.specs.Prelude.{◌≡◌, ◌<◌, ◌≤◌, ◌⊎◌, ◌+◌, ℕ, ◌==◌, ◌&&◌, ◌||◌, List, [], ◌∷◌, ◌++◌, length, Option, Some, None, Result, Ok, Err, codes, IsTrue, if◌then◌else◌}
 use Rattle.ixp_causes.specs.declared.Cause.{Cause}
 use Rattle.ixp_causes.specs.declared.Code.TheVariants.{U5}
 use Rattle.ixp_causes.specs.declared.Place.TheVariants.{Byte}
@@ -7,15 +7,17 @@ use Rattle.ixp_causes.specs.Causes.{cause_text}
 use Rattle.ixp_io.specs.Faults.{Rose}
 use Rattle.ixp_io.specs.Tables.{Table}
 use Rattle.ixp_io.specs.Told.{Told, Moves, MovesUpTo, IsDone, Takes, TakesPart}
+use Rattle.ixp_registry.specs.Alphabets.{is_handle}
 use Rattle.ixp_tables.specs.Tables.{same}
 use Rattle.ixp_cli.specs.declared.command.Command.{Command}
-use Rattle.ixp_cli.specs.declared.command.Command.TheVariants.{Check, Eval, Fate}
+use Rattle.ixp_cli.specs.declared.command.Command.TheVariants.{Check, Eval, Fate, Generate}
 use Rattle.ixp_cli.specs.declared.end.End.{End}
-use Rattle.ixp_cli.specs.declared.end.End.TheVariants.{Done, Usage, BadInput, ReadFault, WriteFault, NoMemory}
+use Rattle.ixp_cli.specs.declared.end.End.TheVariants.{Done, Usage, BadInput, ReadFault, WriteFault, NoMemory, UnknownRouter}
 use Rattle.ixp_cli.specs.declared.end.NoAnswer.{NoAnswer}
 use Rattle.ixp_cli.specs.declared.end.NoAnswer.TheVariants as answer
 use Rattle.ixp_cli.specs.Checks.{Checks, IsNoDump}
 use Rattle.ixp_cli.specs.Evals.{Evaluates, IsNoEval}
+use Rattle.ixp_cli.specs.Generates.{Generates, IsUnknown}
 use Rattle.ixp_cli.specs.SmallFates.{Compiles, IsNoFate}
 
 -- the command that a word is
@@ -23,11 +25,16 @@ abbrev pub command_by : List ℕ → Option Command
 command_by word =
     if same word (codes "check") then Some Check else if same word (codes "eval") then Some Eval else if same word (codes "fate") then Some Fate else None
 
+-- the command that a word and a handle are
+abbrev pub command_with : List ℕ → List ℕ → Option Command
+command_with word handle = if same word (codes "generate") && is_handle handle then Some (Generate handle) else None
+
 -- the command that words are
 abbrev pub command_in : List (List ℕ) → Option Command
 command_in [] = None
 command_in (word ∷ []) = command_by word
-command_in (word ∷ other ∷ words) = None
+command_in (word ∷ handle ∷ []) = command_with word handle
+command_in (word ∷ other ∷ third ∷ words) = None
 
 -- what a command says of an input: what it writes, or why it refuses it
 abbrev pub Answers : Command → List ℕ → Result (List ℕ) Cause → Type 0
@@ -37,6 +44,20 @@ Answers Eval input (Ok output) = Evaluates input output
 Answers Eval input (Err cause) = IsNoEval input cause
 Answers Fate input (Ok output) = Compiles input output
 Answers Fate input (Err cause) = IsNoFate input cause
+Answers (Generate handle) input (Ok output) = Generates handle input output
+Answers (Generate handle) input (Err cause) = IsNoDump input cause
+
+-- a command asks for the router with this handle, and the input's registry has none
+abbrev pub AsksInVain : Command → List ℕ → List ℕ → Type 0
+AsksInVain (Generate handle) input router = (router ≡ handle) × IsUnknown handle input
+AsksInVain Check input router = ⊥
+AsksInVain Eval input router = ⊥
+AsksInVain Fate input router = ⊥
+
+-- what a command writes, or nothing where the router that it asks for isn't there
+abbrev pub Writes : Command → List ℕ → Option (List ℕ) → Type 0
+Writes command input (Some output) = Answers command input (Ok output)
+Writes command input None = (router : List ℕ) × AsksInVain command input router
 
 -- there is such a cause, or memory ran out
 abbrev pub Refused : (Cause → Type 0) → NoAnswer → Type 0
@@ -56,6 +77,7 @@ status_of (BadInput cause) = 2
 status_of ReadFault = 3
 status_of WriteFault = 4
 status_of NoMemory = 8
+status_of (UnknownRouter router) = 9
 
 -- the line that tells of a run that ends so
 abbrev pub error_text : End → List ℕ
@@ -65,6 +87,7 @@ error_text (BadInput cause) = codes "ixpm: bad input " ++ (cause_text cause ++ 1
 error_text ReadFault = codes "ixpm: read fault\n"
 error_text WriteFault = codes "ixpm: write fault\n"
 error_text NoMemory = codes "ixpm: no memory\n"
+error_text (UnknownRouter router) = codes "ixpm: unknown router " ++ (router ++ 10 ∷ [])
 
 -- what a source or a sink tells at a moment: the bytes that are left, or those that were written, and how many calls failed
 pub record Flow : Type 0 where
@@ -118,6 +141,8 @@ CommandEnds command input input' output output' WriteFault =
     (read written : List ℕ) × ReadsAll input input' read × Answers command read (Ok written) × TakesPart output.bytes output'.bytes written
     × Rose output.faults output'.faults
 CommandEnds command input input' output output' NoMemory = ReadsSome input input' × (output' ≡ output)
+CommandEnds command input input' output output' (UnknownRouter router) =
+    (read : List ℕ) × ReadsAll input input' read × AsksInVain command read router × (output' ≡ output)
 
 -- How a run ends. Words that are no command end as usage, with nothing read or written.
 abbrev pub Ends : Option Command → Flow → Flow → Flow → Flow → End → Type 0
@@ -147,7 +172,7 @@ pub record Runs (command : Option Command) (before after : Outside) (status : Op
 -- the statuses that a run may have
 abbrev pub IsStatus : Option ℕ → Type 0
 IsStatus None = ⊥
-IsStatus (Some n) = IsTrue (n == 0 || n == 1 || n == 2 || n == 3 || n == 4 || n == 8)
+IsStatus (Some n) = IsTrue (n == 0 || n == 1 || n == 2 || n == 3 || n == 4 || n == 8 || n == 9)
 
 -- how a run ends whose input is longer than the limit: it is refused as such, or a read failed, or memory ran out
 abbrev pub IsLongEnd : End → Type 0

@@ -1,24 +1,32 @@
 //! The top calls: a command by its words, over the objects that the caller hands in.
 ghost use Rattle.std.specs.Prelude.{◌≡◌, ◌↔◌, ◌≤◌, List, ℕ, map, Some, None, Ok, Err, IsSome, IsTrue, IfOk, IfErr};
-ghost use Rattle.ixp_cli.specs.Runs.{Answers, CommandEnds, Ends, Flow, IsStatus, Outside, Refused, Runs, command_by, command_in, too_long};
+ghost use Rattle.std.specs.Option.{option_map};
+ghost use Rattle.ixp_cli.specs.declared.command.Command.TheVariants.{Generate as AskFor};
+ghost use Rattle.ixp_cli.specs.declared.end.End.TheVariants.{UnknownRouter as Unknown};
+ghost use Rattle.ixp_cli.specs.Runs.{Answers, AsksInVain, CommandEnds, Ends, Flow, IsStatus, Outside, Refused, Runs, Writes, command_by, command_in, command_with, too_long};
 
 use crate::check::check;
 use crate::end::{End, NoAnswer, report};
 use crate::eval::eval;
 use crate::fate::fate;
+use crate::generation::router_text;
 use ixp_causes::{Cause, Code, Place};
 use ixp_io::{Clock, Door, Gate, Keeper, Sink, Source, WholeFault, read_whole, write_all};
-use std::alloc::Global;
+use ixp_num::Name;
+use ixp_places::is_handle;
+use std::alloc::{AllocError, Global};
 
 /// The greatest number of bytes of an input that is read whole.
 pub const INPUT_LIMIT: usize = 268_435_456;
 
 /// A command of the program.
-#[derive(Clone, Copy, Debug, PartialEq, Eq)]
+#[derive(Debug, Drop)]
 pub enum Command {
     Check,
     Eval,
     Fate,
+    /// The text of the router with the handle.
+    Generate { router: Name },
 }
 
 /// The command that a word is.
@@ -36,25 +44,54 @@ fn command_by(word: &[u8]) -> Option<Command>
     }
 }
 
+/// The command that a word and a handle are.
+#[tactic(auto, using(crate::proofs::Handles::handle_is_name))]
+fn command_with(alloc: Global, word: &[u8], handle: &[u8]) -> Result<Option<Command>, AllocError>
+    ensures ok { IfOk result (λ c. c ≡ command_with word.now handle.now) }
+    ensures err { IfErr result (λ e. command_with word.now handle.now ≡ Some (AskFor handle.now)) }
+{
+    if word != b"generate".as_slice() || !is_handle(handle) {
+        return Ok(None);
+    }
+    let router = Name::new(alloc, handle)?;
+    Ok(Some(Command::Generate { router }))
+}
+
 /// The command that words are.
-fn command_in(words: &[&str]) -> Option<Command>
-    ensures { result ≡ command_in (map (λ w. w.now) words.now) }
+fn command_in(alloc: Global, words: &[&str]) -> Result<Option<Command>, AllocError>
+    ensures ok { IfOk result (λ c. c ≡ command_in (map (λ w. w.now) words.now)) }
+    ensures err { IfErr result (λ e. IsSome (command_in (map (λ w. w.now) words.now))) }
 {
     match words {
-        [word] => command_by(word.as_bytes()),
-        _ => None,
+        [word] => Ok(command_by(word.as_bytes())),
+        [word, handle] => command_with(alloc, word.as_bytes(), handle.as_bytes()),
+        _ => Ok(None),
     }
 }
 
-/// What a command writes for an input.
-fn answer(alloc: Global, command: Command, input: &[u8]) -> Result<Vec<u8>, NoAnswer>
-    ensures output { IfOk result (λ out. Answers command input.now (Ok out.items)) }
-    ensures cause { IfErr result (Refused (λ cause. Answers command input.now (Err cause))) }
+/// What a command writes for an input; None where the router that it asks for isn't there.
+fn answer(alloc: Global, command: &Command, input: &[u8]) -> Result<Option<Vec<u8>>, NoAnswer>
+    ensures output { IfOk result (λ out. Writes command.now input.now (option_map (λ v. v.items) out)) }
+    ensures cause { IfErr result (Refused (λ cause. Answers command.now input.now (Err cause))) }
 {
     match command {
-        Command::Check => check(alloc, input),
-        Command::Eval => eval(alloc, input),
-        Command::Fate => fate(alloc, input),
+        Command::Check => Ok(Some(check(alloc, input)?)),
+        Command::Eval => Ok(Some(eval(alloc, input)?)),
+        Command::Fate => Ok(Some(fate(alloc, input)?)),
+        Command::Generate { router } => router_text(alloc, router, input),
+    }
+}
+
+/// The end of a command that asks for a router which isn't there.
+fn unknown(command: Command, input: &[u8]) -> End
+    requires { (router : List ℕ) × AsksInVain command input.now router }
+    ensures { (router : List ℕ) × (result ≡ Unknown router) × AsksInVain command input.now router }
+{
+    match command {
+        Command::Generate { router } => End::UnknownRouter { router },
+        Command::Check => unreachable!(),
+        Command::Eval => unreachable!(),
+        Command::Fate => unreachable!(),
     }
 }
 
@@ -88,8 +125,9 @@ fn run_command<S: Source, K: Sink>(
         Err(WholeFault::TooLong) => return End::BadInput { cause: too_long() },
         Err(WholeFault::NoMemory) => return End::NoMemory,
     };
-    let text = match answer(alloc, command, bytes.as_slice()) {
-        Ok(text) => text,
+    let text = match answer(alloc, &command, bytes.as_slice()) {
+        Ok(Some(text)) => text,
+        Ok(None) => return unknown(command, bytes.as_slice()),
         Err(NoAnswer::Bad { cause }) => return End::BadInput { cause },
         Err(NoAnswer::NoMemory) => return End::NoMemory,
     };
@@ -111,15 +149,16 @@ fn run_words<S: Source, K: Sink>(
         (record { bytes = K.written output.old; faults = K.write_faults output.old })
         (record { bytes = K.written output.new; faults = K.write_faults output.new }) result }
 {
-    match command_in(words) {
-        Some(command) => run_command(alloc, command, input, output),
-        None => End::Usage,
+    match command_in(alloc, words) {
+        Ok(Some(command)) => run_command(alloc, command, input, output),
+        Ok(None) => End::Usage,
+        Err(_) => End::NoMemory,
     }
 }
 
 /// Runs the command that the words are, and tells its exit status: 0 where the work is done, 1 where the words are no
 /// command, 2 where the input isn't of the command's form or is longer than 268,435,456 bytes, 3 and 4 where a read
-/// or a write failed, 8 where memory ran out. A status other than 0 has a line on `errors`, as far as that takes it.
+/// or a write failed, 8 where memory ran out, 9 where no router has the handle. A status other than 0 has a line on `errors`, as far as that takes it.
 /// None is kept for commands that wait, of which there is none yet.
 pub fn run_plain<S: Source, K: Sink, E: Sink, P: Keeper, C: Clock>(
     alloc: Global,
@@ -156,8 +195,9 @@ pub fn run_plain<S: Source, K: Sink, E: Sink, P: Keeper, C: Clock>(
     ensures statuses { IsStatus result }
 {
     let end = run_words(alloc, words, input, output);
+    let status = end.status();
     report(errors, end);
-    Some(end.status())
+    Some(status)
 }
 
 /// Runs the command that the words are, as [`run_plain`] does.

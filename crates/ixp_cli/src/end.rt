@@ -8,10 +8,11 @@ ghost use Rattle.ixp_cli.specs.Runs.{Flow, Tells, error_text};
 use itoa::Buffer;
 use ixp_causes::{Cause, Place, code_text};
 use ixp_io::{Failed, Sink, write_all};
+use ixp_num::Name;
 use std::alloc::{AllocError, AllocFailed};
 
 /// How a run ends: what was asked for is done, or the first cause that it met.
-#[derive(Clone, Copy, Debug, PartialEq, Eq)]
+#[derive(Debug, Drop)]
 pub enum End {
     Done,
     /// The words are no line of the program's.
@@ -21,6 +22,8 @@ pub enum End {
     ReadFault,
     WriteFault,
     NoMemory,
+    /// No router has the handle.
+    UnknownRouter { router: Name },
 }
 
 /// Why a command has nothing to write for an input.
@@ -58,8 +61,8 @@ impl End {
     ghost use Rattle.ixp_cli.specs.Runs.{status_of};
 
     /// The program's exit status.
-    pub fn status(self) -> u8
-        ensures { result ≡ status_of self }
+    pub fn status(&self) -> u8
+        ensures { result ≡ status_of self.now }
     {
         match self {
             End::Done => 0,
@@ -68,6 +71,7 @@ impl End {
             End::ReadFault => 3,
             End::WriteFault => 4,
             End::NoMemory => 8,
+            End::UnknownRouter { .. } => 9,
         }
     }
 }
@@ -162,6 +166,32 @@ fn write_refusal<E: Sink>(errors: &mut E, before: &[u8], cause: Cause) -> Result
     Ok(())
 }
 
+/// Writes a name and the line's end.
+#[tactic(auto, using(crate::proofs::Telling::telling))]
+fn write_name_line<E: Sink>(errors: &mut E, name: &[u8]) -> Result<(), Failed>
+    ensures ok { OnOk result (Takes (E.written errors.old) (E.written errors.new) (name.now ++ 10 ∷ [])) }
+    ensures err { OnErr result (TakesPart (E.written errors.old) (E.written errors.new) (name.now ++ 10 ∷ [])) }
+    ensures counts { E.write_faults errors.old ≤ E.write_faults errors.new }
+    ensures cause { OnErr result (Rose (E.write_faults errors.old) (E.write_faults errors.new)) }
+{
+    write_all(errors, name)?;
+    write_all(errors, b"\n")?;
+    Ok(())
+}
+
+/// Writes a text, a name and the line's end.
+#[tactic(auto, using(crate::proofs::Telling::telling))]
+fn write_named<E: Sink>(errors: &mut E, before: &[u8], name: &[u8]) -> Result<(), Failed>
+    ensures ok { OnOk result (Takes (E.written errors.old) (E.written errors.new) (before.now ++ (name.now ++ 10 ∷ []))) }
+    ensures err { OnErr result (TakesPart (E.written errors.old) (E.written errors.new) (before.now ++ (name.now ++ 10 ∷ []))) }
+    ensures counts { E.write_faults errors.old ≤ E.write_faults errors.new }
+    ensures cause { OnErr result (Rose (E.write_faults errors.old) (E.write_faults errors.new)) }
+{
+    write_all(errors, before)?;
+    write_name_line(errors, name)?;
+    Ok(())
+}
+
 /// Writes the line that tells how a run ended, if there is one to write.
 fn write_end<E: Sink>(errors: &mut E, end: End) -> Result<(), Failed>
     ensures ok { OnOk result (Takes (E.written errors.old) (E.written errors.new) (error_text end)) }
@@ -175,6 +205,9 @@ fn write_end<E: Sink>(errors: &mut E, end: End) -> Result<(), Failed>
         End::ReadFault => write_all(errors, b"ixpm: read fault\n"),
         End::WriteFault => write_all(errors, b"ixpm: write fault\n"),
         End::NoMemory => write_all(errors, b"ixpm: no memory\n"),
+        End::UnknownRouter { router } => {
+            write_named(errors, b"ixpm: unknown router ", router.as_bytes())
+        }
     }
 }
 

@@ -7,6 +7,7 @@ mod end;
 mod eval;
 mod fate;
 mod generate;
+mod generation;
 mod input;
 pub mod laws;
 mod reading;

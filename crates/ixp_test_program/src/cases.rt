@@ -143,3 +143,14 @@ import@9@1@roa4 table zero; filter f { if roa_check(zero, net, 0) = ROA_INVALID 
 import@9@1@roa4 table none_; filter f { if roa_check(none_, net, 65002) = ROA_UNKNOWN then reject; accept; }^@0@dropped^@
 import@9@1@define A = 65000 ; function g() { bgp_path.prepend(A); accept; } filter f { g(); reject; }^@0@tagged 65000,65001,65002 10.1.0.1 0:1,2:3,2:4 65500:0:1,65500:0:2^stopped^@
 import@9@1@function g(int p) { case p { 1..6: return 1; 7: return 2; 8: return 3; } return 4; } filter f { bgp_path.prepend(g(7)); accept; }^@0@tagged 2,65001,65002 10.1.0.1 0:1,2:3,2:4 65500:0:1,65500:0:2^stopped^@";
+
+/// Handles, and how what `generate` tells of them begins.
+pub const ROUTERS: &[(&str, &str)] = &[
+    (
+        "rs1",
+        "0@router id 10.1.0.254;^ipv4 table master4;^roa4 table roas4;^function ixp_drop(int n) {^  bgp_large_community.add((65500, 1101, n));^  accept;^}^",
+    ),
+    ("rs2", "9@@ixpm: unknown router rs2^"),
+    ("RS1", "1@@ixpm: usage^"),
+    ("", "1@@ixpm: usage^"),
+];

@@ -1,5 +1,5 @@
 //! Runs over objects in memory.
-use crate::cases::{DUMPS, FATES, FILTERS, IMPORT, REGISTRY, SESSIONS, TRIALS};
+use crate::cases::{DUMPS, FATES, FILTERS, IMPORT, REGISTRY, ROUTERS, SESSIONS, TRIALS};
 use ixp_cli::run;
 use ixp_io::{FreeGate, MemDoor, MemKeeper, MemSink, MemSource, Plan, SetClock};
 use ixp_lists::Items;
@@ -150,6 +150,23 @@ fn commands_answer(rt: HostRuntime) -> Result<(), Fail> {
             let found = case_outcome(rt.alloc(), word, case)?;
             assert!(rt; case.as_bytes().ends_with(found.as_slice()), "{case}");
         }
+    }
+    Ok(())
+}
+
+#[test]
+fn routers_are_generated(rt: HostRuntime) -> Result<(), Fail> {
+    let alloc = rt.alloc();
+    for &(handle, begins) in ROUTERS {
+        let input = input_of(alloc, REGISTRY, 17, 0, "")?;
+        let found = outcome(
+            alloc,
+            &["generate", handle],
+            input,
+            Plan::smooth(alloc),
+            Plan::smooth(alloc),
+        )?;
+        assert!(rt; found.as_slice().starts_with(begins.as_bytes()), "{handle}");
     }
     Ok(())
 }

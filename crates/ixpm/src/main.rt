@@ -12,12 +12,15 @@ const HELP: &str = "ixpm: the registry of an internet exchange, and its route se
   ixpm check       reads the dump of a registry on standard input, and writes ok and how many rows it has
   ixpm eval        reads a filter text, a line %%, ROAs and a route on standard input, and writes what becomes of the
                    route by that text
+  ixpm generate R  reads the dump of a registry on standard input, and writes the configuration of the route server with
+                   the handle R
   ixpm fate        reads a small registry's dump and a route on standard input, and writes the configuration
                    of its route server and the route's fate
   ixpm --help      writes this
   ixpm --version   writes the version
 
-Status: 0 done, 1 usage, 2 bad input, 3 read fault, 4 write fault, 8 no memory. A line on standard error says why.
+Status: 0 done, 1 usage, 2 bad input, 3 read fault, 4 write fault, 8 no memory, 9 unknown router. A line on standard
+error says why.
 ";
 
 const VERSION: &str = "ixpm 0.1.0\n";

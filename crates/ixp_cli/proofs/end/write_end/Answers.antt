@@ -1,4 +1,4 @@
-use Rattle.std.proofs.Common.{sym, subst, OnOk, OnErr}
+use Rattle.std.proofs.Common.{ℕ, List, [], ◌∷◌, ◌++◌, codes, sym, subst, OnOk, OnErr}
 use Rattle.ixp_io.specs.Told.{Takes, TakesPart}
 use Rattle.ixp_cli.specs.declared.end.End.{End}
 use Rattle.ixp_cli.specs.Runs.{error_text}
@@ -23,3 +23,15 @@ returns-in-NoMemory-clause-ok g c =
 pub returns-in-NoMemory-clause-err : goal.returns-in-NoMemory-clause-err
 returns-in-NoMemory-clause-err g c =
     subst (λ (e : End). OnErr c.write_all-in-NoMemory.result (TakesPart (g.E.Stream.written c.args.errors.now) (g.E.Stream.written c.write_all-in-NoMemory.new.sink) (error_text e))) (sym c.in-NoMemory.is) c.write_all-in-NoMemory.ensures.err
+
+pub returns-in-UnknownRouter-clause-ok : goal.returns-in-UnknownRouter-clause-ok
+returns-in-UnknownRouter-clause-ok g c =
+    subst (λ (e : End). OnOk c.write_named.result (Takes (g.E.Stream.written c.args.errors.now) (g.E.Stream.written c.write_named.new.errors) (error_text e))) (sym c.in-UnknownRouter.is)
+    (subst (λ (n : List ℕ). OnOk c.write_named.result (Takes (g.E.Stream.written c.args.errors.now) (g.E.Stream.written c.write_named.new.errors) (codes "ixpm: unknown router " ++ (n ++ 10 ∷ []))))
+    c.as_bytes.ensures.bytes c.write_named.ensures.ok)
+
+pub returns-in-UnknownRouter-clause-err : goal.returns-in-UnknownRouter-clause-err
+returns-in-UnknownRouter-clause-err g c =
+    subst (λ (e : End). OnErr c.write_named.result (TakesPart (g.E.Stream.written c.args.errors.now) (g.E.Stream.written c.write_named.new.errors) (error_text e))) (sym c.in-UnknownRouter.is)
+    (subst (λ (n : List ℕ). OnErr c.write_named.result (TakesPart (g.E.Stream.written c.args.errors.now) (g.E.Stream.written c.write_named.new.errors) (codes "ixpm: unknown router " ++ (n ++ 10 ∷ []))))
+    c.as_bytes.ensures.bytes c.write_named.ensures.err)
