@@ -1,11 +1,10 @@
 -- What is generated, from a valid registry.
-use Rattle.std.proofs.Common.{◌≡◌, ◌≢◌, ℕ, ◌<◌, ◌≤◌, ◌^◌, true, List, Option, Some, None, Result, Ok, Err, Vec, refl, sym, subst, arith, lit<}
+use Rattle.std.proofs.Common.{◌≡◌, ℕ, ◌<◌, ◌≤◌, ◌^◌, List, Option, Some, None, Ok, Err, Vec, refl, sym, subst, arith, lit<}
 use Rattle.std.specs.declared.alloc.Global.{Global}
 use Rattle.std.proofs.lemmas.Bool.{and_parts, leb-true}
 use Rattle.ixp_num.specs.declared.family.Family.{Family}
 use Rattle.ixp_num.specs.declared.family.Family.TheVariants.{V4, V6}
 use Rattle.ixp_num.specs.Families.{bits_of}
-use Rattle.ixp_lang.specs.Trees.{ItemTree}
 use Rattle.ixp_tables.specs.Tables.{find, if_there}
 use Rattle.ixp_tables.proofs.Looking.{all_found}
 use Rattle.ixp_registry.specs.declared.registry.Registry.{Registry}
@@ -13,14 +12,13 @@ use Rattle.ixp_registry.specs.declared.router.Router.{Router}
 use Rattle.ixp_registry.specs.Keys.{router_key}
 use Rattle.ixp_registry.specs.Valid.{Valid, ValidRouter}
 use Rattle.ixp_compile.specs.Generated.{generated}
-use Rattle.ixp_generate.specs.declared.fault.GenFault.{GenFault}
 use Rattle.ixp_generate.specs.declared.fault.GenFault.TheVariants.{NoRouter}
 use Rattle.ixp_generate.specs.Answers.{Prints, generated_at, router_at}
 use Rattle.ixp_readback.specs.Right.{Right}
 use Rattle.ixp_readback.proofs.ReadBack.{whole_right}
 use Rattle.ixp_rows.specs.Dumps.{RegistryAnswer, version_in}
 use Rattle.ixp_cli.specs.declared.command.Command.TheVariants.{Generate}
-use Rattle.ixp_cli.specs.Generates.{Generates, IsUnknown, IsTextOf}
+use Rattle.ixp_cli.specs.Generates.{IsTextOf}
 use Rattle.ixp_cli.specs.Runs.{Writes}
 
 of_bits : (f : Family) (n : ℕ) → n ≤ bits_of f → n < 2 ^ 8
