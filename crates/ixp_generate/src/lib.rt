@@ -10,7 +10,6 @@ mod fault;
 mod head;
 mod member_rules;
 mod pieces;
-mod rows;
 mod session;
 mod texts;
 mod values;

@@ -8,17 +8,17 @@ ghost use Rattle.ixp_compile.specs.Generated.{allowed_set, covered_set, footer, 
 ghost use Rattle.ixp_generate.specs.Answers.{Prints, generated_at, header_at, part_at, router_at};
 ghost use Rattle.ixp_generate.specs.Made.{items_view};
 ghost use Rattle.ixp_generate.specs.Sessions.{part_text, sessions_text};
-ghost use Rattle.ixp_generate.specs.Views.{session_of};
+ghost use Rattle.ixp_policy.specs.Views.{session_of};
 
 use crate::fault::GenFault;
 use crate::head::add_header;
-use crate::rows::{SessionRows, session, session_at};
 use crate::session::add_fragment;
 use crate::values::{header_inputs_of, inputs_of};
 use ixp_compile::{HeaderInputs, Inputs};
 use ixp_lang::{Config, Item};
 use ixp_num::{Items, Name, Pattern, Prefix};
 use ixp_pfxset::{Mode, blocks_trie};
+use ixp_policy::{SessionRows, session, session_at};
 use ixp_print::print_config;
 use ixp_registry::{Interface, Registry, Router};
 use std::alloc::{AllocError, Global};

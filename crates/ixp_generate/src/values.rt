@@ -6,11 +6,11 @@ ghost use Rattle.ixp_registry.specs.Words.{addr_numbers};
 ghost use Rattle.ixp_policy.specs.Import.{is_listed};
 ghost use Rattle.ixp_compile.specs.Generated.{header_inputs, inputs};
 ghost use Rattle.ixp_generate.specs.Answers.{header_inputs_at, inputs_at};
-ghost use Rattle.ixp_generate.specs.Views.{session_of};
+ghost use Rattle.ixp_policy.specs.Views.{session_of};
 
-use crate::rows::{SessionRows, address_of, session};
 use ixp_compile::{HeaderInputs, Inputs};
 use ixp_num::{Addr, Asn, Family, Items, Name};
+use ixp_policy::{SessionRows, address_of, session};
 use ixp_registry::{Interface, Registry, Router};
 use ixp_tables::{Copied, Row, Table};
 use std::alloc::{AllocError, Global};

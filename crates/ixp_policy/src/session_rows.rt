@@ -20,7 +20,7 @@ pub struct SessionRows<'a> {
 }
 
 /// The interface's address of the family.
-pub(crate) fn address_of(family: Family, interface: &Interface) -> Option<&IfAddr>
+pub fn address_of(family: Family, interface: &Interface) -> Option<&IfAddr>
     ensures { option_map (λ a. a.now) result ≡ address_of family interface.entry.now }
 {
     match family {
@@ -75,7 +75,7 @@ fn rules_of(registry: &Registry, member: u32) -> &[MemberRule]
 }
 
 /// The interface's session with the router, where it has one.
-pub(crate) fn session_at<'a>(
+pub fn session_at<'a>(
     registry: &'a Registry,
     router: &Router,
     interface: &'a Interface,
@@ -98,7 +98,7 @@ pub(crate) fn session_at<'a>(
 }
 
 /// The router's session at the interface with the number, where there is one.
-pub(crate) fn session<'a>(
+pub fn session<'a>(
     registry: &'a Registry,
     router: &Router,
     interface: u32,

@@ -1,4 +1,4 @@
-use Rattle.ixp_generate.specs.Views.{session_of}
+use Rattle.ixp_policy.specs.Views.{session_of}
 use Rattle.ixp_generate.proofs.SessionTexts.{own_made}
 use Rattle.ixp_generate.proofs.texts.own.Goals as goal
 
