@@ -4,7 +4,7 @@
 
 run:
 	@echo "The program is compiled without its proofs; 'make build' proves it." >&2
-	@cd crates/ixpm && rt try -- fate < ../../examples/small.txt
+	@cd crates/ixpm && cat ../../examples/exchange.txt ../../examples/exchange.route | rt try -- fate
 
 build:
 	@cd crates/ixpm && rt run -- --version

@@ -2,13 +2,12 @@
 use Rattle.std.specs.Prelude.{ℕ, List, ◌∷◌, ◌++◌, codes, decimal}
 use Rattle.ixp_causes.specs.declared.Cause.{Cause}
 use Rattle.ixp_causes.specs.declared.Code.{Code}
-use Rattle.ixp_causes.specs.declared.Code.TheVariants.{U0, U1, U2, U3, U4, U5, L1, L2, L3, L4, L5, L6, L7, L8, L9, E1, E2, E3, E4, E5}
+use Rattle.ixp_causes.specs.declared.Code.TheVariants.{U1, U2, U3, U4, U5, L1, L2, L3, L4, L5, L6, L7, L8, L9, E1, E2, E3, E4, E5}
 use Rattle.ixp_causes.specs.declared.Place.{Place}
 use Rattle.ixp_causes.specs.declared.Place.TheVariants.{Line, Byte, Rule}
 
 -- a code is written as its name
 abbrev pub code_text : Code → List ℕ
-code_text U0 = codes "U0"
 code_text U1 = codes "U1"
 code_text U2 = codes "U2"
 code_text U3 = codes "U3"

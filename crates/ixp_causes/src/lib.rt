@@ -11,8 +11,6 @@ ghost use Rattle.ixp_causes.specs.Causes.{code_text};
 /// with E those of a route's line.
 #[derive(Clone, Copy, Debug, PartialEq, Eq)]
 pub enum Code {
-    /// It isn't a small registry, or not the route of one of its members.
-    U0,
     /// The line is none of the format, or the text ends early or goes on.
     U1,
     /// The line belongs before the one before it.
@@ -49,7 +47,7 @@ pub enum Code {
     E3,
     /// A list of the route has too many items.
     E4,
-    /// The route is of no session.
+    /// The router has no session at the interface.
     E5,
 }
 
@@ -74,7 +72,6 @@ pub fn code_text(code: Code) -> &'static [u8]
     ensures { result.now ≡ code_text code }
 {
     match code {
-        Code::U0 => b"U0",
         Code::U1 => b"U1",
         Code::U2 => b"U2",
         Code::U3 => b"U3",

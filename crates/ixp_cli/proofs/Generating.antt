@@ -17,9 +17,7 @@ use Rattle.ixp_generate.specs.Answers.{Prints, generated_at, router_at}
 use Rattle.ixp_readback.specs.Right.{Right}
 use Rattle.ixp_readback.proofs.ReadBack.{whole_right}
 use Rattle.ixp_rows.specs.Dumps.{RegistryAnswer, version_in}
-use Rattle.ixp_cli.specs.declared.command.Command.TheVariants.{Generate}
-use Rattle.ixp_cli.specs.Generates.{IsTextOf}
-use Rattle.ixp_cli.specs.Runs.{Writes}
+use Rattle.ixp_cli.specs.Generates.{Generates, IsTextOf, IsUnknown}
 
 of_bits : (f : Family) (n : ℕ) → n ≤ bits_of f → n < 2 ^ 8
 of_bits V4 n le = let few : n < 129 = omega arith in let many : 129 < 2 ^ 8 = lit< tt in omega arith
@@ -46,8 +44,8 @@ none_at r handle (Some q) at prints = absurd (let bad : ⊥ = cc in bad)
 pub none_there : (r : Registry) (handle : List ℕ) → Prints (generated_at r handle) (Err NoRouter) → IsTextOf r handle None
 none_there r handle prints = none_at r handle (find router_key handle r.routers) refl prints
 
-pub written : (r : Registry) (handle input : List ℕ) (out : Option (List ℕ)) → RegistryAnswer (version_in input) input (Ok r) → IsTextOf r handle out → Writes (Generate handle) input out
-written r handle input (Some text) dump (router, there, is) = record {
+pub generated_is : (r : Registry) (handle input text : List ℕ) → RegistryAnswer (version_in input) input (Ok r) → IsTextOf r handle (Some text) → Generates handle input text
+generated_is r handle input text dump (router, there, is) = record {
   registry = r;
   is_dump = dump;
   router = router;
@@ -55,6 +53,8 @@ written r handle input (Some text) dump (router, there, is) = record {
   is_text = is;
   is_right = subst (λ t. Right t r router) (sym is) (whole_right r handle router dump.2 there);
 }
-written r handle input None dump away = (handle, (refl, record { registry = r; is_dump = dump; is_away = away }))
 
-pub ruleset generating = (high_fits, text_there, none_there, written)
+pub unknown_is : (r : Registry) (handle input : List ℕ) → RegistryAnswer (version_in input) input (Ok r) → IsTextOf r handle None → IsUnknown handle input
+unknown_is r handle input dump away = record { registry = r; is_dump = dump; is_away = away }
+
+pub ruleset generating = (high_fits, text_there, none_there, generated_is, unknown_is)

@@ -1,15 +1,9 @@
--- The dump in an input, and why that is refused.
-use Rattle.std.proofs.Common.{◌≡◌, ℕ, suc, ◌+◌, Bool, true, false, ◌==◌, ◌&&◌, List, [], ◌∷◌, ◌++◌, length, take, drop, append_assoc, codes, Option, Some, None, if◌then◌else◌, refl, sym, ap, ◌∙◌, subst, arith, add-one, inl}
+-- The dump in an input.
+use Rattle.std.proofs.Common.{◌≡◌, ℕ, suc, ◌+◌, Bool, true, false, ◌==◌, ◌&&◌, List, [], ◌∷◌, ◌++◌, length, take, drop, append_assoc, codes, Option, Some, None, if◌then◌else◌, refl, sym, ap, ◌∙◌, subst, arith, add-one}
 use Rattle.std.proofs.Math.Seq.{take-add}
 use Rattle.ixp_tables.specs.Tables.{same}
 use Rattle.ixp_valid.proofs.Lists.{take_next}
-use Rattle.ixp_causes.specs.declared.Cause.{Cause}
-use Rattle.ixp_cli.specs.declared.end.NoAnswer.{NoAnswer}
-use Rattle.ixp_cli.specs.declared.end.NoAnswer.TheVariants.{Bad, NoMemory}
-use Rattle.ixp_cli.specs.Checks.{IsNoDump}
 use Rattle.ixp_cli.specs.Inputs.{first_line, dump_from, dump_part}
-use Rattle.ixp_cli.specs.Runs.{Refused}
-use Rattle.ixp_cli.specs.SmallFates.{IsNoFate}
 
 abbrev ends_here : Bool → List ℕ → Bool
 ends_here at_start t = at_start && same (codes "end ") (take 4 t)
@@ -30,7 +24,3 @@ dump_goes_on text left c cs k at_start rest is whole on =
     ap (dump_from at_start) is ∙ rw (subst (λ l. ends_here at_start l ≡ false) is on) refl in
     let next : take (k + 1) text ≡ take k text ++ c ∷ [] = rw add-one (take_next text k c cs (sym is ∙ rest)) in
     ap (λ t. t ++ dump_from (c == 10) cs) next ∙ (append_assoc (take k text) (c ∷ []) (dump_from (c == 10) cs) ∙ (ap (λ t. take k text ++ t) (sym here) ∙ whole))
-
-pub bad_dump : (input : List ℕ) (why : NoAnswer) → Refused (IsNoDump (dump_part input)) why → Refused (IsNoFate input) why
-bad_dump input (Bad cause) e = inl e
-bad_dump input NoMemory e = tt

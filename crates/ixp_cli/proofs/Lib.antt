@@ -1,11 +1,9 @@
 pub mod Ending
 pub mod Evaluating
+pub mod Fating
 pub mod Generating
-pub mod Handles
 pub mod Inputs
 pub mod LongInputs
-pub mod Members
-pub mod Numbering
 pub mod OneOutput
+pub mod Refusals
 pub mod Telling
-pub mod Words

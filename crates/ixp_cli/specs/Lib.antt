@@ -1,8 +1,6 @@
 pub mod Checks
 pub mod Evals
+pub mod Fates
 pub mod Generates
 pub mod Inputs
 pub mod Runs
-pub mod SmallFates
-pub mod SmallGeneration
-pub mod SmallTexts

@@ -17,8 +17,8 @@ use Rattle.ixp_cli.specs.declared.end.NoAnswer.{NoAnswer}
 use Rattle.ixp_cli.specs.declared.end.NoAnswer.TheVariants as answer
 use Rattle.ixp_cli.specs.Checks.{Checks, IsNoDump}
 use Rattle.ixp_cli.specs.Evals.{Evaluates, IsNoEval}
+use Rattle.ixp_cli.specs.Fates.{Fates, HasNoRouter, IsNoFate}
 use Rattle.ixp_cli.specs.Generates.{Generates, IsUnknown}
-use Rattle.ixp_cli.specs.SmallFates.{Compiles, IsNoFate}
 
 -- the command that a word is
 abbrev pub command_by : List ℕ → Option Command
@@ -42,7 +42,7 @@ Answers Check input (Ok output) = Checks input output
 Answers Check input (Err cause) = IsNoDump input cause
 Answers Eval input (Ok output) = Evaluates input output
 Answers Eval input (Err cause) = IsNoEval input cause
-Answers Fate input (Ok output) = Compiles input output
+Answers Fate input (Ok output) = Fates input output
 Answers Fate input (Err cause) = IsNoFate input cause
 Answers (Generate handle) input (Ok output) = Generates handle input output
 Answers (Generate handle) input (Err cause) = IsNoDump input cause
@@ -52,17 +52,19 @@ abbrev pub AsksInVain : Command → List ℕ → List ℕ → Type 0
 AsksInVain (Generate handle) input router = (router ≡ handle) × IsUnknown handle input
 AsksInVain Check input router = ⊥
 AsksInVain Eval input router = ⊥
-AsksInVain Fate input router = ⊥
-
--- what a command writes, or nothing where the router that it asks for isn't there
-abbrev pub Writes : Command → List ℕ → Option (List ℕ) → Type 0
-Writes command input (Some output) = Answers command input (Ok output)
-Writes command input None = (router : List ℕ) × AsksInVain command input router
+AsksInVain Fate input router = HasNoRouter input router
 
 -- there is such a cause, or memory ran out
 abbrev pub Refused : (Cause → Type 0) → NoAnswer → Type 0
 Refused why (answer.Bad cause) = why cause
+Refused why (answer.Unknown router) = ⊥
 Refused why answer.NoMemory = Unit {0}
+
+-- there is such a cause, or such a router isn't there, or memory ran out
+abbrev pub RefusedOr : (Cause → Type 0) → (List ℕ → Type 0) → NoAnswer → Type 0
+RefusedOr why away (answer.Bad cause) = why cause
+RefusedOr why away (answer.Unknown router) = away router
+RefusedOr why away answer.NoMemory = Unit {0}
 
 -- the cause, or want of memory where there is none
 abbrev pub no_answer : Option Cause → NoAnswer

@@ -1,9 +1,7 @@
 //! The top calls: a command by its words, over the objects that the caller hands in.
 ghost use Rattle.std.specs.Prelude.{◌≡◌, ◌↔◌, ◌≤◌, List, ℕ, map, Some, None, Ok, Err, IsSome, IsTrue, IfOk, IfErr};
-ghost use Rattle.std.specs.Option.{option_map};
 ghost use Rattle.ixp_cli.specs.declared.command.Command.TheVariants.{Generate as AskFor};
-ghost use Rattle.ixp_cli.specs.declared.end.End.TheVariants.{UnknownRouter as Unknown};
-ghost use Rattle.ixp_cli.specs.Runs.{Answers, AsksInVain, CommandEnds, Ends, Flow, IsStatus, Outside, Refused, Runs, Writes, command_by, command_in, command_with, too_long};
+ghost use Rattle.ixp_cli.specs.Runs.{Answers, AsksInVain, CommandEnds, Ends, Flow, IsStatus, Outside, RefusedOr, Runs, command_by, command_in, command_with, too_long};
 
 use crate::check::check;
 use crate::end::{End, NoAnswer, report};
@@ -19,7 +17,7 @@ use std::alloc::{AllocError, Global};
 /// The greatest number of bytes of an input that is read whole.
 pub const INPUT_LIMIT: usize = 268_435_456;
 
-/// A command of the program.
+/// A command of the program, by what it does with its input.
 #[derive(Debug, Drop)]
 pub enum Command {
     Check,
@@ -45,7 +43,7 @@ fn command_by(word: &[u8]) -> Option<Command>
 }
 
 /// The command that a word and a handle are.
-#[tactic(auto, using(crate::proofs::Handles::handle_is_name))]
+#[tactic(auto, using(ixp_trial::proofs::Handles::handle_is_name))]
 fn command_with(alloc: Global, word: &[u8], handle: &[u8]) -> Result<Option<Command>, AllocError>
     ensures ok { IfOk result (λ c. c ≡ command_with word.now handle.now) }
     ensures err { IfErr result (λ e. command_with word.now handle.now ≡ Some (AskFor handle.now)) }
@@ -69,29 +67,17 @@ fn command_in(alloc: Global, words: &[&str]) -> Result<Option<Command>, AllocErr
     }
 }
 
-/// What a command writes for an input; None where the router that it asks for isn't there.
-fn answer(alloc: Global, command: &Command, input: &[u8]) -> Result<Option<Vec<u8>>, NoAnswer>
-    ensures output { IfOk result (λ out. Writes command.now input.now (option_map (λ v. v.items) out)) }
-    ensures cause { IfErr result (Refused (λ cause. Answers command.now input.now (Err cause))) }
+/// What a command writes for an input.
+#[tactic(auto, using(crate::proofs::Refusals::no_router_asked))]
+fn answer(alloc: Global, command: Command, input: &[u8]) -> Result<Vec<u8>, NoAnswer>
+    ensures output { IfOk result (λ out. Answers command input.now (Ok out.items)) }
+    ensures refusal { IfErr result (RefusedOr (λ cause. Answers command input.now (Err cause)) (AsksInVain command input.now)) }
 {
     match command {
-        Command::Check => Ok(Some(check(alloc, input)?)),
-        Command::Eval => Ok(Some(eval(alloc, input)?)),
-        Command::Fate => Ok(Some(fate(alloc, input)?)),
+        Command::Check => check(alloc, input),
+        Command::Eval => eval(alloc, input),
+        Command::Fate => fate(alloc, input),
         Command::Generate { router } => router_text(alloc, router, input),
-    }
-}
-
-/// The end of a command that asks for a router which isn't there.
-fn unknown(command: Command, input: &[u8]) -> End
-    requires { (router : List ℕ) × AsksInVain command input.now router }
-    ensures { (router : List ℕ) × (result ≡ Unknown router) × AsksInVain command input.now router }
-{
-    match command {
-        Command::Generate { router } => End::UnknownRouter { router },
-        Command::Check => unreachable!(),
-        Command::Eval => unreachable!(),
-        Command::Fate => unreachable!(),
     }
 }
 
@@ -125,10 +111,10 @@ fn run_command<S: Source, K: Sink>(
         Err(WholeFault::TooLong) => return End::BadInput { cause: too_long() },
         Err(WholeFault::NoMemory) => return End::NoMemory,
     };
-    let text = match answer(alloc, &command, bytes.as_slice()) {
-        Ok(Some(text)) => text,
-        Ok(None) => return unknown(command, bytes.as_slice()),
+    let text = match answer(alloc, command, bytes.as_slice()) {
+        Ok(text) => text,
         Err(NoAnswer::Bad { cause }) => return End::BadInput { cause },
+        Err(NoAnswer::Unknown { router }) => return End::UnknownRouter { router },
         Err(NoAnswer::NoMemory) => return End::NoMemory,
     };
     match write_all(output, text.as_slice()) {

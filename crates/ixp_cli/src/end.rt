@@ -27,10 +27,12 @@ pub enum End {
 }
 
 /// Why a command has nothing to write for an input.
-#[derive(Clone, Copy, Debug, PartialEq, Eq, Drop)]
+#[derive(Debug, Drop)]
 pub(crate) enum NoAnswer {
     /// The input isn't of the command's form.
     Bad { cause: Cause },
+    /// No router of the input's registry has the handle.
+    Unknown { router: Name },
     NoMemory,
 }
 

@@ -64,8 +64,8 @@ fn refusal(config: &Config, trial: &Trial) -> Option<TrialFault>
     }
 }
 
-/// How the fault of a trial is told.
-fn refused(fault: TrialFault) -> NoAnswer
+/// How a fault of what stands behind a filter text, or behind a dump, is told.
+pub(crate) fn refused(fault: TrialFault) -> NoAnswer
     ensures { result ≡ no_answer (cause_of fault) }
 {
     match fault.cause() {

@@ -1,155 +1,202 @@
-//! The command `fate`: the configuration of a small registry, and the fate of one route by its text.
-ghost use Rattle.std.specs.Prelude.{◌≡◌, ◌++◌, ◌≤◌, [], Some, IfOk, IfErr, OnOk, length};
-ghost use Rattle.ixp_causes.specs.declared.Code.TheVariants.{U0};
-ghost use Rattle.ixp_causes.specs.declared.Place.TheVariants.{Line as AtLine};
-ghost use Rattle.ixp_print.specs.Texts.{config_text};
-ghost use Rattle.ixp_cli.specs.declared.end.NoAnswer.TheVariants.{Bad};
-ghost use Rattle.ixp_cli.specs.Checks.{IsDump, IsNoDump};
-ghost use Rattle.ixp_cli.specs.Inputs.{dump_part};
-ghost use Rattle.ixp_cli.specs.Runs.{Refused};
-ghost use Rattle.ixp_cli.specs.SmallGeneration.{small_config};
-ghost use Rattle.ixp_cli.specs.SmallFates.{Walked, AddsFate, Compiles, IsNoFate, route_of};
+//! The command `fate`: the text of a router, and the fate of a route by that text.
+ghost use Rattle.std.specs.Prelude.{◌≡◌, true, List, Some, None, Ok, Err, IfOk, IfErr, MatchOption};
+ghost use Rattle.ixp_num.specs.Names.{is_name};
+ghost use Rattle.ixp_lang.specs.Trees.{ItemTree};
+ghost use Rattle.ixp_lang.specs.Views.{config_view};
+ghost use Rattle.ixp_registry.specs.Keys.{router_key};
+ghost use Rattle.ixp_registry.specs.Valid.{Valid};
+ghost use Rattle.ixp_tables.specs.Tables.{find};
+ghost use Rattle.ixp_compile.specs.Generated.{roa_tables};
+ghost use Rattle.ixp_eval.specs.declared.fault.EvalFault.TheVariants.{NoMemory as no_memory};
+ghost use Rattle.ixp_read.specs.declared.fault.ReadFault.TheVariants.{NoMemory as no_room};
+ghost use Rattle.ixp_read.specs.Answers.{SpellsText};
+ghost use Rattle.ixp_readback.specs.Right.{Gen};
+ghost use Rattle.ixp_cli.specs.Fates.{Fates, HasFate, HasNoRouter, HasRoute, IsAstray, IsFate, IsNoFate, IsNoRoute, IsOfSession, IsStray};
+ghost use Rattle.ixp_cli.specs.Runs.{Refused, RefusedOr};
 
 use crate::check::registry_of;
 use crate::end::NoAnswer;
-use crate::generate::generate;
+use crate::eval::refused;
+use crate::generation::text_of;
 use crate::input::dump_part;
-use crate::reading::{Stop, line_of, read_small};
-use crate::small::{RouteLine, Small};
 use ixp_causes::{Cause, Code, Place};
 use ixp_eval::{EvalFault, walk};
-use ixp_lang::{Fate, Route, numbered, print_fate};
-use ixp_num::{Asn, Items};
-use ixp_print::print_config;
+use ixp_lang::{Config, Fate, numbered, print_fate};
+use ixp_num::{Items, Name};
+use ixp_policy::session;
 use ixp_read::{ReadFault, read_config};
-use std::alloc::{AllocError, AllocFailed, Global};
+use ixp_registry::Router;
+use ixp_roa::RoaTable;
+use ixp_rows::Registry;
+use ixp_trial::{SessionRoute, read_session_route};
+use std::alloc::{AllocError, Global};
 
-/// Why a route has no fate.
-#[derive(Clone, Copy, Debug, PartialEq, Eq, Drop)]
-enum NoFate {
-    /// The text wasn't read back, or a filter failed.
-    Broken,
-    NoMemory,
-}
-
-impl From<AllocError> for NoFate {
-    fn from(_: AllocError) -> NoFate {
-        NoFate::NoMemory
+/// The route whose line stands behind the dump.
+#[tactic(auto, using(crate::proofs::Fating::no_route))]
+fn route_of(alloc: Global, input: &[u8]) -> Result<SessionRoute, NoAnswer>
+    ensures route { IfOk result (λ route. HasRoute input.now (Ok route)) }
+    ensures cause { IfErr result (Refused (IsNoRoute input.now)) }
+{
+    let (dump, behind) = input.split_at(dump_part(input).len());
+    match read_session_route(alloc, dump, behind) {
+        Ok(route) => Ok(route),
+        Err(fault) => Err(refused(fault)),
     }
 }
 
-impl<T: Drop> From<AllocFailed<T>> for NoFate {
-    fn from(_: AllocFailed<T>) -> NoFate {
-        NoFate::NoMemory
-    }
-}
-
-impl From<ReadFault> for NoFate {
-    fn from(fault: ReadFault) -> NoFate {
-        match fault {
-            ReadFault::NoMemory => NoFate::NoMemory,
-            _ => NoFate::Broken,
+/// Why the router has no fate for the route, if it has none.
+fn astray(registry: &Registry, router: &Router, route: &SessionRoute) -> Option<Cause>
+    ensures { MatchOption result (IsOfSession registry.now router.now route.now) (IsStray registry.now router.now route.now) }
+{
+    let place = Place::Line { line: route.line };
+    match session(registry, router, route.interface) {
+        Some(_) => {
+            if route.route.net.family == router.family {
+                return None;
+            }
+            Some(Cause {
+                code: Code::E2,
+                place,
+            })
         }
+        None => Some(Cause {
+            code: Code::E5,
+            place,
+        }),
     }
 }
 
-impl From<EvalFault> for NoFate {
-    fn from(fault: EvalFault) -> NoFate {
-        match fault {
-            EvalFault::NoMemory => NoFate::NoMemory,
-            _ => NoFate::Broken,
-        }
+/// Want of memory while a text is read: one that spells a configuration is refused for nothing else.
+fn unread(_fault: ReadFault) -> AllocError
+    requires { _fault ≡ no_room }
+{
+    AllocError
+}
+
+/// Want of memory on a walk that has no other fault.
+fn unwalked(_fault: EvalFault) -> AllocError
+    requires { _fault ≡ no_memory }
+{
+    AllocError
+}
+
+/// The configuration that a text spells.
+fn config_of(alloc: Global, text: &[u8]) -> Result<Config, AllocError>
+    requires { (c : List ItemTree) × SpellsText text.now c }
+    ensures { IfOk result (λ c. SpellsText text.now (config_view c)) }
+{
+    match read_config(alloc, text) {
+        Ok(config) => Ok(config),
+        Err(fault) => Err(unread(fault)),
     }
 }
 
-/// The route of the line, without communities.
-fn route_of(alloc: Global, line: &RouteLine) -> Result<Route, AllocError>
-    ensures { IfOk result (λ r. r ≡ route_of line.now) }
+/// A table of the registry's ROAs, with the name by which filters ask it.
+fn roas_named(
+    alloc: Global,
+    name: &[u8],
+    registry: &Registry,
+) -> Result<(Name, RoaTable), AllocError>
+    requires { is_name name.now ≡ true }
+    ensures { IfOk result (λ t. t ≡ (name.now, registry.now.public.roas)) }
 {
-    Ok(Route {
-        net: line.net,
-        path: Items::from_slice(alloc, &[line.asn])?,
-        next_hop: line.hop,
-        pairs: Items::new(alloc),
-        triples: Items::new(alloc),
-    })
+    let name = Name::new(alloc, name)?;
+    let table = RoaTable::new(alloc, registry.public.roas.as_slice())?;
+    Ok((name, table))
 }
 
-/// The fate of the route by a text that is read.
-fn fate_by(alloc: Global, text: &[u8], line: &RouteLine) -> Result<Fate, NoFate>
-    ensures { IfOk result (Walked text.now line.now) }
+/// The tables of ROAs that filters ask.
+fn tables_of(alloc: Global, registry: &Registry) -> Result<Items<(Name, RoaTable)>, AllocError>
+    ensures { IfOk result (λ tables. tables ≡ roa_tables registry.now) }
 {
-    let config = read_config(alloc, text)?;
-    let session = numbered(alloc, b"b_", line.member)?;
-    let route = route_of(alloc, line)?;
-    let fate = walk(alloc, &config, &session, &route, &[])?;
-    Ok(fate)
+    let mut tables = Items::new(alloc);
+    tables.push(roas_named(alloc, b"roas4", registry)?)?;
+    tables.push(roas_named(alloc, b"roas6", registry)?)?;
+    Ok(tables)
 }
 
-/// Adds the fate of the route by the text that stands there.
-fn add_fate(alloc: Global, text: &mut Vec<u8>, rs: Asn, line: &RouteLine) -> Result<(), NoFate>
-    ensures { OnOk result (AddsFate text.old.items text.new.items rs line.now) }
+/// The fate of the route by a text of the router, which is read back.
+fn fate_by(
+    alloc: Global,
+    text: &[u8],
+    registry: &Registry,
+    router: &Router,
+    route: &SessionRoute,
+) -> Result<Fate, AllocError>
+    requires valid { Valid registry.now }
+    requires there { find router_key route.now.router registry.now.routers ≡ Some router.now }
+    requires sender { IsOfSession registry.now router.now route.now }
+    requires text { text.now ≡ Gen registry.now router.now }
+    ensures { IfOk result (HasFate registry.now router.now route.now) }
 {
-    let fate = fate_by(alloc, text.as_slice(), line)?;
-    print_fate(&fate, Some(rs), text)?;
-    Ok(())
-}
-
-/// Adds the text of the configuration, and the route's fate by that text.
-fn add_all(alloc: Global, text: &mut Vec<u8>, small: &Small, line: &RouteLine) -> Result<(), NoFate>
-    requires few { length small.now.asns ≤ 64 }
-    requires empty { text.old.items ≡ [] }
-    ensures { OnOk result (AddsFate (config_text (small_config small.now)) text.new.items small.now.rs line.now) }
-{
-    let config = generate(alloc, small)?;
-    print_config(alloc, &config, text)?;
-    add_fate(alloc, text, small.rs, line)
-}
-
-/// The line of an input's last byte but one: the route's.
-fn last_line(input: &[u8]) -> u64 {
-    line_of(input, 1)
-}
-
-/// An input that can't be read on at this line.
-fn unread(line: u64) -> NoAnswer
-    ensures { result ≡ Bad (record { code = U0; place = AtLine line }) }
-{
-    NoAnswer::Bad {
-        cause: Cause {
-            code: Code::U0,
-            place: Place::Line { line },
-        },
+    let config = config_of(alloc, text)?;
+    let sender = numbered(alloc, b"b_", route.interface)?;
+    let tables = tables_of(alloc, registry)?;
+    match walk(alloc, &config, &sender, &route.route, tables.as_slice()) {
+        Ok(fate) => Ok(fate),
+        Err(fault) => Err(unwalked(fault)),
     }
 }
 
-/// Whether the dump in the input is that of a valid registry.
-fn test_dump(alloc: Global, input: &[u8]) -> Result<(), NoAnswer>
-    ensures valid { OnOk result (IsDump (dump_part input.now)) }
-    ensures cause { IfErr result (Refused (IsNoDump (dump_part input.now))) }
+/// The text of the router, and the text of the route's fate by it; None where there is no such router.
+fn text_with_fate(
+    alloc: Global,
+    registry: &Registry,
+    router: &Router,
+    route: &SessionRoute,
+) -> Result<Option<Vec<u8>>, AllocError>
+    requires valid { Valid registry.now }
+    requires there { find router_key route.now.router registry.now.routers ≡ Some router.now }
+    requires sender { IsOfSession registry.now router.now route.now }
+    ensures { IfOk result (λ out. MatchOption out (find router_key route.now.router registry.now.routers ≡ None) (λ text. IsFate registry.now route.now text.items)) }
 {
-    match registry_of(alloc, dump_part(input)) {
-        Ok(_) => Ok(()),
-        Err(why) => Err(why),
-    }
-}
-
-/// What `fate` writes for an input: the configuration's text, and the route's fate by that text.
-#[tactic(auto, using(crate::proofs::Inputs::bad_dump))]
-pub(crate) fn fate(alloc: Global, input: &[u8]) -> Result<Vec<u8>, NoAnswer>
-    ensures output { IfOk result (λ out. Compiles input.now out.items) }
-    ensures cause { IfErr result (Refused (IsNoFate input.now)) }
-{
-    test_dump(alloc, input)?;
-    let (small, line) = match read_small(alloc, input) {
-        Ok(read) => read,
-        Err(Stop::Line { left }) => return Err(unread(line_of(input, left))),
-        Err(Stop::NoMemory) => return Err(NoAnswer::NoMemory),
+    let Some(mut text) = text_of(alloc, registry, &route.router)? else {
+        return Ok(None);
     };
-    let mut text = Vec::new(alloc);
-    match add_all(alloc, &mut text, &small, &line) {
-        Ok(()) => Ok(text),
-        Err(NoFate::NoMemory) => Err(NoAnswer::NoMemory),
-        Err(NoFate::Broken) => Err(unread(last_line(input))),
+    let fate = fate_by(alloc, text.as_slice(), registry, router, route)?;
+    print_fate(&fate, Some(router.asn), &mut text)?;
+    Ok(Some(text))
+}
+
+/// What is written of a route that a session brings.
+fn fate_in(alloc: Global, registry: &Registry, route: SessionRoute) -> Result<Vec<u8>, NoAnswer>
+    requires { Valid registry.now }
+    ensures output { IfOk result (λ out. IsFate registry.now route out.items) }
+    ensures refusal { IfErr result (RefusedOr (IsAstray registry.now route) (λ handle. (handle ≡ route.router) × (find router_key route.router registry.now.routers ≡ None))) }
+{
+    let Some(router) = registry.routers.find(&route.router) else {
+        return Err(NoAnswer::Unknown {
+            router: route.router,
+        });
+    };
+    if let Some(cause) = astray(registry, router, &route) {
+        return Err(NoAnswer::Bad { cause });
+    }
+    match text_with_fate(alloc, registry, router, &route) {
+        Ok(Some(text)) => Ok(text),
+        Ok(None) => Err(NoAnswer::Unknown {
+            router: route.router,
+        }),
+        Err(_) => Err(NoAnswer::NoMemory),
+    }
+}
+
+/// What `fate` writes for an input: the text of the router that is asked for, and the fate of the route by that text.
+#[tactic(auto, using(crate::proofs::Fating::fating))]
+pub(crate) fn fate(alloc: Global, input: &[u8]) -> Result<Vec<u8>, NoAnswer>
+    ensures output { IfOk result (λ out. Fates input.now out.items) }
+    ensures refusal { IfErr result (RefusedOr (IsNoFate input.now) (HasNoRouter input.now)) }
+{
+    let registry = match registry_of(alloc, dump_part(input)) {
+        Ok(registry) => registry,
+        Err(why) => return Err(why),
+    };
+    let route = match route_of(alloc, input) {
+        Ok(route) => route,
+        Err(why) => return Err(why),
+    };
+    match fate_in(alloc, &registry, route) {
+        Ok(text) => Ok(text),
+        Err(why) => Err(why),
     }
 }

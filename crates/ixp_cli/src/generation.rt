@@ -3,42 +3,47 @@ ghost use Rattle.std.specs.Prelude.{◌≡◌, IfOk, IfErr};
 ghost use Rattle.std.specs.Option.{option_map};
 ghost use Rattle.ixp_registry.specs.Valid.{Valid};
 ghost use Rattle.ixp_cli.specs.Checks.{IsNoDump};
-ghost use Rattle.ixp_cli.specs.Generates.{IsTextOf};
-ghost use Rattle.ixp_cli.specs.Runs.{Refused, Writes};
-ghost use Rattle.ixp_cli.specs.declared.command.Command.TheVariants.{Generate};
-ghost use Rattle.ixp_cli.specs.declared.end.NoAnswer.TheVariants.{NoMemory};
+ghost use Rattle.ixp_cli.specs.Generates.{Generates, IsTextOf, IsUnknown};
+ghost use Rattle.ixp_cli.specs.Runs.{RefusedOr};
 
 use crate::check::registry_of;
 use crate::end::NoAnswer;
 use ixp_generate::{GenFault, generate};
 use ixp_num::Name;
 use ixp_rows::Registry;
-use std::alloc::Global;
+use std::alloc::{AllocError, Global};
 
 /// The text of the router with the handle, None where there is no such router.
 #[tactic(auto, using(crate::proofs::Generating::generating))]
-fn text_of(alloc: Global, registry: &Registry, router: &Name) -> Result<Option<Vec<u8>>, NoAnswer>
+pub(crate) fn text_of(
+    alloc: Global,
+    registry: &Registry,
+    router: &Name,
+) -> Result<Option<Vec<u8>>, AllocError>
     requires { Valid registry.now }
-    ensures text { IfOk result (λ out. IsTextOf registry.now router.now (option_map (λ v. v.items) out)) }
-    ensures memory { IfErr result (λ e. e ≡ NoMemory) }
+    ensures { IfOk result (λ out. IsTextOf registry.now router.now (option_map (λ v. v.items) out)) }
 {
     match generate(alloc, registry, router) {
         Ok(text) => Ok(Some(text)),
         Err(GenFault::NoRouter) => Ok(None),
-        Err(_) => Err(NoAnswer::NoMemory),
+        Err(_) => Err(AllocError),
     }
 }
 
 /// What `generate` writes for an input: the text of the router with the handle, where the input is the dump of a valid registry.
-#[tactic(auto, using(crate::proofs::Generating::generating))]
+#[tactic(auto, using(crate::proofs::Generating::generating, crate::proofs::Refusals::no_router_asked))]
 pub(crate) fn router_text(
     alloc: Global,
-    router: &Name,
+    router: Name,
     input: &[u8],
-) -> Result<Option<Vec<u8>>, NoAnswer>
-    ensures output { IfOk result (λ out. Writes (Generate router.now) input.now (option_map (λ v. v.items) out)) }
-    ensures cause { IfErr result (Refused (IsNoDump input.now)) }
+) -> Result<Vec<u8>, NoAnswer>
+    ensures output { IfOk result (λ out. Generates router input.now out.items) }
+    ensures refusal { IfErr result (RefusedOr (IsNoDump input.now) (λ handle. (handle ≡ router) × IsUnknown router input.now)) }
 {
     let registry = registry_of(alloc, input)?;
-    text_of(alloc, &registry, router)
+    match text_of(alloc, &registry, &router) {
+        Ok(Some(text)) => Ok(text),
+        Ok(None) => Err(NoAnswer::Unknown { router }),
+        Err(_) => Err(NoAnswer::NoMemory),
+    }
 }

@@ -6,14 +6,9 @@ mod command;
 mod end;
 mod eval;
 mod fate;
-mod generate;
 mod generation;
 mod input;
 pub mod laws;
-mod reading;
-mod small;
-mod text;
 
 pub use command::{Command, INPUT_LIMIT, run, run_plain};
 pub use end::End;
-pub use small::{RouteLine, Small, Version};

@@ -1,5 +1,5 @@
 -- A text has one answer.
-use Rattle.std.proofs.Common.{◌≡◌, ◌∙◌, ℕ, List, [], Result, Ok, Err, sym, ap, subst}
+use Rattle.std.proofs.Common.{◌≡◌, ◌∙◌, ℕ, List, [], Result, Ok, Err, refl, sym, ap, subst}
 use Rattle.ixp_lang.specs.Trees.{ItemTree}
 use Rattle.ixp_lang.specs.declared.item.Config.{Config}
 use Rattle.ixp_lang.specs.Views.{config_view}
@@ -54,3 +54,15 @@ answers_agree text (Ok c) (Ok d) p q one other = one_spelling text (config_view 
 answers_agree text (Ok c) (Err g) p q one other = apart text (config_view c) g one (stop_of text g q other)
 answers_agree text (Err f) (Ok d) p q one other = apart text (config_view d) f other (stop_of text f p one)
 answers_agree text (Err f) (Err g) p q one other = one_fault text f g (stop_of text f p one) (stop_of text g q other)
+
+pub spelt_is_answered : (text : List ℕ) (c : List ItemTree) (f : ReadFault) → SpellsText text c → ConfigAnswer text (Err f) → f ≡ NoMemory
+spelt_is_answered text c (Byte at) spelt is = absurd (apart text c (Byte at) spelt is)
+spelt_is_answered text c (Number at) spelt is = absurd (apart text c (Number at) spelt is)
+spelt_is_answered text c (Unexpected at) spelt is = absurd (apart text c (Unexpected at) spelt is)
+spelt_is_answered text c (UnknownName at) spelt is = absurd (apart text c (UnknownName at) spelt is)
+spelt_is_answered text c (NameTwice at) spelt is = absurd (apart text c (NameTwice at) spelt is)
+spelt_is_answered text c (MixedLogic at) spelt is = absurd (apart text c (MixedLogic at) spelt is)
+spelt_is_answered text c (WrongType at) spelt is = absurd (apart text c (WrongType at) spelt is)
+spelt_is_answered text c (TooDeep at) spelt is = absurd (apart text c (TooDeep at) spelt is)
+spelt_is_answered text c (OutOfProfile at) spelt is = absurd (apart text c (OutOfProfile at) spelt is)
+spelt_is_answered text c NoMemory spelt is = refl

@@ -7,7 +7,8 @@ ghost use Rattle.ixp_tokens.specs.declared.token.Kind.{Kind};
 ghost use Rattle.ixp_tokens.specs.Grammars.{Took};
 ghost use Rattle.ixp_tokens.specs.Reading.{read};
 ghost use Rattle.ixp_read.specs.declared.fault.ReadFault.{ReadFault};
-ghost use Rattle.ixp_read.specs.Answers.{ConfigAnswer, IsTold, SameAnswer};
+ghost use Rattle.ixp_read.specs.declared.fault.ReadFault.TheVariants.{NoMemory};
+ghost use Rattle.ixp_read.specs.Answers.{ConfigAnswer, IsTold, SameAnswer, SpellsText};
 ghost use Rattle.ixp_read.specs.Items.{config_form};
 ghost use Rattle.ixp_read.specs.Stops.{IsRefused, NoneGoesOn};
 
@@ -38,4 +39,9 @@ pub fn none_goes_on()
 /// what it answers, want of memory left aside.
 pub fn one_answer()
     ensures { (text : List ℕ) (one other : Result Config ReadFault) → IsTold one → IsTold other → ConfigAnswer text one → ConfigAnswer text other → SameAnswer one other }
+{}
+
+/// A text that spells a configuration is refused for want of memory alone.
+pub fn spelt_texts_are_read()
+    ensures { (text : List ℕ) (c : List ItemTree) (fault : ReadFault) → SpellsText text c → ConfigAnswer text (Err fault) → fault ≡ NoMemory }
 {}

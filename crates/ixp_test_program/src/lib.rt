@@ -1,7 +1,7 @@
 //! Tests of the whole program: runs of its commands over objects in memory, compared with worked cases.
 //!
-//! What a run does is proved of `ixp_cli`; these cases show that its definitions say what a user expects, and that inputs
-//! of the small form are read, which no contract says. `cases.rt` has one line for each case.
+//! What a run does is proved of `ixp_cli`; these cases show that its definitions say what a user expects. `cases.rt` has one line
+//! for each case.
 #![tactic(auto)]
 
 #[cfg(test)]

@@ -1,5 +1,8 @@
 //! Runs over objects in memory.
-use crate::cases::{DUMPS, FATES, FILTERS, IMPORT, REGISTRY, ROUTERS, SESSIONS, TRIALS};
+use crate::cases::{
+    DUMPS, EXCHANGE, EXCHANGE_FATES, FATES, FILTERS, IMPORT, NO_FATES, REGISTRY, ROUTERS, SESSIONS,
+    SIX_FATES, TRIALS,
+};
 use ixp_cli::run;
 use ixp_io::{FreeGate, MemDoor, MemKeeper, MemSink, MemSource, Plan, SetClock};
 use ixp_lists::Items;
@@ -135,6 +138,60 @@ fn case_outcome(alloc: Global, word: &str, case: &str) -> Result<Vec<u8>, AllocE
         Plan::smooth(alloc),
         Plan::smooth(alloc),
     )
+}
+
+/// What stands in the place of a line, where these changes have something for it.
+fn change_of<'a>(changes: &'a str, number: usize) -> Option<&'a str> {
+    for change in changes.split(';') {
+        if let Some((line, text)) = change.split_once('=') {
+            if line.parse::<usize>().unwrap_or(0) == number {
+                return Some(text);
+            }
+        }
+    }
+    None
+}
+
+/// The dump of the exchange with these changes, and what is behind it.
+fn exchange_with(alloc: Global, changes: &str, behind: &str) -> Result<Vec<u8>, AllocError> {
+    let mut input = Vec::new(alloc);
+    for (place, line) in EXCHANGE.lines().enumerate() {
+        match change_of(changes, place.wrapping_add(1)) {
+            Some(text) => put_lines(&mut input, text)?,
+            None => {
+                input.extend_from_slice(line.as_bytes())?;
+                input.push(b'\n')?;
+            }
+        }
+    }
+    put_lines(&mut input, behind)?;
+    Ok(input)
+}
+
+/// What `fate` tells of a case of the exchange.
+fn fate_outcome(alloc: Global, case: &str) -> Result<Vec<u8>, AllocError> {
+    let mut fields = case.split('@');
+    let changes = fields.next().unwrap_or("");
+    let behind = fields.next().unwrap_or("");
+    let input = exchange_with(alloc, changes, behind)?;
+    outcome(
+        alloc,
+        &["fate"],
+        input,
+        Plan::smooth(alloc),
+        Plan::smooth(alloc),
+    )
+}
+
+#[test]
+fn routes_have_their_fates(rt: HostRuntime) -> Result<(), Fail> {
+    for table in [EXCHANGE_FATES, SIX_FATES, NO_FATES] {
+        for case in table.lines() {
+            let found = fate_outcome(rt.alloc(), case)?;
+            assert!(rt; case.as_bytes().ends_with(found.as_slice()), "{case}");
+        }
+    }
+    Ok(())
 }
 
 #[test]

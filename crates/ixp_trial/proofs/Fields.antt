@@ -8,9 +8,7 @@ use Rattle.ixp_num.specs.declared.roa.Roa.{Roa}
 use Rattle.ixp_num.specs.declared.fault.NumFault.{NumFault}
 use Rattle.ixp_num.specs.Names.{is_name, is_name_byte}
 use Rattle.ixp_num.specs.Forms.{IsDigit, IsDecimal}
-use Rattle.ixp_num.specs.Reading.{cap, number_at}
 use Rattle.ixp_num.specs.Answers.{AsnAnswer, PrefixAnswer}
-use Rattle.ixp_num.proofs.Digits.{Ends, Numbered, number_again, number_split, number_missing}
 use Rattle.ixp_num.proofs.NoBlanks.{prefix_no_blank}
 use Rattle.ixp_num.proofs.OneAnswer.{one_asn, one_prefix}
 use Rattle.ixp_trial.specs.Cutting.{IsFree, IsCut, AreFields}
@@ -64,7 +62,7 @@ digits_free : (t : List ℕ) → AllByRecursion IsDigit t → IsFree 32 t
 digits_free [] are = tt
 digits_free (c ∷ cs) are = ((λ e. let low = are.0.0 in omega arith), digits_free cs are.1)
 
-decimal_free : (t : List ℕ) (n : ℕ) → IsDecimal t n → IsFree 32 t
+pub decimal_free : (t : List ℕ) (n : ℕ) → IsDecimal t n → IsFree 32 t
 decimal_free [] n is = tt
 decimal_free (c ∷ cs) n is = ((λ e. let low = is.0.0 in omega arith), digits_free cs is.2)
 
@@ -119,43 +117,6 @@ no_net_field net max asn e is roa say = let same : ◌≡◌ {A = Result Prefix 
 
 pub no_asn_field : (net max asn : List ℕ) (e : NumFault) → AsnAnswer asn (Err e) → (roa : Roa) → ¬ (SayRoa net max asn roa)
 no_asn_field net max asn e is roa say = let same : ◌≡◌ {A = Result Asn NumFault} (Err e) (Ok roa.asn) = one_asn asn (Err e) (Ok roa.asn) is say.2 in absurd cc
-
--- a max length
-
-abbrev max_said : ℕ → Result (ℕ × List ℕ) ℕ
-max_said m = Ok (m, [])
-
-max_again : (t : List ℕ) (n : ℕ) → IsMax t n → number_at t ≡ Ok (n, [])
-max_again t n (is, low) =
-    let least : min cap n ≡ n = omega arith in
-    ap number_at (sym (append-nil t)) ∙ number_again t [] n is (inr tt) ∙ ap (λ m. max_said m) least
-
-numbered_same : (m n : ℕ) (xs ys : List ℕ) → ◌≡◌ {A = Result (ℕ × List ℕ) ℕ} (Ok (m, xs)) (Ok (n, ys)) → (m ≡ n) × (xs ≡ ys)
-numbered_same m n xs ys e =
-    let same : ◌≡◌ {A = ℕ × List ℕ} (m, xs) (n, ys) = cc in
-    (ap (λ (p : ℕ × List ℕ). p.0) same, ap (λ (p : ℕ × List ℕ). p.1) same)
-
-pub max_missing : (t : List ℕ) (left : ℕ) → number_at t ≡ Err left → (n : ℕ) → ¬ (IsMax t n)
-max_missing t left e n is = let same : ◌≡◌ {A = Result (ℕ × List ℕ) ℕ} (Err left) (Ok (n, [])) = sym e ∙ max_again t n is in absurd cc
-
-pub max_behind : (t rest : List ℕ) (m : ℕ) → number_at t ≡ Ok (m, rest) → ¬ (rest ≡ []) → (n : ℕ) → ¬ (IsMax t n)
-max_behind t rest m e some n is = some (numbered_same m n rest [] (sym e ∙ max_again t n is)).1
-
-pub max_above : (t : List ℕ) (m : ℕ) → number_at t ≡ Ok (m, []) → 255 < m → (n : ℕ) → ¬ (IsMax t n)
-max_above t m e above n is = let same = (numbered_same m n [] [] (sym e ∙ max_again t n is)).0 in let low = is.1 in absurd (omega arith)
-
-max_numbered : (t : List ℕ) (m : ℕ) → Numbered t ⊎ Ends IsDigit t → number_at t ≡ Ok (m, []) → m ≤ 255 → IsMax t m
-max_numbered t m (inl x) e low =
-    let there : ◌≡◌ {A = Result (ℕ × List ℕ) ℕ} (Ok (min cap x.n, x.rest)) (Ok (m, [])) = sym (ap number_at x.parts ∙ number_again x.front x.rest x.n x.spelt x.closed) ∙ e in
-    let value : min cap x.n ≡ m = (numbered_same (min cap x.n) m x.rest [] there).0 in
-    let same : x.n ≡ m = omega arith in
-    let none : x.rest ≡ [] = (numbered_same (min cap x.n) m x.rest [] there).1 in
-    let whole : x.front ≡ t = sym (append-nil x.front) ∙ (ap (λ r. x.front ++ r) (sym none) ∙ sym x.parts) in
-    (subst (λ f. IsDecimal f m) whole (subst (λ n. IsDecimal x.front n) same x.spelt), low)
-max_numbered t m (inr ends) e low = absurd (let there : ◌≡◌ {A = Result (ℕ × List ℕ) ℕ} (Err (length t)) (Ok (m, [])) = sym (number_missing t ends) ∙ e in let h : ⊥ = cc in h)
-
-pub max_told : (t : List ℕ) (m : ℕ) → number_at t ≡ Ok (m, []) → m ≤ 255 → IsMax t m
-max_told t m e low = max_numbered t m (number_split t) e low
 
 -- a route's line
 

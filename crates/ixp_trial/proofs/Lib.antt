@@ -1,6 +1,10 @@
 pub mod Cuts
 pub mod Fields
+pub mod Handles
+pub mod Numbers
+pub mod OneSessionRoute
 pub mod OneTrial
 pub mod Parting
+pub mod Parts
 pub mod Standing
 pub mod Tabling

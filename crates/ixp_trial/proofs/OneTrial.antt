@@ -18,7 +18,7 @@ use Rattle.ixp_trial.specs.declared.fault.TrialFault.{TrialFault}
 use Rattle.ixp_trial.specs.declared.fault.TrialFault.TheVariants as fault
 use Rattle.ixp_trial.specs.declared.trial.Trial.{Trial}
 use Rattle.ixp_trial.specs.Lines.{lines, ended, divider, HasNoDivider, Divided, IsFilterText}
-use Rattle.ixp_trial.specs.Trials.{BeginsRoa, IsRoaLine, AreRoaLines, IsRouteLine, HasRouteFault, IsNoRoute, Behind, following, LinesAnswer, TrialAnswer}
+use Rattle.ixp_trial.specs.Trials.{BeginsRoa, IsRoaLine, AreRoaLines, IsRouteLine, IsNoRouteText, IsNoRoute, Behind, following, LinesAnswer, TrialAnswer}
 use Rattle.ixp_trial.proofs.Cuts.{one_cut, not_marked}
 use Rattle.ixp_trial.proofs.Fields.{same_fields, whole_fields, name_free}
 
@@ -38,7 +38,7 @@ one_text t x y (inr (none, e)) (inr (none', e')) = e ∙ sym e'
 
 -- a ROA's line says one ROA
 
-decimal_one : (t : List ℕ) (m n : ℕ) → IsDecimal t m → IsDecimal t n → m ≡ n
+pub decimal_one : (t : List ℕ) (m n : ℕ) → IsDecimal t m → IsDecimal t n → m ≡ n
 decimal_one [] m n is is' = absurd is
 decimal_one (c ∷ cs) m n is is' = is.3 ∙ sym is'.3
 
@@ -121,40 +121,49 @@ code_of (why.Set at) = Some code.Set
 code_of (why.TooLong at) = Some code.TooLong
 code_of why.NoMemory = None
 
-abbrev NoForm : List ℕ → Type 0
-NoForm line = (session text : List ℕ) → ¬ (IsRouteLine line session text)
+-- the fault of a text, and its code
+record Faulty (text : List ℕ) (c : RouteCode) : Type 0 where
+  pub fault : RouteFault
+  pub answers : RouteAnswer text (Err fault)
+  pub code : code_of fault ≡ Some c
 
-data Cause (line : List ℕ) (c : RouteCode) : Type 0 where
-  form : NoForm line → c ≡ code.Text → Cause line c
-  faulty : (f : RouteFault) → HasRouteFault line f → code_of f ≡ Some c → Cause line c
-
-cause : (line : List ℕ) (c : RouteCode) → IsNoRoute line c → Cause line c
-cause line code.Text (inl none) = form none refl
-cause line code.Text (inr (at, has)) = faulty (why.Text at) has refl
-cause line code.Family has = faulty why.Family has refl
-cause line code.Set (at, has) = faulty (why.Set at) has refl
-cause line code.TooLong (at, has) = faulty (why.TooLong at) has refl
+faulty : (text : List ℕ) (c : RouteCode) → IsNoRouteText text c → Faulty text c
+faulty text code.Text (at, has) = record { fault = why.Text at; answers = has; code = refl }
+faulty text code.Family has = record { fault = why.Family; answers = has; code = refl }
+faulty text code.Set (at, has) = record { fault = why.Set at; answers = has; code = refl }
+faulty text code.TooLong (at, has) = record { fault = why.TooLong at; answers = has; code = refl }
 
 told : (f : RouteFault) (c : RouteCode) → code_of f ≡ Some c → ◌≢◌ {A = Result Route RouteFault} (Err f) (Err why.NoMemory)
 told f c e same = let gone : f ≡ why.NoMemory = cc in let none : ◌≡◌ {A = Option RouteCode} (Some c) None = sym e ∙ ap code_of gone in cc
 
-one_cause : (line : List ℕ) (c c' : RouteCode) → Cause line c → Cause line c' → c ≡ c'
-one_cause line c c' (form none e) (form none' e') = e ∙ sym e'
-one_cause line c c' (form none e) (faulty f (session, text, is, has) e') = absurd (none session text is)
-one_cause line c c' (faulty f (session, text, is, has) e) (form none e') = absurd (none session text is)
-one_cause line c c' (faulty f (a, b, is, has) e) (faulty f' (a', b', is', has') e') =
-    let same = one_session line a b a' b' is is' in
-    let one : ◌≡◌ {A = Result Route RouteFault} (Err f) (Err f') = one_route b (Err f) (Err f') (told f c e) (told f' c' e') has (subst (λ t. RouteAnswer t (Err f')) (sym same.1) has') in
-    let faults : f ≡ f' = cc in
-    let codes_same : ◌≡◌ {A = Option RouteCode} (Some c) (Some c') = sym e ∙ ap code_of faults ∙ e' in
+-- a text is refused for one reason
+pub one_code : (text : List ℕ) (c c' : RouteCode) → IsNoRouteText text c → IsNoRouteText text c' → c ≡ c'
+one_code text c c' is is' =
+    let x = faulty text c is in
+    let y = faulty text c' is' in
+    let one : ◌≡◌ {A = Result Route RouteFault} (Err x.fault) (Err y.fault) = one_route text (Err x.fault) (Err y.fault) (told x.fault c x.code) (told y.fault c' y.code) x.answers y.answers in
+    let faults : x.fault ≡ y.fault = cc in
+    let codes_same : ◌≡◌ {A = Option RouteCode} (Some c) (Some c') = sym x.code ∙ ap code_of faults ∙ y.code in
     cc
 
-no_cause : (line session text : List ℕ) (r : Route) (c : RouteCode) → IsRouteLine line session text → RouteAnswer text (Ok r) → ¬ (Cause line c)
-no_cause line session text r c is ok (form none e) = none session text is
-no_cause line session text r c is ok (faulty f (a, b, is', has) e) =
-    let same = one_session line session text a b is is' in
-    let one : ◌≡◌ {A = Result Route RouteFault} (Ok r) (Err f) = one_route text (Ok r) (Err f) (λ e. cc) (told f c e) ok (subst (λ t. RouteAnswer t (Err f)) (sym same.1) has) in
+-- and not read
+pub no_code : (text : List ℕ) (r : Route) (c : RouteCode) → RouteAnswer text (Ok r) → ¬ (IsNoRouteText text c)
+no_code text r c ok is =
+    let x = faulty text c is in
+    let one : ◌≡◌ {A = Result Route RouteFault} (Ok r) (Err x.fault) = one_route text (Ok r) (Err x.fault) (λ e. cc) (told x.fault c x.code) ok x.answers in
     cc
+
+one_cause : (line : List ℕ) (c c' : RouteCode) → IsNoRoute line c → IsNoRoute line c' → c ≡ c'
+one_cause line c c' (inl (none, e)) (inl (none', e')) = e ∙ sym e'
+one_cause line c c' (inl (none, e)) (inr (session, text, is, has)) = absurd (none session text is)
+one_cause line c c' (inr (session, text, is, has)) (inl (none, e)) = absurd (none session text is)
+one_cause line c c' (inr (a, b, is, has)) (inr (a', b', is', has')) =
+    one_code b c c' has (subst (λ t. IsNoRouteText t c') (sym (one_session line a b a' b' is is').1) has')
+
+no_cause : (line session text : List ℕ) (r : Route) (c : RouteCode) → IsRouteLine line session text → RouteAnswer text (Ok r) → ¬ (IsNoRoute line c)
+no_cause line session text r c is ok (inl (none, e)) = none session text is
+no_cause line session text r c is ok (inr (a, b, is', has)) =
+    no_code text r c ok (subst (λ t. IsNoRouteText t c) (sym (one_session line session text a b is is').1) has)
 
 -- lines have one answer
 
@@ -184,7 +193,7 @@ ok_no_route ls first n c t (line, text, after, b, is, ok, more) (inl (roas, line
     let place = one_place ls (line ∷ after) (line' ∷ after') first t.line n t.roas roas b b' (route_stops line t.session text after is) (other_stops line' after' none) in
     let whole = place.behind in
     let head : line ≡ line' = cc in
-    no_cause line t.session text t.route c is ok (cause line c (subst (λ l. IsNoRoute l c) (sym head) why_not))
+    no_cause line t.session text t.route c is ok (subst (λ l. IsNoRoute l c) (sym head) why_not)
 ok_no_route ls first n c t (line, text, after, b, is, ok, more) (inr (roas, b', e)) =
     let place = one_place ls (line ∷ after) [] first t.line n t.roas roas b b' (route_stops line t.session text after is) tt in
     let whole = place.behind in
@@ -209,7 +218,7 @@ route_same ls first n n' c c' (inl (roas, line, after, b, other, why_not)) (inl 
     let place = one_place ls (line ∷ after) (line' ∷ after') first n n' roas roas' b b' (other_stops line after other) (other_stops line' after' other') in
     let whole = place.behind in
     let head : line ≡ line' = cc in
-    (place.number, one_cause line c c' (cause line c why_not) (cause line c' (subst (λ l. IsNoRoute l c') (sym head) why_not')))
+    (place.number, one_cause line c c' why_not (subst (λ l. IsNoRoute l c') (sym head) why_not'))
 route_same ls first n n' c c' (inl (roas, line, after, b, other, why_not)) (inr (roas', b', e)) =
     let whole = (one_place ls (line ∷ after) [] first n n' roas roas' b b' (other_stops line after other) tt).behind in
     absurd cc

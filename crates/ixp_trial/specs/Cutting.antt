@@ -1,5 +1,5 @@
 -- How a text is cut at a byte.
-use Rattle.std.specs.Prelude.{◌≡◌, ◌≢◌, ◌<◌, ◌+◌, ◌⊎◌, ℕ, List, [], ◌∷◌, ◌++◌, length}
+use Rattle.std.specs.Prelude.{◌≡◌, ◌≢◌, ◌<◌, ◌+◌, ◌⊎◌, ℕ, List, [], ◌∷◌, ◌++◌, length, codes}
 use Rattle.std.specs.List.{AllByRecursion}
 use Rattle.ixp_trial.specs.Lines.{lines}
 
@@ -27,3 +27,9 @@ pub record AreFields (t table net max asn : List ℕ) : Type 0 where
   pub table_free : IsFree 32 table
   pub net_free : IsFree 32 net
   pub max_free : IsFree 32 max
+
+-- a route's line, cut into its parts
+pub record AreParts (line handle number text : List ℕ) : Type 0 where
+  pub whole : line ≡ codes "route " ++ (handle ++ 32 ∷ (number ++ 32 ∷ text))
+  pub handle_free : IsFree 32 handle
+  pub number_free : IsFree 32 number

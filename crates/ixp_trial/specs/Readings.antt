@@ -9,11 +9,17 @@ use Rattle.ixp_trial.specs.declared.fault.Misfit.{Misfit}
 use Rattle.ixp_trial.specs.declared.fault.Misfit.TheVariants as misfit
 use Rattle.ixp_trial.specs.declared.fault.Unread.{Unread}
 use Rattle.ixp_trial.specs.declared.fault.Unread.TheVariants as unread
-use Rattle.ixp_trial.specs.Trials.{IsRoaLine, IsRouteLine, IsNoRoute}
+use Rattle.ixp_trial.specs.declared.session_route.SessionRoute.{SessionRoute}
+use Rattle.ixp_trial.specs.SessionRoutes.{SaysRoute, SaysNoRoute}
+use Rattle.ixp_trial.specs.Trials.{IsRoaLine, IsRouteLine, IsNoRoute, IsNoRouteText}
 
--- a decimal number of 8 bits
+-- a decimal number of at most so much
+abbrev pub IsUpTo : ℕ → List ℕ → ℕ → Type 0
+IsUpTo most t n = IsDecimal t n × (n ≤ most)
+
+-- of 8 bits
 abbrev pub IsMax : List ℕ → ℕ → Type 0
-IsMax t n = IsDecimal t n × (n ≤ 255)
+IsMax t n = IsUpTo 255 t n
 
 -- the three fields say the ROA
 abbrev pub SayRoa : List ℕ → List ℕ → List ℕ → Roa → Type 0
@@ -28,7 +34,17 @@ RoaLineAnswer line (Ok p) = IsRoaLine line p.0 p.1
 RoaLineAnswer line (Err unread.Bad) = (table : List ℕ) (roa : Roa) → ¬ (IsRoaLine line table roa)
 RoaLineAnswer line (Err unread.NoMemory) = Unit {0}
 
+abbrev pub RouteTextAnswer : List ℕ → Result Route Misfit → Type 0
+RouteTextAnswer text (Ok route) = RouteAnswer text (Ok route)
+RouteTextAnswer text (Err (misfit.Bad code)) = IsNoRouteText text code
+RouteTextAnswer text (Err misfit.NoMemory) = Unit {0}
+
 abbrev pub RouteLineAnswer : List ℕ → Result (List ℕ × Route) Misfit → Type 0
 RouteLineAnswer line (Ok p) = (text : List ℕ) × IsRouteLine line p.0 text × RouteAnswer text (Ok p.1)
 RouteLineAnswer line (Err (misfit.Bad code)) = IsNoRoute line code
 RouteLineAnswer line (Err misfit.NoMemory) = Unit {0}
+
+abbrev pub SessionLineAnswer : List ℕ → Result SessionRoute Misfit → Type 0
+SessionLineAnswer line (Ok s) = SaysRoute line s.router s.interface s.route
+SessionLineAnswer line (Err (misfit.Bad code)) = SaysNoRoute line code
+SessionLineAnswer line (Err misfit.NoMemory) = Unit {0}

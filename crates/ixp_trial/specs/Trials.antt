@@ -4,7 +4,6 @@ use Rattle.ixp_num.specs.declared.roa.Roa.{Roa}
 use Rattle.ixp_num.specs.Names.{is_name}
 use Rattle.ixp_num.specs.Forms.{IsDecimal}
 use Rattle.ixp_num.specs.Answers.{AsnAnswer, PrefixAnswer}
-use Rattle.ixp_lang.specs.declared.reading.fault.RouteFault.{RouteFault}
 use Rattle.ixp_lang.specs.declared.reading.fault.RouteFault.TheVariants as why
 use Rattle.ixp_lang.specs.RouteAnswers.{RouteAnswer}
 use Rattle.ixp_trial.specs.declared.fault.RouteCode.{RouteCode}
@@ -42,16 +41,18 @@ AreRoaLines (l ∷ ls) (p ∷ ps) = IsRoaLine l p.0 p.1 × AreRoaLines ls ps
 abbrev pub IsRouteLine : List ℕ → List ℕ → List ℕ → Type 0
 IsRouteLine line session text = (line ≡ codes "route " ++ (session ++ 32 ∷ text)) × (is_name session ≡ true)
 
--- the route's text in the line has this fault
-abbrev pub HasRouteFault : List ℕ → RouteFault → Type 0
-HasRouteFault line fault = (session text : List ℕ) × IsRouteLine line session text × RouteAnswer text (Err fault)
+-- why a text is no route's
+abbrev pub IsNoRouteText : List ℕ → RouteCode → Type 0
+IsNoRouteText text code.Text = (at : ℕ) × RouteAnswer text (Err (why.Text at))
+IsNoRouteText text code.Family = RouteAnswer text (Err why.Family)
+IsNoRouteText text code.Set = (at : ℕ) × RouteAnswer text (Err (why.Set at))
+IsNoRouteText text code.TooLong = (at : ℕ) × RouteAnswer text (Err (why.TooLong at))
 
--- why a line is no route's: it isn't of the form, or its route's text is none
+-- why a line is no route's: it isn't of the form, or what it has for a route's text is none
 abbrev pub IsNoRoute : List ℕ → RouteCode → Type 0
-IsNoRoute line code.Text = ((session text : List ℕ) → ¬ (IsRouteLine line session text)) ⊎ ((at : ℕ) × HasRouteFault line (why.Text at))
-IsNoRoute line code.Family = HasRouteFault line why.Family
-IsNoRoute line code.Set = (at : ℕ) × HasRouteFault line (why.Set at)
-IsNoRoute line code.TooLong = (at : ℕ) × HasRouteFault line (why.TooLong at)
+IsNoRoute line c =
+    (((session text : List ℕ) → ¬ (IsRouteLine line session text)) × (c ≡ code.Text))
+    ⊎ ((session text : List ℕ) × IsRouteLine line session text × IsNoRouteText text c)
 
 -- Of these lines, the first of which has the number `first`, the front is the lines of these ROAs; behind them stands the rest, the
 -- first line of which has this number.

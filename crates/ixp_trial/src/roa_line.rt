@@ -9,7 +9,8 @@ ghost use Rattle.ixp_trial.specs.Readings.{RoaFieldsAnswer, RoaLineAnswer, IsMax
 
 use crate::cutting::cut;
 use crate::fault::Unread;
-use ixp_num::{Name, Roa, number_of, read_asn, read_prefix};
+use crate::number::number_up_to;
+use ixp_num::{Name, Roa, read_asn, read_prefix};
 use std::alloc::Global;
 
 /// The four fields of a ROA.
@@ -41,16 +42,9 @@ fn fields_of(t: &[u8]) -> Option<Fields<'_>>
 fn max_of(field: &[u8]) -> Option<u8>
     ensures { MatchOption result ((n : ℕ) → ¬ (IsMax field.now n)) (λ n. IsMax field.now n) }
 {
-    match number_of(field) {
-        Ok((number, [])) => {
-            if number <= 255 {
-                Some(number as u8)
-            } else {
-                None
-            }
-        }
-        Ok((_, [_, ..])) => None,
-        Err(_) => None,
+    match number_up_to(field, 255) {
+        Some(number) => Some(number as u8),
+        None => None,
     }
 }
 

@@ -1,13 +1,27 @@
 //! The line of a route.
 ghost use Rattle.std.specs.Prelude.{◌≡◌, List, ℕ, MatchOption, true};
 ghost use Rattle.ixp_trial.specs.Trials.{IsRouteLine};
-ghost use Rattle.ixp_trial.specs.Readings.{RouteLineAnswer};
+ghost use Rattle.ixp_trial.specs.Readings.{RouteLineAnswer, RouteTextAnswer};
 
 use crate::cutting::{after_front, cut};
 use crate::fault::{Misfit, RouteCode};
 use ixp_lang::{Route, RouteFault, read_route};
 use ixp_num::Name;
 use std::alloc::Global;
+
+/// The route of a text.
+pub(crate) fn route_in(alloc: Global, text: &[u8]) -> Result<Route, Misfit>
+    ensures { RouteTextAnswer text.now result }
+{
+    match read_route(alloc, text) {
+        Ok(route) => Ok(route),
+        Err(RouteFault::Text { .. }) => Err(Misfit::Bad(RouteCode::Text)),
+        Err(RouteFault::Family) => Err(Misfit::Bad(RouteCode::Family)),
+        Err(RouteFault::Set { .. }) => Err(Misfit::Bad(RouteCode::Set)),
+        Err(RouteFault::TooLong { .. }) => Err(Misfit::Bad(RouteCode::TooLong)),
+        Err(RouteFault::NoMemory) => Err(Misfit::NoMemory),
+    }
+}
 
 /// The session's name and the route's text in a line.
 fn session_and_text(line: &[u8]) -> Option<(&[u8], &[u8])>
@@ -33,13 +47,9 @@ pub(crate) fn route_of(alloc: Global, line: &[u8]) -> Result<(Name, Route), Misf
     let Some((session, text)) = session_and_text(line) else {
         return Err(Misfit::Bad(RouteCode::Text));
     };
-    let route = match read_route(alloc, text) {
+    let route = match route_in(alloc, text) {
         Ok(route) => route,
-        Err(RouteFault::Text { .. }) => return Err(Misfit::Bad(RouteCode::Text)),
-        Err(RouteFault::Family) => return Err(Misfit::Bad(RouteCode::Family)),
-        Err(RouteFault::Set { .. }) => return Err(Misfit::Bad(RouteCode::Set)),
-        Err(RouteFault::TooLong { .. }) => return Err(Misfit::Bad(RouteCode::TooLong)),
-        Err(RouteFault::NoMemory) => return Err(Misfit::NoMemory),
+        Err(misfit) => return Err(misfit),
     };
     match Name::new(alloc, session) {
         Ok(session) => Ok((session, route)),

@@ -14,8 +14,9 @@ const HELP: &str = "ixpm: the registry of an internet exchange, and its route se
                    route by that text
   ixpm generate R  reads the dump of a registry on standard input, and writes the configuration of the route server with
                    the handle R
-  ixpm fate        reads a small registry's dump and a route on standard input, and writes the configuration
-                   of its route server and the route's fate
+  ixpm fate        reads the dump of a registry on standard input, and behind it a line route R INTERFACE ROUTE, and writes
+                   the configuration of the route server with the handle R, and the fate of the route that the interface's
+                   session brings
   ixpm --help      writes this
   ixpm --version   writes the version
 

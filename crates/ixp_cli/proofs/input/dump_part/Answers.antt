@@ -4,8 +4,8 @@ use Rattle.ixp_valid.proofs.Lists.{drop_next}
 use Rattle.ixp_cli.proofs.Inputs.{dump_ends, dump_goes_on}
 use Rattle.ixp_cli.proofs.input.dump_part.Goals as goal
 
-pub returns-then-starts_with : goal.returns-then-starts_with
-returns-then-starts_with c =
+pub returns-then-starts_with-clause-part : goal.returns-then-starts_with-clause-part
+returns-then-starts_with-clause-part c =
     let e : c.bytes.left.now ≡ c.in-Some.byte.now ∷ c.in-Some.rest.now = search rules in
     let ends : (c.bytes.at_start && same (codes "end ") (take 4 c.bytes.left.now)) ≡ true = search rules in
     dump_ends c.args.text.now c.bytes.left.now c.in-Some.byte.now c.in-Some.rest.now c.first_line.result.now c.bytes.count c.bytes.at_start c.bytes.invariant.rest e c.bytes.invariant.same ends
