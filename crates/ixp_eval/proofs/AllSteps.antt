@@ -8,10 +8,10 @@ use Rattle.ixp_lang.specs.declared.value.Value.{Value}
 use Rattle.ixp_lang.specs.declared.item.Ty.{Ty}
 use Rattle.ixp_lang.specs.Faults.{Fault, no_filter}
 use Rattle.ixp_lang.specs.Trees.{ExprTree, StmtTrees, ItemTree, router_id_item, table_item, define_item, function_item, filter_item, device_item, pipe_item, bgp_item}
-use Rattle.ixp_lang.specs.Meaning.{Environment, End, falls, returns, accepts, rejects, fails, Params, same_name, find_named, bind, function_of, known, after, means, body_of, for_value, for_effect, given_or}
-use Rattle.ixp_eval.specs.Machine.{Todo, Act, on, wants, calls, done, faulty, act}
-use Rattle.ixp_eval.specs.Frames.{Body, Wait, Next, goes, stops, breaks, define_of, with_value, looks, looks_given, looks_defined, enters, next_of, fallen, returned, resumes, moves, at, step}
-use Rattle.ixp_eval.specs.Outcomes.{todo_out, act_out, body_out, wait_ends, wait_out, next_out, called_out}
+use Rattle.ixp_lang.specs.Meaning.{Environment, End, falls, returns, accepts, rejects, fails, same_name, find_named, bind, function_of, known, means, body_of, for_value, given_or}
+use Rattle.ixp_eval.specs.Machine.{Act, on, wants, calls, done, faulty, act}
+use Rattle.ixp_eval.specs.Frames.{Body, Wait, define_of, with_value, looks_given, looks_defined, enters, next_of, fallen, returned, resumes, moves, at, step}
+use Rattle.ixp_eval.specs.Outcomes.{act_out, body_out, wait_out, next_out, called_out}
 use Rattle.ixp_eval.proofs.BodySteps.{if_by, act_law}
 
 eq_swaps : (a b : ℕ) → (a == b) ≡ (b == a)

@@ -1,13 +1,13 @@
 -- A step inside a body keeps how the body ends.
-use Rattle.std.specs.Prelude.{◌≡◌, ℕ, Bool, true, false, nat_lt, List, [], ◌∷◌, Result, Ok, Err, if◌then◌else◌, refl}
+use Rattle.std.specs.Prelude.{◌≡◌, ℕ, Bool, true, false, nat_lt, List, [], ◌∷◌, Ok, Err, if◌then◌else◌, refl}
 use Rattle.ixp_lang.specs.declared.route.Route.{Route}
 use Rattle.ixp_lang.specs.declared.value.Value.{Value}
 use Rattle.ixp_lang.specs.declared.value.Value.TheVariants as value
 use Rattle.ixp_lang.specs.Attributes.{truth, has_label, number}
-use Rattle.ixp_lang.specs.Faults.{Fault, pair_range}
+use Rattle.ixp_lang.specs.Faults.{pair_range}
 use Rattle.ixp_lang.specs.Trees.{ExprTree, literal, named, attribute, call, roa_check, pair, triple, set_literal, negation, conjunction, disjunction, comparison, ExprTrees, exprs_end, exprs_more, StmtTree, block, if_then, case_of, return_value, accept, reject, call_statement, set_next_hop, prepend, add_pair, delete_pairs, add_triple, delete_triples, StmtTrees, stmts_end, stmts_more, ArmTrees, arms_end, arms_more}
-use Rattle.ixp_lang.specs.Meaning.{Environment, End, fails, Known, Params, means, means_each, means_some, runs, runs_all, runs_arms, pair_of}
-use Rattle.ixp_eval.specs.Machine.{Operation, negates, pairs, triples, relates, checks, Todo, eval, run, name, apply, every, every_after, any, any_after, choose, select, calling, calling_after, changing, returning, accepting, rejecting, Act, act, begun, begun_stmt, ran, every_of, any_of, every_goes, any_goes, chosen, called, acted, onto, applied, paired, top, below}
+use Rattle.ixp_lang.specs.Meaning.{Environment, End, fails, Known, Params, means_each, means_some, runs, runs_all, runs_arms}
+use Rattle.ixp_eval.specs.Machine.{Operation, negates, pairs, triples, relates, checks, Todo, eval, run, name, apply, every, every_after, any, any_after, choose, select, calling, calling_after, changing, returning, accepting, rejecting, act, begun, begun_stmt, ran, every_of, any_of, every_goes, any_goes, chosen, called, acted, onto, applied, top, below}
 use Rattle.ixp_eval.specs.Outcomes.{todo_out, act_out, applied_out}
 
 -- a function of a choice

@@ -2,7 +2,10 @@ pub mod Adding
 pub mod AllSteps
 pub mod BodySteps
 pub mod Ending
+pub mod Found
 pub mod Going
 pub mod Naming
 pub mod Passing
+pub mod Piping
+pub mod Placing
 pub mod Spending

@@ -1,6 +1,6 @@
 -- A step costs something, so a run ends.
 use Rattle.std.specs.Prelude.{◌≡◌, ◌<◌, ◌≤◌, ◌+◌, ℕ, Bool, true, false, List, [], ◌∷◌, Option, Some, None, if◌then◌else◌, refl}
-use Rattle.std.proofs.Common.{sym, ◌∙◌, ap, subst, arith}
+use Rattle.std.proofs.Common.{arith}
 use Rattle.ixp_lang.specs.declared.route.Route.{Route}
 use Rattle.ixp_lang.specs.declared.value.Value.{Value}
 use Rattle.ixp_lang.specs.declared.item.Ty.{Ty}
@@ -11,7 +11,7 @@ use Rattle.std.specs.Prelude.{Result, Ok, Err}
 use Rattle.ixp_lang.specs.Faults.{Fault}
 use Rattle.ixp_eval.specs.Machine.{Todo, eval, run, name, apply, every, every_after, any, any_after, choose, select, calling, calling_after, changing, returning, accepting, rejecting, Act, on, wants, calls, done, faulty, act, begun, begun_stmt, ran, every_of, any_of, every_goes, any_goes, chosen, called, acted, onto, applied, top, below}
 use Rattle.ixp_eval.specs.Frames.{Body, Wait, Next, goes, stops, breaks, define_of, looks_given, looks_defined, enters, next_of, fallen, returned, resumes, moves, at, step}
-use Rattle.ixp_eval.specs.Costs.{Costs, expr_cost, parts_cost, args_cost, stmt_cost, stmts_cost, arms_cost, todo_cost, todos_cost, costs, body_cost, waits_cost, all_cost}
+use Rattle.ixp_eval.specs.Costs.{Costs, expr_cost, parts_cost, args_cost, stmt_cost, stmts_cost, arms_cost, todos_cost, costs, waits_cost, all_cost}
 use Rattle.ixp_eval.proofs.BodySteps.{if_by}
 
 module _ (c : Costs) where

@@ -4,7 +4,6 @@ use Rattle.ixp_lang.specs.declared.route.Route.{Route}
 use Rattle.ixp_lang.specs.declared.value.Value.{Value}
 use Rattle.ixp_lang.specs.declared.value.Value.TheVariants as value
 use Rattle.ixp_lang.specs.Attributes.{compares, truth, number, checked}
-use Rattle.ixp_lang.specs.Trees.{ItemTree}
 use Rattle.ixp_lang.specs.Meaning.{Environment, End, falls, returns, accepts, rejects, fails, Known, Params, known, means, means_all, means_each, means_some, pair_of, roas_named, runs_all, runs_arms, value_named, for_value, for_effect}
 use Rattle.ixp_eval.specs.Machine.{Operation, negates, pairs, triples, relates, checks, Todo, eval, run, name, apply, every, every_after, any, any_after, choose, select, calling, calling_after, changing, returning, accepting, rejecting, Act, on, wants, calls, done, faulty, top, below, changed}
 use Rattle.ixp_eval.specs.Frames.{Body, Wait, Next, goes, stops, breaks}

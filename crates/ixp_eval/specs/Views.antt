@@ -4,10 +4,9 @@ use Rattle.ixp_lang.specs.declared.route.Route.{Route}
 use Rattle.ixp_lang.specs.declared.value.Value.{Value}
 use Rattle.ixp_lang.specs.declared.value.SetLit.{SetLit}
 use Rattle.ixp_lang.specs.declared.value.Value.TheVariants as value
-use Rattle.ixp_lang.specs.declared.item.Item.{Item}
 use Rattle.ixp_lang.specs.declared.item.Ty.{Ty}
-use Rattle.ixp_lang.specs.Trees.{ExprTrees, exprs, ExprTree, StmtTrees, stmts, ItemTree}
-use Rattle.ixp_lang.specs.Views.{expr_view, exprs_view, stmts_view, arms_view, item_view}
+use Rattle.ixp_lang.specs.Trees.{exprs, ExprTree, StmtTrees, stmts, ItemTree}
+use Rattle.ixp_lang.specs.Views.{expr_view, exprs_view, stmts_view, arms_view}
 use Rattle.ixp_lang.specs.Meaning.{Environment, End, falls, returns, accepts, rejects, bind}
 use Rattle.ixp_eval.specs.declared.env.Env.{Env}
 use Rattle.ixp_eval.specs.declared.val.Val.{Val}
@@ -25,6 +24,8 @@ use Rattle.ixp_eval.specs.declared.frames.Waiting.{Waiting}
 use Rattle.ixp_eval.specs.declared.find.FoundDefine.{FoundDefine}
 use Rattle.ixp_eval.specs.declared.find.FoundFilter.{FoundFilter}
 use Rattle.ixp_eval.specs.declared.find.FoundFunction.{FoundFunction}
+use Rattle.ixp_eval.specs.declared.search.Before.{Before}
+use Rattle.ixp_eval.specs.Indexed.{items_before}
 use Rattle.ixp_eval.specs.Machine as machine
 use Rattle.ixp_eval.specs.Machine.{Operation, negates, pairs, triples, relates, checks, Todo, eval, run, name, apply, every, every_after, any, any_after, choose, select, calling, calling_after, changing, returning, accepting, rejecting, on, wants, calls, done}
 use Rattle.ixp_eval.specs.declared.fault.EvalFault.{EvalFault}
@@ -94,21 +95,21 @@ act_of (act.Wants n) ts vs r = wants n.now ts vs r
 act_of (act.Calls c args) ts vs r = calls c.name.now c.wanted (vals args) ts vs r
 act_of (act.Done h) ts vs r = done (end_of h r)
 
--- items, the last one first
-abbrev pub backwards : List Item → List ItemTree
-backwards is = reverse (map item_view is)
+-- the items before a place, the last one first
+abbrev pub backwards : Before → List ItemTree
+backwards b = reverse (items_before b)
 
 abbrev pub function_view : FoundFunction → List ItemTree × List (Ty × List ℕ) × StmtTrees
-function_view f = (backwards f.before.now, f.params.now, stmts (stmts_view f.body.now))
+function_view f = (backwards f.before, f.params.now, stmts (stmts_view f.body.now))
 
 abbrev pub define_view : FoundDefine → List ItemTree × ExprTree
-define_view d = (backwards d.before.now, expr_view d.value.now)
+define_view d = (backwards d.before, expr_view d.value.now)
 
 abbrev pub filter_view : FoundFilter → List ItemTree × StmtTrees
-filter_view f = (backwards f.before.now, stmts (stmts_view f.body.now))
+filter_view f = (backwards f.before, stmts (stmts_view f.body.now))
 
 abbrev pub body_view : Frame → Body
-body_view f = record { before = backwards f.before.now; params = bind f.params.now (vals f.args); tasks = todos f.tasks; values = vals f.values }
+body_view f = record { before = backwards f.before; params = bind f.params.now (vals f.args); tasks = todos f.tasks; values = vals f.values }
 
 abbrev pub wait_view : Waiting → Wait
 wait_view w = record { name = w.callee.name.now; wanted = w.callee.wanted; body = body_view w.frame }

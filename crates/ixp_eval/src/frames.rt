@@ -13,9 +13,10 @@ use crate::env::Env;
 use crate::fault::EvalFault;
 use crate::find::{define_of, function_of};
 use crate::names::same_name;
+use crate::search::Before;
 use crate::tasks::{Act, Callee, How, Task};
 use crate::val::{Val, copied};
-use ixp_lang::{Expr, Item, Route, Stmt, Ty};
+use ixp_lang::{Expr, Route, Stmt, Ty};
 use ixp_lists::Stack;
 use ixp_num::{Items, Name};
 use std::alloc::{AllocError, Global};
@@ -23,9 +24,9 @@ use std::mem;
 
 /// A body that runs.
 #[derive(Drop)]
-pub struct Frame<'a> {
+pub struct Frame<'i, 'a> {
     /// The items that stand before it.
-    pub before: &'a [Item],
+    pub before: Before<'i, 'a>,
     pub params: &'a [(Ty, Name)],
     /// The arguments, in the order of the parameters.
     pub args: Items<Val<'a>>,
@@ -35,20 +36,20 @@ pub struct Frame<'a> {
 
 /// A body that waits for what it called.
 #[derive(Drop)]
-pub struct Waiting<'a> {
+pub struct Waiting<'i, 'a> {
     pub callee: Callee<'a>,
-    pub frame: Frame<'a>,
+    pub frame: Frame<'i, 'a>,
 }
 
 /// A body that is about to run these statements.
-pub fn frame_of<'a>(
+pub fn frame_of<'i, 'a>(
     alloc: Global,
-    before: &'a [Item],
+    before: Before<'i, 'a>,
     params: &'a [(Ty, Name)],
     args: Items<Val<'a>>,
     body: &'a [Stmt],
-) -> Result<Frame<'a>, AllocError>
-    ensures { IfOk result (λ f. body_view f ≡ begins (backwards before.now) (bind params.now (vals args.entry)) (stmts (stmts_view body.now))) }
+) -> Result<Frame<'i, 'a>, AllocError>
+    ensures { IfOk result (λ f. body_view f ≡ begins (backwards before.entry) (bind params.now (vals args.entry)) (stmts (stmts_view body.now))) }
 {
     let mut tasks = Stack::new(alloc);
     tasks.push(Task::Run(body))?;
@@ -62,12 +63,12 @@ pub fn frame_of<'a>(
 }
 
 /// A body that is about to return the value of a define.
-fn frame_of_define<'a>(
+fn frame_of_define<'i, 'a>(
     alloc: Global,
-    before: &'a [Item],
+    before: Before<'i, 'a>,
     value: &'a Expr,
-) -> Result<Frame<'a>, AllocError>
-    ensures { IfOk result (λ f. body_view f ≡ begins_value (backwards before.now) (expr_view value.now)) }
+) -> Result<Frame<'i, 'a>, AllocError>
+    ensures { IfOk result (λ f. body_view f ≡ begins_value (backwards before.entry) (expr_view value.now)) }
 {
     let mut tasks = Stack::new(alloc);
     tasks.push(Task::Return)?;
@@ -99,11 +100,11 @@ fn argument<'b, 'a>(params: &[(Ty, Name)], args: &'b [Val<'a>], name: &Name) -> 
 }
 
 /// Leaves the frame to wait, and goes into another one.
-fn enter<'a>(
+fn enter<'i, 'a>(
     callee: Callee<'a>,
-    inner: Frame<'a>,
-    frame: &mut Frame<'a>,
-    waiting: &mut Stack<Waiting<'a>>,
+    inner: Frame<'i, 'a>,
+    frame: &mut Frame<'i, 'a>,
+    waiting: &mut Stack<Waiting<'i, 'a>>,
 ) -> Result<(), AllocError>
     ensures runs { OnOk result (body_view frame.new ≡ body_view inner.entry) }
     ensures waits { OnOk result (waits waiting.new ≡ waits_for callee.entry.name.now callee.entry.wanted (body_view frame.old) ∷ waits waiting.old) }
@@ -116,11 +117,11 @@ fn enter<'a>(
 }
 
 /// Puts the value of a name on the stack, or goes into its define.
-fn look<'a>(
+fn look<'i, 'a>(
     alloc: Global,
     name: &'a Name,
-    frame: &mut Frame<'a>,
-    waiting: &mut Stack<Waiting<'a>>,
+    frame: &mut Frame<'i, 'a>,
+    waiting: &mut Stack<Waiting<'i, 'a>>,
 ) -> Result<(), EvalFault>
     ensures { MatchResult result (λ u. Ok (body_view frame.new, waits waiting.new) ≡ looks name.now (body_view frame.old) (waits waiting.old)) (λ f. Fails Err (looks name.now (body_view frame.old) (waits waiting.old)) f) }
 {
@@ -145,14 +146,14 @@ fn look<'a>(
 }
 
 /// Goes into a function.
-fn call<'a>(
+fn call<'i, 'a>(
     alloc: Global,
     callee: Callee<'a>,
     args: Items<Val<'a>>,
-    frame: &mut Frame<'a>,
-    waiting: &mut Stack<Waiting<'a>>,
+    frame: &mut Frame<'i, 'a>,
+    waiting: &mut Stack<Waiting<'i, 'a>>,
 ) -> Result<(), EvalFault>
-    ensures { MatchResult result (λ u. Ok (body_view frame.new, waits waiting.new) ≡ enters (function_of (backwards frame.old.before.now) callee.entry.name.now) callee.entry.name.now callee.entry.wanted (vals args.entry) (body_view frame.old) (waits waiting.old)) (λ f. Fails Err (enters (function_of (backwards frame.old.before.now) callee.entry.name.now) callee.entry.name.now callee.entry.wanted (vals args.entry) (body_view frame.old) (waits waiting.old)) f) }
+    ensures { MatchResult result (λ u. Ok (body_view frame.new, waits waiting.new) ≡ enters (function_of (backwards frame.old.before) callee.entry.name.now) callee.entry.name.now callee.entry.wanted (vals args.entry) (body_view frame.old) (waits waiting.old)) (λ f. Fails Err (enters (function_of (backwards frame.old.before) callee.entry.name.now) callee.entry.name.now callee.entry.wanted (vals args.entry) (body_view frame.old) (waits waiting.old)) f) }
 {
     let Some(found) = function_of(frame.before, callee.name) else {
         return Err(EvalFault::NoFilter {
@@ -165,10 +166,10 @@ fn call<'a>(
 }
 
 /// A body ended at its last statement.
-fn resume_fallen<'a>(
+fn resume_fallen<'i, 'a>(
     alloc: Global,
-    frame: &mut Frame<'a>,
-    waiting: &mut Stack<Waiting<'a>>,
+    frame: &mut Frame<'i, 'a>,
+    waiting: &mut Stack<Waiting<'i, 'a>>,
 ) -> Result<Option<How<'a>>, EvalFault>
     ensures { (r : Route) → Steps result r (body_view frame.new) (waits waiting.new) (resumes (falls r) (waits waiting.old)) }
 {
@@ -185,10 +186,10 @@ fn resume_fallen<'a>(
 }
 
 /// A body ended with a value.
-fn resume_returned<'a>(
+fn resume_returned<'i, 'a>(
     value: Val<'a>,
-    frame: &mut Frame<'a>,
-    waiting: &mut Stack<Waiting<'a>>,
+    frame: &mut Frame<'i, 'a>,
+    waiting: &mut Stack<Waiting<'i, 'a>>,
 ) -> Result<Option<How<'a>>, EvalFault>
     ensures { (r : Route) → Steps result r (body_view frame.new) (waits waiting.new) (resumes (returns (val_of value.entry) r) (waits waiting.old)) }
 {
@@ -203,11 +204,11 @@ fn resume_returned<'a>(
 }
 
 /// A body ended: all ends, or the body that waits for it goes on.
-fn resume<'a>(
+fn resume<'i, 'a>(
     alloc: Global,
     how: How<'a>,
-    frame: &mut Frame<'a>,
-    waiting: &mut Stack<Waiting<'a>>,
+    frame: &mut Frame<'i, 'a>,
+    waiting: &mut Stack<Waiting<'i, 'a>>,
 ) -> Result<Option<How<'a>>, EvalFault>
     ensures { (r : Route) → Steps result r (body_view frame.new) (waits waiting.new) (resumes (end_of how.entry r) (waits waiting.old)) }
 {
@@ -221,11 +222,11 @@ fn resume<'a>(
 
 /// One step. Some is how all ends.
 #[tactic(auto, using(crate::proofs::Passing::entered_fails, crate::proofs::Passing::step_fails))]
-pub fn step<'a>(
+pub fn step<'i, 'a>(
     alloc: Global,
     env: &Env<'_>,
-    frame: &mut Frame<'a>,
-    waiting: &mut Stack<Waiting<'a>>,
+    frame: &mut Frame<'i, 'a>,
+    waiting: &mut Stack<Waiting<'i, 'a>>,
     route: &mut Route,
 ) -> Result<Option<How<'a>>, EvalFault>
     ensures { Steps result route.new (body_view frame.new) (waits waiting.new) (step (environment_of env.now) (body_view frame.old) (waits waiting.old) route.old) }

@@ -4,13 +4,16 @@ ghost use Rattle.ixp_lang.specs.Meaning.{fails, filter_end, function_end};
 ghost use Rattle.ixp_lang.specs.Views.{config_view};
 ghost use Rattle.ixp_eval.specs.Answers.{CallGives, Fails, Gives};
 ghost use Rattle.ixp_eval.specs.Outcomes.{body_out};
-ghost use Rattle.ixp_eval.specs.Views.{body_view, end_of, environment_of};
+ghost use Rattle.ixp_eval.specs.Indexed.{items_of};
+ghost use Rattle.ixp_eval.specs.Views.{backwards, body_view, end_of, environment_of};
 
 use crate::changes::copied_route;
 use crate::env::Env;
 use crate::fault::{CallFault, EvalFault};
 use crate::find::{filter_of, function_of};
 use crate::frames::{Frame, frame_of, step};
+use crate::index::Index;
+use crate::search::Before;
 use crate::tasks::How;
 use crate::val::{Val, into_value};
 use ixp_lang::{Config, Route, Value, Verdict};
@@ -22,7 +25,7 @@ use std::alloc::Global;
 fn run_body<'a>(
     alloc: Global,
     env: &Env<'_>,
-    mut frame: Frame<'a>,
+    mut frame: Frame<'_, 'a>,
     mut route: Route,
 ) -> Result<(How<'a>, Route), EvalFault>
     ensures { MatchResult result (λ p. end_of p.0 p.1 ≡ body_out (environment_of env.now) (body_view frame.entry) route) (λ f. Fails fails (body_out (environment_of env.now) (body_view frame.entry) route) f) }
@@ -36,17 +39,27 @@ fn run_body<'a>(
     }
 }
 
-/// What the filter of the name makes of a route. V1 to V4 come as [`EvalFault`] says.
-pub fn run_filter(
+/// The items of a configuration, all of them.
+fn all<'i, 'a>(index: &'i Index<'a>) -> Before<'i, 'a>
+    ensures { backwards result ≡ reverse (items_of index.now) }
+{
+    Before {
+        index,
+        count: index.items.len(),
+    }
+}
+
+/// What the filter of the name makes of a route, by an index of the configuration.
+pub(crate) fn run_filter_by<'a>(
     alloc: Global,
-    c: &Config,
-    name: &Name,
+    index: &Index<'a>,
+    name: &'a Name,
     route: &Route,
     env: &Env<'_>,
 ) -> Result<Verdict, EvalFault>
-    ensures { Gives result (filter_end (environment_of env.now) (reverse (config_view c.now)) name.now route.now) }
+    ensures { Gives result (filter_end (environment_of env.now) (reverse (items_of index.now)) name.now route.now) }
 {
-    let Some(found) = filter_of(c.items.as_slice(), name) else {
+    let Some(found) = filter_of(all(index), name) else {
         return Err(EvalFault::NoFilter {
             name: name.copied(alloc)?,
         });
@@ -62,20 +75,35 @@ pub fn run_filter(
     }
 }
 
+/// What the filter of the name makes of a route. V1 to V4 come as [`EvalFault`] says.
+pub fn run_filter<'a>(
+    alloc: Global,
+    c: &'a Config,
+    name: &'a Name,
+    route: &Route,
+    env: &Env<'_>,
+) -> Result<Verdict, EvalFault>
+    ensures { Gives result (filter_end (environment_of env.now) (reverse (config_view c.now)) name.now route.now) }
+{
+    let index = Index::of(alloc, c.items.as_slice())?;
+    run_filter_by(alloc, &index, name, route, env)
+}
+
 /// What the function of the name gives for one number, where the route is this one. V1, V2 and V4 come as
 /// [`EvalFault`] says, and V5 where the function accepts or rejects.
 #[tactic(auto, using(crate::proofs::Passing::call_fails))]
-pub fn call_function(
+pub fn call_function<'a>(
     alloc: Global,
-    c: &Config,
-    name: &Name,
+    c: &'a Config,
+    name: &'a Name,
     arg: u32,
     route: &Route,
     env: &Env<'_>,
 ) -> Result<Value, CallFault>
     ensures { CallGives result (function_end (environment_of env.now) (reverse (config_view c.now)) name.now arg route.now) }
 {
-    let Some(found) = function_of(c.items.as_slice(), name) else {
+    let index = Index::of(alloc, c.items.as_slice())?;
+    let Some(found) = function_of(all(&index), name) else {
         let name = name.copied(alloc)?;
         return Err(CallFault::Failed {
             fault: EvalFault::NoFilter { name },

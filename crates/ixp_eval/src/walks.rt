@@ -2,16 +2,19 @@
 ghost use Rattle.std.specs.Prelude.{◌≡◌, map};
 ghost use Rattle.std.specs.Option.{option_copied};
 ghost use Rattle.ixp_lang.specs.Views.{config_view, item_view};
-ghost use Rattle.ixp_lang.specs.Walks.{pipe_between, pipe_from, pipes_of, sent_through, sent_to, session_named, bgp_sessions, through, to_primary, walk};
+ghost use Rattle.ixp_lang.specs.Walks.{pipe_from, pipes_of, sent_through, sent_to, session_named, bgp_sessions, through, to_primary, walk};
+ghost use Rattle.ixp_eval.specs.Indexed.{items_of};
 ghost use Rattle.ixp_eval.specs.Answers.{Gives};
 ghost use Rattle.ixp_eval.specs.Views.{environment_of};
 
 use crate::changes::copied_route;
 use crate::env::Env;
 use crate::fault::EvalFault;
+use crate::index::Index;
 use crate::names::same_name;
-use crate::run::run_filter;
-use ixp_lang::{Bgp, Config, Fate, Item, Pipe, Route, Use, Verdict};
+use crate::run::run_filter_by;
+use crate::search::{pipe_between, pipe_from};
+use ixp_lang::{Bgp, Config, Fate, Item, Route, Use, Verdict};
 use ixp_num::{Items, Name};
 use ixp_roa::RoaTable;
 use std::alloc::Global;
@@ -30,93 +33,64 @@ pub fn session_named<'a>(items: &'a [Item], name: &Name) -> Option<&'a Bgp>
     None
 }
 
-/// The pipe that has the table as its peer.
-fn pipe_from<'a>(items: &'a [Item], table: &Name) -> Option<&'a Pipe>
-    ensures { option_copied result ≡ pipe_from (pipes_of (map item_view items.now)) table.now }
-{
-    'items: for item in items {
-        if let Item::Pipe(p) = item
-            && same_name(&p.peer, table)
-        {
-            return Some(p);
-        }
-    }
-    None
-}
-
-/// The pipe between a primary table and a peer.
-fn pipe_between<'a>(items: &'a [Item], primary: &Name, peer: &Name) -> Option<&'a Pipe>
-    ensures { option_copied result ≡ pipe_between (pipes_of (map item_view items.now)) primary.now peer.now }
-{
-    'items: for item in items {
-        if let Item::Pipe(p) = item
-            && same_name(&p.table, primary)
-            && same_name(&p.peer, peer)
-        {
-            return Some(p);
-        }
-    }
-    None
-}
-
 /// What a protocol lets through.
-fn through(
+fn through<'a>(
     alloc: Global,
-    c: &Config,
-    what: &Use,
+    index: &Index<'a>,
+    what: &'a Use,
     route: &Route,
     env: &Env<'_>,
 ) -> Result<Verdict, EvalFault>
-    ensures { Gives result (through (environment_of env.now) (config_view c.now) what.now route.now) }
+    ensures { Gives result (through (environment_of env.now) (items_of index.now) what.now route.now) }
 {
     match what {
         Use::All => Ok(Verdict::Accept(copied_route(alloc, route)?)),
         Use::Nothing => Ok(Verdict::Reject),
-        Use::Named(name) => run_filter(alloc, c, name, route, env),
+        Use::Named(name) => run_filter_by(alloc, index, name, route, env),
     }
 }
 
 /// What a session is sent of a route in the primary table.
 #[tactic(auto, using(crate::proofs::Going::bind_fails))]
-fn received(
+fn received<'a>(
     alloc: Global,
-    c: &Config,
+    index: &Index<'a>,
     primary: &Name,
-    receiver: &Bgp,
+    receiver: &'a Bgp,
     route: &Route,
     env: &Env<'_>,
 ) -> Result<Option<Route>, EvalFault>
-    ensures { Gives result (sent_through (environment_of env.now) (config_view c.now) primary.now receiver.now route.now) }
+    ensures { Gives result (sent_through (environment_of env.now) (items_of index.now) primary.now receiver.now route.now) }
 {
-    let Some(pipe) = pipe_between(c.items.as_slice(), primary, &receiver.table) else {
+    let Some(pipe) = pipe_between(index, primary, &receiver.table) else {
         return Ok(None);
     };
-    let Verdict::Accept(piped) = through(alloc, c, &pipe.export, route, env)? else {
+    let Verdict::Accept(piped) = through(alloc, index, &pipe.export, route, env)? else {
         return Ok(None);
     };
-    match through(alloc, c, &receiver.export, &piped, env)? {
+    match through(alloc, index, &receiver.export, &piped, env)? {
         Verdict::Accept(sent) => Ok(Some(sent)),
         Verdict::Reject => Ok(None),
     }
 }
 
 /// What each session but the sender is sent.
-fn sent_to(
+fn sent_to<'a>(
     alloc: Global,
-    c: &Config,
+    index: &Index<'a>,
     sender: &Name,
     primary: &Name,
     route: &Route,
     env: &Env<'_>,
 ) -> Result<Items<(Name, Option<Route>)>, EvalFault>
-    ensures { Gives result (sent_to (environment_of env.now) (config_view c.now) sender.now primary.now (bgp_sessions (config_view c.now)) route.now) }
+    ensures { Gives result (sent_to (environment_of env.now) (items_of index.now) sender.now primary.now (bgp_sessions (items_of index.now)) route.now) }
 {
     let mut sent = Items::new(alloc);
-    'items: for item in c.items.as_slice() {
+    'items: for item in index.items {
         if let Item::Bgp(b) = item
             && !same_name(&b.name, sender)
         {
-            let got = received(alloc, c, primary, b, route, env)?;
+            let got = received(alloc, index, primary, b, route, env)?;
             sent.push((b.name.copied(alloc)?, got))?;
         }
     }
@@ -125,23 +99,23 @@ fn sent_to(
 
 /// From a session's table on.
 #[tactic(auto, using(crate::proofs::Going::bind_fails))]
-fn from_table(
+fn from_table<'a>(
     alloc: Global,
-    c: &Config,
-    sender: &Bgp,
+    index: &Index<'a>,
+    sender: &'a Bgp,
     own: Route,
     env: &Env<'_>,
 ) -> Result<Fate, EvalFault>
-    ensures { Gives result (to_primary (environment_of env.now) (config_view c.now) sender.now (pipe_from (pipes_of (config_view c.now)) sender.now.table) own) }
+    ensures { Gives result (to_primary (environment_of env.now) (items_of index.now) sender.now (pipe_from (pipes_of (items_of index.now)) sender.now.table) own) }
 {
-    let Some(pipe) = pipe_from(c.items.as_slice(), &sender.table) else {
+    let Some(pipe) = pipe_from(index, &sender.table) else {
         return Ok(Fate {
             table: Some(own),
             passed: false,
             sent: Items::new(alloc),
         });
     };
-    match through(alloc, c, &pipe.import, &own, env)? {
+    match through(alloc, index, &pipe.import, &own, env)? {
         Verdict::Reject => Ok(Fate {
             table: Some(own),
             passed: false,
@@ -150,7 +124,7 @@ fn from_table(
         Verdict::Accept(passed) => Ok(Fate {
             table: Some(own),
             passed: true,
-            sent: sent_to(alloc, c, &sender.name, &pipe.table, &passed, env)?,
+            sent: sent_to(alloc, index, &sender.name, &pipe.table, &passed, env)?,
         }),
     }
 }
@@ -172,16 +146,17 @@ pub fn walk(
             name: session.copied(alloc)?,
         });
     };
+    let index = Index::of(alloc, c.items.as_slice())?;
     let env = Env {
         from: sender.neighbor,
         roas,
     };
-    match through(alloc, c, &sender.import, route, &env)? {
+    match through(alloc, &index, &sender.import, route, &env)? {
         Verdict::Reject => Ok(Fate {
             table: None,
             passed: false,
             sent: Items::new(alloc),
         }),
-        Verdict::Accept(own) => from_table(alloc, c, sender, own, &env),
+        Verdict::Accept(own) => from_table(alloc, &index, sender, own, &env),
     }
 }

@@ -1,5 +1,5 @@
 -- The fields of a ROA's line, and the lines of routes.
-use Rattle.std.proofs.Common.{◌≡◌, ◌≢◌, ◌<◌, ◌≤◌, ◌⊎◌, inl, inr, ℕ, true, false, ◌&&◌, nat_le, min, List, [], ◌∷◌, ◌++◌, codes, length, drop, Result, Ok, Err, sym, ap, ◌∙◌, subst, arith, append-nil}
+use Rattle.std.proofs.Common.{◌≡◌, ◌≢◌, ℕ, true, false, ◌&&◌, nat_le, List, [], ◌∷◌, ◌++◌, codes, length, drop, Result, Ok, Err, sym, ap, ◌∙◌, subst, arith}
 use Rattle.std.specs.List.{AllByRecursion, list_all}
 use Rattle.std.proofs.lemmas.Bool.{and_parts}
 use Rattle.ixp_num.specs.declared.prefix.Prefix.{Prefix}
@@ -12,7 +12,7 @@ use Rattle.ixp_num.specs.Answers.{AsnAnswer, PrefixAnswer}
 use Rattle.ixp_num.proofs.NoBlanks.{prefix_no_blank}
 use Rattle.ixp_num.proofs.OneAnswer.{one_asn, one_prefix}
 use Rattle.ixp_trial.specs.Cutting.{IsFree, IsCut, AreFields}
-use Rattle.ixp_trial.specs.Readings.{IsMax, SayRoa}
+use Rattle.ixp_trial.specs.Readings.{SayRoa}
 use Rattle.ixp_trial.specs.Trials.{IsRoaLine, IsRouteLine}
 use Rattle.ixp_trial.proofs.Cuts.{one_cut, not_marked}
 

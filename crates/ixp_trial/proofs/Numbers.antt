@@ -1,5 +1,5 @@
 -- Decimal numbers of at most so much.
-use Rattle.std.proofs.Common.{◌≡◌, ◌<◌, ◌≤◌, ◌^◌, ◌⊎◌, inl, inr, ℕ, min, List, [], ◌∷◌, ◌++◌, length, Result, Ok, Err, sym, ap, ◌∙◌, subst, arith, append-nil}
+use Rattle.std.proofs.Common.{◌≡◌, ◌<◌, ◌≤◌, ◌^◌, ◌⊎◌, inl, inr, ℕ, min, List, [], ◌++◌, length, Result, Ok, Err, sym, ap, ◌∙◌, subst, arith, append-nil}
 use Rattle.ixp_num.specs.Forms.{IsDigit, IsDecimal}
 use Rattle.ixp_num.specs.Reading.{cap, number_at}
 use Rattle.ixp_num.proofs.Digits.{Ends, Numbered, number_again, number_split, number_missing}

@@ -1,8 +1,5 @@
 -- The parts of the line of a route that a session brings.
-use Rattle.std.proofs.Common.{◌≡◌, ◌<◌, ◌≤◌, ◌^◌, ℕ, true, false, ◌&&◌, List, [], ◌∷◌, ◌++◌, codes, length, drop, nat_le, sym, ap, ◌∙◌, subst, arith}
-use Rattle.std.specs.List.{list_all}
-use Rattle.std.proofs.lemmas.Bool.{and_parts}
-use Rattle.ixp_num.specs.Forms.{IsDecimal}
+use Rattle.std.proofs.Common.{◌≡◌, ◌<◌, ◌≤◌, ◌^◌, ℕ, true, false, List, ◌∷◌, ◌++◌, codes, drop, sym, ap, ◌∙◌, subst, arith}
 use Rattle.ixp_registry.specs.Alphabets.{is_handle}
 use Rattle.ixp_trial.specs.Cutting.{IsFree, IsCut, AreParts}
 use Rattle.ixp_trial.specs.Readings.{IsUpTo}

@@ -1,30 +1,10 @@
 -- The tables that lines of ROAs make.
-use Rattle.std.proofs.Common.{◌≡◌, ◌⊎◌, inl, inr, ℕ, Bool, true, false, ◌&&◌, ◌==◌, if◌then◌else◌, List, [], ◌∷◌, ◌++◌, Option, Some, None, Bor, nat_cmp, bytes_eq, append_assoc, refl, sym, ap, ◌∙◌}
+use Rattle.std.proofs.Common.{◌≡◌, ◌⊎◌, inl, inr, ℕ, true, false, if◌then◌else◌, List, [], ◌∷◌, ◌++◌, Some, None, append_assoc, refl, sym, ap, ◌∙◌}
 use Rattle.std.proofs.lemmas.Bool.{cases_Bool, cond-true, cond-false}
-use Rattle.std.specs.Cmp.Lexicographic.{same_text}
-use lib.Pointwise.{pointwise}
 use Rattle.ixp_num.specs.declared.roa.Roa.{Roa}
 use Rattle.ixp_lang.specs.Meaning.{same_name, find_named, roas_named, roas_or_none}
-use Rattle.std.specs.BTreeMap.{BTreeMap, UpdatesBy, get_by}
-use Rattle.std.specs.declared.cmp.Ordering.{Ordering}
-use Rattle.std.specs.Cmp.Lexicographic.{slice_cmp}
-use Rattle.std.specs.Global.{Vec}
-use Rattle.std.proofs.lemmas.Map.Text.{btree_map_updates_str}
-use Rattle.ixp_trial.specs.Tables.{rows_named, rows_in, rows_or_none, with_table, AreTables}
-
--- `==` of two lists of bytes is equality of names
-and_if : (a b : Bool) → (a && b) ≡ (if a then b else false)
-and_if true b = refl
-and_if false b = refl
-
-pub same_bytes : (m n : List ℕ) → pointwise (λ a b. a == b) m n ≡ same_name m n
-same_bytes [] [] = refl
-same_bytes [] (b ∷ n) = refl
-same_bytes (a ∷ m) [] = refl
-same_bytes (a ∷ m) (b ∷ n) = and_if (a == b) (pointwise (λ a b. a == b) m n) ∙ ap (λ x. if a == b then x else false) (same_bytes m n)
-
-same_is : (m n : List ℕ) → same_name m n ≡ true → m ≡ n
-same_is m n e = same_text m n (sym (same_bytes m n ∙ e))
+use Rattle.ixp_groups.proofs.Grouping.{same_is}
+use Rattle.ixp_trial.specs.Tables.{rows_named, with_table, AreTables}
 
 -- the first of the name in a list that is one longer
 found_more : {A : Type 0} (ts : List (List ℕ × A)) (x : List ℕ × A) (n : List ℕ) (found : A) → find_named ts n ≡ Some found → find_named (ts ++ x ∷ []) n ≡ Some found
@@ -40,26 +20,6 @@ missing_more (t ∷ ts) x n e = by_case (cases_Bool (same_name t.0 n)) (missing_
   by_case : (same_name t.0 n ≡ true) ⊎ (same_name t.0 n ≡ false) → (find_named ts n ≡ None → find_named (ts ++ x ∷ []) n ≡ (if same_name x.0 n then Some x.1 else None)) → find_named (t ∷ (ts ++ x ∷ [])) n ≡ (if same_name x.0 n then Some x.1 else None)
   by_case (inl is) more = absurd (let some = sym (cond-true (same_name t.0 n) (Some t.1) (find_named ts n) is) ∙ e in cc)
   by_case (inr other) more = cond-false (same_name t.0 n) _ _ other ∙ more (sym (cond-false (same_name t.0 n) _ _ other) ∙ e)
-
--- the ROAs of each name, after those of one name were set
-abbrev by_names : Bor (List ℕ) → Bor (List ℕ) → Ordering
-by_names x y = slice_cmp nat_cmp x.now y.now
-
-pub rows_after : (m n : BTreeMap (Bor (List ℕ)) (Vec Roa)) (name : List ℕ) (rows : Option (Vec Roa)) → UpdatesBy by_names (λ key. slice_cmp nat_cmp name key.now) m n rows
-    → (q : List ℕ) → rows_in n q ≡ (if same_name name q then rows_or_none rows else rows_in m q)
-rows_after m n name rows h q = ap rows_or_none (btree_map_updates_str name m n rows h q) ∙ by_test (bytes_eq name q) ∙ ap (λ b. if b then rows_or_none rows else rows_in m q) (same_bytes name q) where
-  by_test : (b : Bool) → rows_or_none (if b then rows else get_by (λ key. slice_cmp nat_cmp q key.now) m) ≡ (if b then rows_or_none rows else rows_in m q)
-  by_test true = refl
-  by_test false = refl
-
--- a ROA more at the end of those of one name
-pub row_added : (old less new : List ℕ → List Roa) (name : List ℕ) (rows more : List Roa) (roa : Roa) → rows ≡ old name → more ≡ rows ++ roa ∷ []
-    → ((q : List ℕ) → less q ≡ (if same_name name q then [] else old q)) → ((q : List ℕ) → new q ≡ (if same_name name q then more else less q))
-    → (q : List ℕ) → new q ≡ (if same_name name q then old q ++ roa ∷ [] else old q)
-row_added old less new name rows more roa had added taken put q = by_case (cases_Bool (same_name name q)) where
-  by_case : (same_name name q ≡ true) ⊎ (same_name name q ≡ false) → new q ≡ (if same_name name q then old q ++ roa ∷ [] else old q)
-  by_case (inl is) = put q ∙ cond-true (same_name name q) _ _ is ∙ added ∙ ap (λ r. r ++ roa ∷ []) (had ∙ ap old (same_is name q is)) ∙ sym (cond-true (same_name name q) _ _ is)
-  by_case (inr other) = put q ∙ cond-false (same_name name q) _ _ other ∙ taken q ∙ cond-false (same_name name q) _ _ other ∙ sym (cond-false (same_name name q) _ _ other)
 
 -- one line more is grouped
 pub line_grouped : (old new : List ℕ → List Roa) (p : List ℕ × Roa) (left roas : List (List ℕ × Roa)) → ((q : List ℕ) → old q ++ rows_named q (p ∷ left) ≡ rows_named q roas)

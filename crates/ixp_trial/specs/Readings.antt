@@ -1,5 +1,5 @@
 -- What the readers of single lines answer.
-use Rattle.std.specs.Prelude.{◌≡◌, ◌≤◌, ℕ, List, Option, Some, None, Result, Ok, Err}
+use Rattle.std.specs.Prelude.{◌≤◌, ℕ, List, Option, Some, None, Result, Ok, Err}
 use Rattle.ixp_num.specs.declared.roa.Roa.{Roa}
 use Rattle.ixp_num.specs.Forms.{IsDecimal}
 use Rattle.ixp_num.specs.Answers.{AsnAnswer, PrefixAnswer}

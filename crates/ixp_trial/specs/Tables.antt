@@ -1,10 +1,5 @@
 -- The tables that lines of ROAs make.
-use Rattle.std.specs.Prelude.{◌≡◌, ℕ, List, [], ◌∷◌, ◌++◌, Option, Some, None, if◌then◌else◌}
-use Rattle.std.specs.BTreeMap.{BTreeMap, get_by}
-use Rattle.std.specs.Cmp.Lexicographic.{slice_cmp}
-use Rattle.std.specs.Global.{Vec}
-use Rattle.std.specs.Ordering.{nat_cmp}
-use Rattle.std.proofs.Common.{Bor}
+use Rattle.std.specs.Prelude.{◌≡◌, ℕ, List, [], ◌∷◌, ◌++◌, if◌then◌else◌}
 use Rattle.ixp_num.specs.declared.roa.Roa.{Roa}
 use Rattle.ixp_lang.specs.Meaning.{same_name, roas_named}
 
@@ -21,11 +16,3 @@ AreTables roas tables = (n : List ℕ) → roas_named tables n ≡ rows_named n 
 abbrev pub with_table : List (List ℕ × List Roa) → List ℕ → List Roa → List (List ℕ × List Roa)
 with_table tables n [] = tables
 with_table tables n (roa ∷ roas) = tables ++ (n, roa ∷ roas) ∷ []
-
--- the ROAs that an ordered map in memory has under a name
-abbrev pub rows_or_none : Option (Vec Roa) → List Roa
-rows_or_none None = []
-rows_or_none (Some rows) = rows.items
-
-abbrev pub rows_in : BTreeMap (Bor (List ℕ)) (Vec Roa) → List ℕ → List Roa
-rows_in groups n = rows_or_none (get_by (λ key. slice_cmp nat_cmp n key.now) groups)

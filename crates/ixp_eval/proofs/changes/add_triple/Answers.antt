@@ -1,5 +1,4 @@
-use Rattle.std.proofs.Common.{◌≡◌, ◌∙◌, sym, ◌&&◌, ◌==◌, false, true}
-use Rattle.std.specs.List.{list_any}
+use Rattle.std.proofs.Common.{◌∙◌, sym}
 use Rattle.ixp_eval.proofs.Adding.{triple_added, triple_kept}
 use Rattle.ixp_eval.proofs.changes.add_triple.Goals as goal
 

@@ -1,4 +1,3 @@
-use Rattle.std.proofs.Common.{sym, ◌∙◌}
 use Rattle.std.proofs.lemmas.Result.{err_from_is_err_and}
 use Rattle.ixp_eval.specs.Views.{body_view, environment_of, waits, end_of}
 use Rattle.ixp_eval.proofs.Ending.{over_fails, over_ends, goes_keeps, goes_below}

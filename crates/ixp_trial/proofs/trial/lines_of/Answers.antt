@@ -1,4 +1,4 @@
-use Rattle.std.proofs.Common.{◌∙◌, ◌+◌, arith, subst, sym}
+use Rattle.std.proofs.Common.{◌+◌, arith, subst, sym}
 use Rattle.ixp_trial.specs.Lines.{lines}
 use Rattle.ixp_trial.specs.Trials.{Behind, IsRoaLine}
 use Rattle.ixp_trial.proofs.Standing.{one_more}
