@@ -1,10 +1,10 @@
 -- What covers a net covers all that stands between both.
-use Rattle.std.proofs.Common.{◌≡◌, ◌≤◌, ◌<◌, ◌+◌, ◌-◌, ◌*◌, ◌/◌, ◌%◌, ◌^◌, ◌⊎◌, inl, inr, ℕ, Bool, true, false, cond, List, ◌∷◌, ◌&&◌, ◌==◌, nat_le, refl, sym, ap, ◌∙◌, subst, arith, eq-eqb}
+use Rattle.std.proofs.Common.{◌≡◌, ◌≤◌, ◌<◌, ◌+◌, ◌-◌, ◌*◌, ◌/◌, ◌%◌, ◌^◌, ◌⊎◌, inl, inr, ℕ, true, cond, ◌&&◌, ◌==◌, nat_le, refl, sym, ap, ◌∙◌, subst, arith, eq-eqb}
 use Rattle.std.specs.declared.cmp.Ordering.{Ordering}
 use Rattle.std.specs.declared.cmp.Ordering.TheVariants.{Less, Equal, Greater}
 use Rattle.std.specs.Ordering.{nat_cmp, ordering_then}
 use Rattle.std.specs.Cmp.{ranked}
-use Rattle.std.proofs.Math.Nat.{mul-mod_left, le_trans}
+use Rattle.std.proofs.Math.Nat.{mul-mod_left}
 use Rattle.std.proofs.lemmas.Bool.{and_parts, and_from, eqb-true, leb-true, le-leb, cases_lt}
 use Rattle.std.proofs.lemmas.Nat.{div-add-mod', mod_below, pow_pos, pow-add, le-div, div_below}
 use Rattle.ixp_num.specs.AddressForms.{version_of}

@@ -1,21 +1,20 @@
 -- Rows in order, their links, and what is known on the way up.
-use Rattle.std.proofs.Common.{◌≡◌, ◌≢◌, ◌≤◌, ◌<◌, ◌+◌, ◌-◌, ◌⊎◌, inl, inr, ℕ, zero, suc, Bool, true, false, cond, List, [], ◌∷◌, ◌&&◌, ◌||◌, ◌==◌, nat_le, not, length, get_or, refl, sym, ap, ◌∙◌, subst, arith}
+use Rattle.std.proofs.Common.{◌≡◌, ◌≤◌, ◌<◌, ◌+◌, ◌⊎◌, inl, inr, ℕ, zero, suc, Bool, true, false, cond, List, [], ◌∷◌, ◌&&◌, ◌||◌, ◌==◌, nat_le, not, length, get_or, refl, sym, ap, ◌∙◌, subst, arith}
 use Rattle.std.specs.declared.cmp.Ordering.TheVariants.{Less}
-use Rattle.std.specs.List.{All, AllByRecursion, list_any}
+use Rattle.std.specs.List.{AllByRecursion, list_any}
 use Rattle.std.specs.List.Sorted.{IsPartitionedBy, IsPartitionPoint}
-use Rattle.std.proofs.lemmas.Bool.{and_parts, cases_lt, both_ways, not-true}
+use Rattle.std.proofs.lemmas.Bool.{and_parts, cases_lt, both_ways}
 use Rattle.std.proofs.lemmas.List.{get_or_default}
 use Rattle.std.proofs.lemmas.List.Folds.{list_any_at, list_any_none}
 use Rattle.ixp_num.specs.Prefixes.{covers}
 use Rattle.ixp_num.specs.Roas.{is_covered, is_matched, validity}
 use Rattle.ixp_num.specs.declared.prefix.Prefix.{Prefix}
 use Rattle.ixp_num.specs.declared.roa.Roa.{Roa}
-use Rattle.ixp_num.specs.declared.roa.Validity.{Validity}
 use Rattle.ixp_num.specs.declared.roa.Validity.TheVariants.{Valid, Invalid, Unknown}
 use Rattle.ixp_sorted.specs.Keys.{roa_key}
 use Rattle.ixp_tables.specs.Tables.{Ascends, order}
 use Rattle.ixp_roa.specs.Climbs.{AreLinked, IsPlace, NoneFrom, StandsAt, is_match, is_upto}
-use Rattle.ixp_roa.proofs.Between.{IsBefore, between, rows_before, upto_back, upto_before, upto_covering}
+use Rattle.ixp_roa.proofs.Between.{IsBefore, between, rows_before, upto_back, upto_covering}
 
 -- rows at places
 

@@ -3,3 +3,4 @@ pub mod CsvRows
 pub mod Between
 pub mod Climbing
 pub mod SameRows
+pub mod CsvTexts

@@ -1,5 +1,5 @@
 //! A table of ROAs.
-use crate::csv_text::{listed, rows_of};
+use crate::csv_text::listed;
 use crate::fault::RoaFault;
 use crate::index::Index;
 use ixp_num::{Asn, Items, Prefix, Roa, Validity};
@@ -52,10 +52,7 @@ impl RoaTable {
     pub fn from_csv(alloc: Global, t: &[u8]) -> Result<Sorted<Roa>, RoaFault>
         ensures { CsvAnswer t.now result }
     {
-        match rows_of(alloc, t) {
-            Ok(rows) => listed(alloc, rows.as_slice(), MOST),
-            Err(_) => Err(RoaFault::NoMemory),
-        }
+        listed(alloc, t, MOST)
     }
 
     /// What the ROAs say of a route to the prefix with the origin. It takes no memory.

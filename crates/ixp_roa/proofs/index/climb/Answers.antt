@@ -1,5 +1,4 @@
-use Rattle.std.proofs.Common.{◌≡◌, ◌<◌, ◌-◌, ◌||◌, suc, cond, length, slice_index, sym, ap, subst, ◌∙◌, arith}
-use Rattle.ixp_num.specs.Prefixes.{covers}
+use Rattle.std.proofs.Common.{◌≡◌, ◌-◌, ◌||◌, cond, slice_index, sym, ap, subst, ◌∙◌, arith}
 use Rattle.ixp_num.specs.declared.roa.Validity.TheVariants.{Invalid, Unknown}
 use Rattle.ixp_roa.specs.Climbs.{StandsAt}
 use Rattle.ixp_roa.proofs.Climbing.{IsUpTo, ends, goes_on}

@@ -1,4 +1,4 @@
-use Rattle.std.proofs.Common.{◌≡◌, ◌<◌, ◌-◌, suc, false, length, slice_index, sym, subst, ◌∙◌, arith}
+use Rattle.std.proofs.Common.{◌≡◌, ◌-◌, false, slice_index, sym, subst, ◌∙◌, arith}
 use Rattle.ixp_num.specs.Prefixes.{covers}
 use Rattle.ixp_num.specs.declared.roa.Roa.{Roa}
 use Rattle.ixp_roa.specs.Climbs.{StandsAt}

@@ -1,5 +1,5 @@
-use Rattle.std.proofs.Common.{◌≡◌, sym, ap, ◌∙◌, subst}
-use Rattle.std.specs.List.{Contains, list_any}
+use Rattle.std.proofs.Common.{sym, ap, ◌∙◌}
+use Rattle.std.specs.List.{list_any}
 use Rattle.ixp_roa.proofs.SameRows.{same_any}
 use Rattle.ixp_roa.proofs.table.RoaTable.new.Goals as goal
 
