@@ -8,8 +8,10 @@
 mod asns;
 mod fault;
 mod items;
+mod laws;
 mod lines;
 mod lists;
 
 pub use fault::ListFault;
+pub use laws::one_answer;
 pub use lists::{read_bogon_ranges, read_bogons, read_list, read_origins, read_transit_free};
