@@ -78,7 +78,7 @@ fn links_of(alloc: Global, rows: &[Roa]) -> Result<Vec<usize>, AllocError>
     requires { Ascends roa_key rows.now }
     ensures { IfOk result (λ links. AreLinked rows.now links.items × (length links.items ≡ length rows.now)) }
 {
-    let mut links = Vec::new(alloc);
+    let mut links = Vec::with_capacity(alloc, rows.len())?;
     'rows: for row in rows {
         let link = upto_cover(rows, links.as_slice(), &row.prefix, links.len());
         links.push(link)?;
@@ -100,7 +100,7 @@ fn climb(rows: &[Roa], links: &[usize], net: &Prefix, origin: Asn) -> Validity
         if is_match(roa, net, origin) {
             return Validity::Valid;
         }
-        covered = covered | roa.prefix.covers(net);
+        covered |= roa.prefix.covers(net);
         at = links[at - 1];
     }
     if covered {
