@@ -16,3 +16,4 @@ pub mod Parting
 pub mod Searching
 pub mod SortedBlocks
 pub mod Within
+pub mod Standing

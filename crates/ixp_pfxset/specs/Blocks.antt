@@ -1,7 +1,7 @@
 -- Which prefixes a list of rows allows, and the patterns of its merged set.
-use Rattle.std.specs.Prelude.{◌≡◌, ◌≤◌, ℕ, Bool, true, false, List, ◌&&◌, ◌==◌, nat_le}
+use Rattle.std.specs.Prelude.{◌≡◌, ◌≤◌, ℕ, Bool, true, false, List, ◌&&◌, nat_le}
 use Rattle.std.specs.List.{list_any}
-use Rattle.ixp_num.specs.Families.{bits_of, same_family}
+use Rattle.ixp_num.specs.Families.{bits_of}
 use Rattle.ixp_num.specs.Prefixes.{same_prefix, covers, IsParent}
 use Rattle.ixp_num.specs.declared.pattern.Pattern.{Pattern}
 use Rattle.ixp_num.specs.declared.prefix.Prefix.{Prefix}

@@ -1,5 +1,5 @@
 -- What the plain computation of the merged set asks of a list of new prefixes.
-use Rattle.std.specs.Prelude.{◌≡◌, ◌≤◌, ℕ, Bool, true, ◌&&◌, nat_lt, List}
+use Rattle.std.specs.Prelude.{◌≡◌, ◌≤◌, ℕ, Bool, true, false, ◌&&◌, nat_lt, List, Option, Some, None}
 use Rattle.std.specs.List.{Contains, list_any}
 use Rattle.ixp_num.specs.Prefixes.{covers, IsParent}
 use Rattle.ixp_num.specs.declared.pattern.Pattern.{Pattern}
@@ -8,6 +8,11 @@ use Rattle.ixp_num.specs.declared.prefix.Prefix.{Prefix}
 -- a shorter prefix of the list covers this one
 abbrev pub is_within : List Prefix → Prefix → Bool
 is_within list q = list_any (λ p. nat_lt p.len q.len && covers p q) list
+
+-- the other prefix, if there is one, is shorter and covers this one
+abbrev pub is_under : Option Prefix → Prefix → Bool
+is_under None q = false
+is_under (Some p) q = nat_lt p.len q.len && covers p q
 
 -- the list has all prefixes of length `l` that lie in `n`
 abbrev pub Fills : List Prefix → ℕ → Prefix → Type 0

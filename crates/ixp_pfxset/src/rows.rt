@@ -4,7 +4,7 @@ ghost use Rattle.std.specs.List.{Contains, filter};
 ghost use Rattle.std.specs.List.Sorted.{IsPermutation, IsSorted};
 ghost use Rattle.ixp_num.specs.declared.prefix.Prefix.{Prefix};
 ghost use Rattle.ixp_pfxset.specs.Blocks.{IsNew};
-ghost use Rattle.ixp_pfxset.specs.Plain.{is_within};
+ghost use Rattle.ixp_pfxset.specs.Plain.{is_under, is_within};
 
 use crate::derived::equal_prefixes;
 use crate::mode::Mode;
@@ -41,30 +41,31 @@ fn sorted_rows(alloc: Global, rows: &[Prefix], high: u8) -> Result<Vec<Prefix>, 
     Ok(short)
 }
 
-/// Whether a shorter prefix of the sorted list covers this one.
-fn is_within(list: &[Prefix], q: &Prefix) -> bool
-    requires { IsSorted ⟦<Prefix as Ord>⟧.cmp list.now }
-    ensures { result ≡ is_within list.now q.now }
+/// Whether the other prefix, if there is one, is shorter and covers this one.
+fn is_under(last: &Option<Prefix>, q: &Prefix) -> bool
+    ensures { result ≡ is_under last.now q.now }
 {
-    let mut n = *q;
-    while let Some(p) = n.parent() {
-        if has_prefix(list, &p) {
-            return true;
-        }
-        n = p;
+    match last {
+        Some(p) => p.len < q.len && p.covers(q),
+        None => false,
     }
-    false
 }
 
-/// The prefixes of the sorted list that no shorter one covers, in the same order.
+/// The prefixes of the sorted list that no shorter one covers, in the same order. What covers a prefix stands before it, and all
+/// between both lie in it; so the last one that was taken is the one to ask.
 fn outermost(alloc: Global, list: &[Prefix]) -> Result<Vec<Prefix>, AllocError>
     requires { IsSorted ⟦<Prefix as Ord>⟧.cmp list.now }
     ensures { IfOk result (λ outer. outer.items ≡ filter (λ r. not (is_within list.now r)) list.now) }
 {
-    list.iter()
-        .copied()
-        .filter(|r| !is_within(list, r))
-        .collect(alloc)
+    let mut outer = Vec::new(alloc);
+    let mut last = None;
+    for r in list {
+        if !is_under(&last, r) {
+            outer.push(*r)?;
+            last = Some(*r);
+        }
+    }
+    Ok(outer)
 }
 
 /// The new prefixes, all of which are rows, sorted.

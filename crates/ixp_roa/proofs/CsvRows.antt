@@ -1,5 +1,5 @@
 -- Rows of ROAs, one after the other.
-use Rattle.std.proofs.Common.{◌≡◌, ℕ, zero, suc, codes, Bool, false, ◌+◌, ◌<◌, List, [], ◌∷◌, ◌++◌, length, take, drop, map, get_or, Some, None, Result, Ok, Err, refl, sym, ap, ◌∙◌, subst, arith}
+use Rattle.std.proofs.Common.{◌≡◌, ℕ, suc, codes, Bool, false, List, [], ◌∷◌, ◌++◌, length, Some, None, Result, Ok, Err, refl, ap, ◌∙◌, subst}
 use Rattle.std.specs.Str.{bytes_eq}
 use Rattle.csv.specs.Records.{field_at}
 use Rattle.ixp_num.specs.declared.roa.Roa.{Roa}
@@ -49,20 +49,6 @@ pub row_without_asn : (row : List (List ℕ)) → None ≡ field_at row 0 → Ro
 unfolding field_at
 row_without_asn [] none = refl
 row_without_asn (x ∷ more) none = absurd (let h : ⊥ = cc in h)
-
--- the items before one, the item, and those behind it
-pub mapped_parts : {A B : Type 0} (f : A → B) (xs : List A) (i : ℕ) (y : A) → i < length xs → y ≡ get_or xs i y → map f xs ≡ map f (take i xs) ++ f y ∷ map f (drop (suc i) xs)
-mapped_parts f [] i y in_range is = absurd (let h : ⊥ = omega arith in h)
-mapped_parts f (x ∷ xs) zero y in_range is = ap (λ z. f z ∷ map f xs) (sym is)
-mapped_parts f (x ∷ xs) (suc i) y in_range is = ap (λ zs. f x ∷ zs) (mapped_parts f xs i y (omega arith) is)
-
-more : {A B : Type 0} (f : A → B) (xs : List A) (i : ℕ) (y : A) → i < length xs → y ≡ get_or xs i y → map f (take (suc i) xs) ≡ map f (take i xs) ++ f y ∷ []
-more f [] i y in_range is = absurd (let h : ⊥ = omega arith in h)
-more f (x ∷ xs) zero y in_range is = ap (λ z. f z ∷ []) (sym is)
-more f (x ∷ xs) (suc i) y in_range is = ap (λ zs. f x ∷ zs) (more f xs i y (omega arith) is)
-
-pub mapped_more : {A B : Type 0} (f : A → B) (xs : List A) (i : ℕ) (y : A) → i < length xs → y ≡ get_or xs i y → map f (take (i + 1) xs) ≡ map f (take i xs) ++ f y ∷ []
-mapped_more f xs i y in_range is = let e : i + 1 ≡ suc i = omega arith in ap (λ n. map f (take n xs)) e ∙ more f xs i y in_range is
 
 pub no_name : (row : List (List ℕ)) → None ≡ field_at row 0 → false ≡ is_header row
 unfolding field_at

@@ -1,2 +1,6 @@
 pub mod CsvFields
 pub mod CsvRows
+pub mod Between
+pub mod Climbing
+pub mod SameRows
+pub mod CsvTexts

@@ -62,13 +62,6 @@ MisfitIn rows skipped why n =
     (before : List Roa) × (good : List (List (List ℕ))) × (row : List (List ℕ)) × (after : List (List (List ℕ)))
     × (rows ≡ good ++ row ∷ after) × AreRoas good before × RowAnswer row (Err why) × (n ≡ skipped + length good + 1)
 
-abbrev pub AllRows : List (List (List ℕ)) → ℕ → Result (Vec Roa) RoaFault → Type 0
-AllRows rows skipped (Ok rs) = AreRoas rows rs.items
-AllRows rows skipped (Err (fault.Row n)) = MisfitIn rows skipped misfit.Form n
-AllRows rows skipped (Err (fault.MaxLength n)) = MisfitIn rows skipped misfit.MaxLength n
-AllRows rows skipped (Err (fault.TooMany have)) = ⊥
-AllRows rows skipped (Err fault.NoMemory) = Unit {0}
-
 -- a first row that begins with `ASN` is a header
 abbrev pub is_header : List (List ℕ) → Bool
 is_header [] = false
@@ -102,10 +95,34 @@ RowsAnswer most rows (Err (fault.MaxLength n)) = FirstMisfit rows misfit.MaxLeng
 RowsAnswer most rows (Err (fault.TooMany have)) = (all : List Roa) × AreRoas (under_header rows) all × OrderedAnswer most all (Err (fault.TooMany have))
 RowsAnswer most rows (Err fault.NoMemory) = Unit {0}
 
--- The rows of the text are such (RFC 4180, as the csv crate reads it), with at most a million ROAs.
+-- The rows of the text are such (RFC 4180, as the csv crate reads it).
+abbrev pub ListAnswer : ℕ → List ℕ → Result (List Roa) RoaFault → Type 0
+ListAnswer most t (Err fault.NoMemory) = Unit {0}
+ListAnswer most t (Ok rs) = (rows : List (List (List ℕ))) × AreRecords default_config state.StartRecord (strip_bom t) rows × RowsAnswer most rows (Ok rs)
+ListAnswer most t (Err (fault.Row n)) = (rows : List (List (List ℕ))) × AreRecords default_config state.StartRecord (strip_bom t) rows × RowsAnswer most rows (Err (fault.Row n))
+ListAnswer most t (Err (fault.MaxLength n)) = (rows : List (List (List ℕ))) × AreRecords default_config state.StartRecord (strip_bom t) rows × RowsAnswer most rows (Err (fault.MaxLength n))
+ListAnswer most t (Err (fault.TooMany n)) = (rows : List (List (List ℕ))) × AreRecords default_config state.StartRecord (strip_bom t) rows × RowsAnswer most rows (Err (fault.TooMany n))
+
+-- with at most a million ROAs
 abbrev pub CsvAnswer : List ℕ → Result (List Roa) RoaFault → Type 0
-CsvAnswer t (Err fault.NoMemory) = Unit {0}
-CsvAnswer t (Ok rs) = (rows : List (List (List ℕ))) × AreRecords default_config state.StartRecord (strip_bom t) rows × RowsAnswer 1000000 rows (Ok rs)
-CsvAnswer t (Err (fault.Row n)) = (rows : List (List (List ℕ))) × AreRecords default_config state.StartRecord (strip_bom t) rows × RowsAnswer 1000000 rows (Err (fault.Row n))
-CsvAnswer t (Err (fault.MaxLength n)) = (rows : List (List (List ℕ))) × AreRecords default_config state.StartRecord (strip_bom t) rows × RowsAnswer 1000000 rows (Err (fault.MaxLength n))
-CsvAnswer t (Err (fault.TooMany n)) = (rows : List (List (List ℕ))) × AreRecords default_config state.StartRecord (strip_bom t) rows × RowsAnswer 1000000 rows (Err (fault.TooMany n))
+CsvAnswer t r = ListAnswer 1000000 t r
+
+-- the same before the ROAs are put in order and counted
+abbrev pub TextAnswer : List ℕ → Result (Vec Roa) RoaFault → Type 0
+TextAnswer t (Err fault.NoMemory) = Unit {0}
+TextAnswer t (Ok rs) = (rows : List (List (List ℕ))) × AreRecords default_config state.StartRecord (strip_bom t) rows × AreRoas (under_header rows) rs.items
+TextAnswer t (Err (fault.Row n)) = (rows : List (List (List ℕ))) × AreRecords default_config state.StartRecord (strip_bom t) rows × FirstMisfit rows misfit.Form n
+TextAnswer t (Err (fault.MaxLength n)) = (rows : List (List (List ℕ))) × AreRecords default_config state.StartRecord (strip_bom t) rows × FirstMisfit rows misfit.MaxLength n
+TextAnswer t (Err (fault.TooMany n)) = ⊥
+
+-- these ROAs behind so many rows of a header are all of the rows
+abbrev pub AreRead : List (List (List ℕ)) → ℕ → List Roa → Type 0
+AreRead rows before roas = AreRoas (under_header rows) roas × (before ≡ header_rows rows) × (before ≤ 1)
+
+-- one more row: the header and the ROAs with it, or the first misfit, whatever follows
+abbrev pub RowTaken : List (List (List ℕ)) → List (List ℕ) → List Roa → Result ℕ RoaFault → Type 0
+RowTaken rows row roas (Ok before) = AreRead (rows ++ row ∷ []) before roas
+RowTaken rows row roas (Err (fault.Row n)) = (rest : List (List (List ℕ))) → FirstMisfit (rows ++ row ∷ rest) misfit.Form n
+RowTaken rows row roas (Err (fault.MaxLength n)) = (rest : List (List (List ℕ))) → FirstMisfit (rows ++ row ∷ rest) misfit.MaxLength n
+RowTaken rows row roas (Err (fault.TooMany n)) = ⊥
+RowTaken rows row roas (Err fault.NoMemory) = Unit {0}

@@ -1,1 +1,2 @@
 pub mod CsvRoas
+pub mod Climbs

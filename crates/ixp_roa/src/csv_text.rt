@@ -1,33 +1,14 @@
 //! CSV texts of ROAs.
-ghost use Rattle.std.specs.Prelude.{◌≡◌, ◌≤◌, IfOk, map};
-ghost use Rattle.csv.specs.Reading.{AreRecords, default_config, strip_bom};
+ghost use Rattle.std.specs.Prelude.{◌≡◌, ◌≤◌, ◌==◌, ◌&&◌, ℕ, List};
 ghost use Rattle.csv.specs.Records.{fields_of};
-ghost use Rattle.csv.specs.declared.parser.State.TheVariants as st;
-ghost use Rattle.ixp_roa.specs.CsvRoas.{RowAnswer, is_header, under_header, header_rows, AllRows, OrderedAnswer, RowsAnswer};
+ghost use Rattle.ixp_roa.specs.CsvRoas.{RowAnswer, is_header, AreRead, RowTaken, TextAnswer, OrderedAnswer, ListAnswer};
 
 use crate::csv_rows::roa_in;
 use crate::fault::{Misfit, RoaFault};
-use csv::{ByteRecord, Error, ReaderBuilder};
+use csv::{ByteRecord, ReaderBuilder};
 use ixp_num::Roa;
 use ixp_sorted::Sorted;
 use std::alloc::Global;
-
-/// The rows of a text, which may differ in their number of fields. It fails for want of memory alone.
-pub(crate) fn rows_of(alloc: Global, t: &[u8]) -> Result<Vec<ByteRecord>, Error>
-    ensures { IfOk result (λ v. AreRecords default_config st.StartRecord (strip_bom t.now) (map fields_of v.items)) }
-{
-    let rdr = ReaderBuilder::new()
-        .has_headers(false)
-        .flexible(true)
-        .from_reader(alloc, t);
-    let mut rows = Vec::new(alloc);
-    for row in rdr.into_byte_records() {
-        if rows.push(row?).is_err() {
-            return Err(Error::out_of_memory());
-        }
-    }
-    Ok(rows)
-}
 
 /// The ROA of a row.
 #[tactic(auto, using(crate::proofs::CsvRows::row_fields, crate::proofs::CsvRows::row_short, crate::proofs::CsvRows::row_without_net, crate::proofs::CsvRows::row_without_asn))]
@@ -47,7 +28,7 @@ fn roa_of_row(row: &ByteRecord) -> Result<Roa, Misfit>
 }
 
 /// Whether a row begins with `ASN`.
-pub(crate) fn is_header(row: &ByteRecord) -> bool
+fn is_header(row: &ByteRecord) -> bool
     ensures { result ≡ is_header (fields_of row.now) }
 {
     match row.get(0) {
@@ -56,49 +37,55 @@ pub(crate) fn is_header(row: &ByteRecord) -> bool
     }
 }
 
-/// The ROAs of rows, in their order, behind so many rows of a header.
-pub(crate) fn roas_of(
-    alloc: Global,
-    rows: &[ByteRecord],
-    before: usize,
-) -> Result<Vec<Roa>, RoaFault>
-    requires { before ≤ 1 }
-    ensures { AllRows (map fields_of rows.now) before result }
+/// Whether a row behind so many others is a header.
+fn is_header_behind(count: usize, row: &ByteRecord) -> bool
+    ensures { result ≡ (count == 0 && is_header (fields_of row.now)) }
 {
+    count == 0 && is_header(row)
+}
+
+/// Reads one more row, behind so many rows of a header and those of the ROAs, and tells how many rows the header has now.
+fn take_row(roas: &mut Vec<Roa>, before: usize, row: &ByteRecord) -> Result<usize, RoaFault>
+    requires { before ≤ 1 }
+    ensures { (rows : List (List (List ℕ))) → AreRead rows before roas.old.items → RowTaken rows (fields_of row.now) roas.new.items result }
+{
+    if is_header_behind(before + roas.len(), row) {
+        return Ok(1);
+    }
+    match roa_of_row(row) {
+        Ok(roa) => match roas.push(roa) {
+            Ok(()) => Ok(before),
+            Err(_) => Err(RoaFault::NoMemory),
+        },
+        Err(Misfit::Form) => Err(RoaFault::Row {
+            n: before + roas.len() + 1,
+        }),
+        Err(Misfit::MaxLength) => Err(RoaFault::MaxLength {
+            n: before + roas.len() + 1,
+        }),
+    }
+}
+
+/// The ROAs of a text's rows, in their order. It holds one row at a time; the rows may differ in their number of fields.
+fn roas_of(alloc: Global, t: &[u8]) -> Result<Vec<Roa>, RoaFault>
+    ensures { TextAnswer t.now result }
+{
+    let rdr = ReaderBuilder::new()
+        .has_headers(false)
+        .flexible(true)
+        .from_reader(alloc, t);
     let mut roas = Vec::new(alloc);
-    'each: for row in rows {
-        match roa_of_row(row) {
-            Ok(roa) => match roas.push(roa) {
-                Ok(()) => {}
-                Err(_) => return Err(RoaFault::NoMemory),
+    let mut before = 0;
+    for row in rdr.into_byte_records() {
+        match row {
+            Ok(row) => match take_row(&mut roas, before, &row) {
+                Ok(now) => before = now,
+                Err(fault) => return Err(fault),
             },
-            Err(Misfit::Form) => return Err(RoaFault::Row {
-                n: before + roas.len() + 1,
-            }),
-            Err(Misfit::MaxLength) => return Err(RoaFault::MaxLength {
-                n: before + roas.len() + 1,
-            }),
+            Err(_) => return Err(RoaFault::NoMemory),
         }
     }
     Ok(roas)
-}
-
-/// The rows under the header, if there is one, and how many rows the header has.
-fn under_header(rows: &[ByteRecord]) -> (&[ByteRecord], usize)
-    ensures rows { map fields_of result.0.now ≡ under_header (map fields_of rows.now) }
-    ensures header { result.1 ≡ header_rows (map fields_of rows.now) }
-    ensures few { result.1 ≤ 1 }
-{
-    match rows.split_first() {
-        Some((first, rest)) => {
-            if is_header(first) {
-                (rest, 1)
-            } else {
-                (rows, 0)
-            }
-        }
-        None => (rows, 0),
-    }
 }
 
 /// The ROAs in order, if they aren't too many.
@@ -112,16 +99,11 @@ fn in_order(roas: Vec<Roa>, most: usize) -> Result<Sorted<Roa>, RoaFault>
     Ok(sorted)
 }
 
-/// The ROAs of rows, in order, of which at most so many may be distinct.
-pub(crate) fn listed(
-    alloc: Global,
-    rows: &[ByteRecord],
-    most: usize,
-) -> Result<Sorted<Roa>, RoaFault>
-    ensures { RowsAnswer most (map fields_of rows.now) result }
+/// The ROAs of a text, in order, of which at most so many may be distinct.
+pub(crate) fn listed(alloc: Global, t: &[u8], most: usize) -> Result<Sorted<Roa>, RoaFault>
+    ensures { ListAnswer most t.now result }
 {
-    let (rows, before) = under_header(rows);
-    match roas_of(alloc, rows, before) {
+    match roas_of(alloc, t) {
         Ok(roas) => in_order(roas, most),
         Err(fault) => Err(fault),
     }

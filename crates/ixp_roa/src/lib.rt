@@ -8,6 +8,7 @@
 mod csv_rows;
 mod csv_text;
 mod fault;
+mod index;
 mod rows;
 mod table;
 

@@ -1,6 +1,7 @@
 //! Which ROAs speak of a route.
 ghost use Rattle.std.specs.Prelude.{◌≡◌};
 ghost use Rattle.ixp_num.specs.Roas.{is_covered, is_matched, validity};
+ghost use Rattle.ixp_roa.specs.Climbs.{is_match};
 
 use ixp_num::{Asn, Prefix, Roa, Validity};
 
@@ -11,13 +12,18 @@ fn is_covered(rows: &[Roa], net: &Prefix) -> bool
     rows.iter().any(|r| r.prefix.covers(net))
 }
 
-/// Whether a ROA covers the prefix, allows its length and names its origin, which isn't AS 0.
+/// Whether the ROA covers the prefix, allows its length and names its origin, which isn't AS 0.
+pub(crate) fn is_match(r: &Roa, net: &Prefix, origin: Asn) -> bool
+    ensures { result ≡ is_match r.now net.now origin.0 }
+{
+    r.prefix.covers(net) && net.len <= r.max && r.asn.0 == origin.0 && origin.0 != 0
+}
+
+/// Whether such a ROA is there.
 fn is_matched(rows: &[Roa], net: &Prefix, origin: Asn) -> bool
     ensures { result ≡ is_matched rows.now net.now origin.0 }
 {
-    rows.iter().any(|r| {
-        r.prefix.covers(net) && net.len <= r.max && r.asn.0 == origin.0 && origin.0 != 0
-    })
+    rows.iter().any(|r| is_match(r, net, origin))
 }
 
 /// What the ROAs say of a route to the prefix with the origin. It takes no memory.

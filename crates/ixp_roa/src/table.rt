@@ -1,7 +1,7 @@
 //! A table of ROAs.
-use crate::csv_text::{listed, rows_of};
+use crate::csv_text::listed;
 use crate::fault::RoaFault;
-use crate::rows::validity;
+use crate::index::Index;
 use ixp_num::{Asn, Items, Prefix, Roa, Validity};
 use ixp_sorted::Sorted;
 use std::alloc::{AllocError, Global};
@@ -10,19 +10,25 @@ use std::marker::Model;
 /// The most distinct ROAs of a text.
 const MOST: usize = 1_000_000;
 
-/// A table of ROAs, as a filter's `roa_check` asks it.
+/// A table of ROAs, as a filter's `roa_check` asks it. Beside the list that it was made of it holds an index by prefix, so that
+/// an answer takes a search for the net and then a step for each ROA on the way up from it.
 #[derive(Debug, Drop)]
 pub struct RoaTable {
     rows: Items<Roa>,
+    index: Index,
 }
 
 impl Model for RoaTable {
-    ghost use Rattle.std.specs.Prelude.{List};
+    ghost use Rattle.std.specs.Prelude.{◌≡◌, Bool, List};
+    ghost use Rattle.std.specs.List.{list_any};
     ghost use Rattle.ixp_num.specs.declared.roa.Roa.{Roa};
 
     ghost Value = { List Roa };
 
     ghost view = { λ t. t.rows };
+
+    // a test that some ROA passes has one answer for both
+    ghost invariant = { λ t. (test : Roa → Bool) → list_any test t.rows ≡ list_any test t.index };
 }
 
 impl RoaTable {
@@ -34,8 +40,10 @@ impl RoaTable {
     pub fn new(alloc: Global, rows: &[Roa]) -> Result<RoaTable, AllocError>
         ensures { IfOk result (λ t. t ≡ rows.now) }
     {
+        let sorted = Sorted::from_items(Vec::from_slice(alloc, rows)?);
+        let index = Index::new(alloc, sorted)?;
         let rows = Items::from_slice(alloc, rows)?;
-        Ok(RoaTable { rows })
+        Ok(RoaTable { rows, index })
     }
 
     /// The ROAs of a CSV text, in ascending order and each once. Its columns are an AS number with or without
@@ -44,16 +52,13 @@ impl RoaTable {
     pub fn from_csv(alloc: Global, t: &[u8]) -> Result<Sorted<Roa>, RoaFault>
         ensures { CsvAnswer t.now result }
     {
-        match rows_of(alloc, t) {
-            Ok(rows) => listed(alloc, rows.as_slice(), MOST),
-            Err(_) => Err(RoaFault::NoMemory),
-        }
+        listed(alloc, t, MOST)
     }
 
     /// What the ROAs say of a route to the prefix with the origin. It takes no memory.
     pub fn validity(&self, net: &Prefix, origin: Asn) -> Validity
         ensures { result ≡ validity self.now net.now origin.0 }
     {
-        validity(self.rows.as_slice(), net, origin)
+        self.index.validity(net, origin)
     }
 }
