@@ -1,5 +1,5 @@
 -- Edits of members' lists and rules, and of public lists: the tests of each, and what it makes of the table.
-use Rattle.std.specs.Prelude.{ℕ, suc, ◌+◌, Bool, List, [], ◌∷◌, length, true, not, ◌&&◌, nat_le, option_map}
+use Rattle.std.specs.Prelude.{ℕ, suc, ◌+◌, Bool, List, [], ◌∷◌, length, true, not, ◌&&◌, nat_le, nat_lt, option_map}
 use Rattle.std.specs.List.{list_all, position}
 use Rattle.ixp_num.specs.declared.asn.Asn.{Asn}
 use Rattle.ixp_num.specs.declared.family.Family.{Family}
@@ -18,6 +18,8 @@ use Rattle.ixp_registry.specs.declared.registry.Registry.{Registry}
 use Rattle.ixp_registry.specs.Keys.{member_key, irr_key, origins_key, rules_key}
 use Rattle.ixp_registry.specs.Weight.{weight}
 use Rattle.ixp_registry.specs.Words.{is_action_of, pattern_has_bounds, range_ascends, roa_has_bounds}
+use Rattle.ixp_edits.specs.declared.edit.Edit.{Edit}
+use Rattle.ixp_edits.specs.declared.edit.Edit.TheVariants.{SetRules}
 use Rattle.ixp_edits.specs.declared.edit.NewRule.{NewRule}
 use Rattle.ixp_edits.specs.declared.edit.PublicList.{PublicList}
 use Rattle.ixp_edits.specs.declared.edit.PublicList.TheVariants.{Bogons, BogonAs, Transit, Roas}
@@ -83,3 +85,8 @@ put_public_tests (Bogons xs) = refused (not (list_all pattern_has_bounds xs)) (B
 put_public_tests (BogonAs xs) = refused (not (list_all range_ascends xs)) (BadRule 0) ∷ beyond BogonAsRows (length xs) 10000 ∷ []
 put_public_tests (Transit xs) = beyond TransitRows (length xs) 10000 ∷ []
 put_public_tests (Roas xs) = refused (not (list_all roa_has_bounds xs)) (BadRule 0) ∷ beyond RoaRows (length xs) 1000000 ∷ []
+
+-- what the type of a request keeps: the rules of a list can be counted in 32 bits
+abbrev pub has_few_rules : Edit → Bool
+has_few_rules (SetRules member rules) = nat_lt (length rules) 4294967295
+has_few_rules e = true
