@@ -1,6 +1,5 @@
 -- What a question is answered.
-use Rattle.std.specs.Prelude.{◌≡◌, ℕ, List, [], ◌∷◌, ◌==◌, Option, Some, None, filter, if◌then◌else◌}
-use Rattle.ixp_num.specs.declared.family.Family.{Family}
+use Rattle.std.specs.Prelude.{◌≡◌, ℕ, List, [], ◌∷◌, ◌==◌, Option, Some, filter, if◌then◌else◌}
 use Rattle.ixp_tables.specs.Tables.{find, if_there}
 use Rattle.ixp_registry.specs.declared.kind.Kind.TheVariants.{Members, Vlans}
 use Rattle.ixp_registry.specs.declared.members.Member.{Member}

@@ -1,6 +1,5 @@
 -- A test that says nothing is passed by.
-use Rattle.std.proofs.Common.{◌≡◌, ℕ, Bool, true, false, not, ◌&&◌, ◌==◌, List, [], ◌∷◌, Option, Some, None, find as first_with, refl, sym, ap, ◌∙◌}
-use Rattle.std.specs.Option.{is_some}
+use Rattle.std.proofs.Common.{◌≡◌, ℕ, Bool, true, false, not, ◌&&◌, ◌==◌, [], ◌∷◌, Some, find as first_with, refl, ap, ◌∙◌}
 use Rattle.ixp_tables.specs.Tables.{find}
 use Rattle.ixp_registry.specs.declared.kind.Kind.TheVariants.{Members, Interfaces}
 use Rattle.ixp_registry.specs.declared.members.Member.{Member}

@@ -1,5 +1,5 @@
 -- The last tests of a new router, which its first ones are put before.
-use Rattle.std.specs.Prelude.{ℕ, List, [], ◌∷◌, length, not, ◌&&◌, find as first_with}
+use Rattle.std.specs.Prelude.{[], ◌∷◌, length, not, ◌&&◌, find as first_with}
 use Rattle.std.specs.Option.{is_some}
 use Rattle.ixp_num.specs.Families.{same_family}
 use Rattle.ixp_tables.specs.Tables.{find}

@@ -1,4 +1,4 @@
-use Rattle.std.proofs.Common.{◌≡◌, ◌<◌, ◌+◌, ◌^◌, ◌++◌, ℕ, length}
+use Rattle.std.proofs.Common.{◌≡◌, ◌<◌, ◌+◌, ◌^◌, ◌++◌, length}
 use Rattle.ixp_edits.specs.Lists.{placed}
 use Rattle.ixp_effects.proofs.lists.placed.Given as goal
 

@@ -1,4 +1,4 @@
-use Rattle.std.proofs.Common.{◌≡◌, ◌==◌, ◌++◌, ℕ, length, filter}
+use Rattle.std.proofs.Common.{◌≡◌, ◌==◌, ◌++◌, length, filter}
 use Rattle.ixp_machine.proofs.asking.contacts_of.Given as goal
 
 abbrev pub invariant-each : goal.invariant-each

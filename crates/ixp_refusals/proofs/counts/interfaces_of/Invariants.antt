@@ -1,4 +1,4 @@
-use Rattle.std.proofs.Common.{◌≡◌, ◌≤◌, ◌+◌, ℕ, length}
+use Rattle.std.proofs.Common.{◌≡◌, ◌≤◌, ◌+◌, length}
 use Rattle.ixp_edits.specs.Interfaces.{interfaces_of}
 use Rattle.ixp_refusals.proofs.counts.interfaces_of.Given as goal
 

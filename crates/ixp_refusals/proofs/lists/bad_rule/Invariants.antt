@@ -1,4 +1,4 @@
-use Rattle.std.proofs.Common.{◌≡◌, ◌<◌, ◌+◌, ◌^◌, ℕ, length, option_map}
+use Rattle.std.proofs.Common.{◌≡◌, ◌<◌, ◌+◌, ◌^◌, length, option_map}
 use Rattle.std.specs.List.{position}
 use Rattle.ixp_registry.specs.declared.refusal.Refusal.TheVariants.{BadRule}
 use Rattle.ixp_edits.specs.Lists.{is_bad}

@@ -1,4 +1,4 @@
-use Rattle.std.proofs.Common.{◌≡◌, ap, ◌∙◌}
+use Rattle.std.proofs.Common.{ap, ◌∙◌}
 use Rattle.ixp_registry.specs.declared.router.Router.{Router}
 use Rattle.ixp_edits.specs.Tests.{first_of}
 use Rattle.ixp_refusals.specs.Columns.{placed_tests}

@@ -1,4 +1,4 @@
-use Rattle.std.proofs.Common.{◌≡◌, ◌∷◌, [], not, ◌&&◌, sym, ap, ◌∙◌}
+use Rattle.std.proofs.Common.{◌∷◌, not, ◌&&◌, sym, ◌∙◌}
 use Rattle.std.specs.Option.{is_some}
 use Rattle.ixp_num.specs.Families.{same_family}
 use Rattle.ixp_registry.specs.declared.refusal.Refusal.TheVariants.{AsnReserved, Family, Outside}
