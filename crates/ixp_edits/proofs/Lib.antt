@@ -1,0 +1,14 @@
+pub mod Passing
+pub mod Numbers
+pub mod Frames
+pub mod MemberEdits
+pub mod ContactEdits
+pub mod KeyEdits
+pub mod PortEdits
+pub mod VlanEdits
+pub mod Addresses
+pub mod InterfaceEdits
+pub mod AddressEdits
+pub mod RouterEdits
+pub mod ListEdits
+pub mod AllEdits

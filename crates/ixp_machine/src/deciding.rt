@@ -1,0 +1,75 @@
+//! What is decided of a request.
+ghost use Rattle.std.specs.Prelude.{◌≡◌, IfOk};
+ghost use Rattle.ixp_steps.specs.States.{ValidState};
+ghost use Rattle.ixp_steps.specs.Steps.{kept_says, verdict, verdict_of};
+ghost use Rattle.ixp_machine.specs.Decisions.{Says};
+
+use crate::decision::{Decision, Reply};
+use crate::kept::{floor_of, kept_number};
+use crate::kinds::{kind_of, same_kind};
+use crate::rights::{has_right, right_of};
+use crate::subjects::{is_about, key_of};
+use ixp_members::rights;
+use ixp_refusals::refusal;
+use ixp_registry::{Owner, Refusal};
+use ixp_steps::{Entry, KeptNumber, State};
+use std::alloc::{AllocError, Global};
+
+/// Of a request whose number is kept.
+fn repeated(kept: &KeptNumber, entry: &Entry) -> Decision
+    ensures { Says entry.now.number (kept_says entry.now.edit kept.now) result }
+{
+    if same_kind(kept.kind, kind_of(&entry.edit)) && is_about(&kept.subject, &entry.edit) {
+        return Decision::Repeated(Reply {
+            number: entry.number,
+        });
+    }
+    Decision::Refused(Refusal::KeyReused {
+        kind: kept.kind,
+        subject: key_of(&kept.subject),
+    })
+}
+
+/// Of an owner's request.
+fn decide_of(
+    alloc: Global,
+    state: &State,
+    owner: Owner,
+    entry: &Entry,
+) -> Result<Decision, AllocError>
+    requires { ValidState state.now }
+    ensures { IfOk result (Says entry.now.number (verdict_of state.now owner entry.now.number entry.now.edit)) }
+{
+    let right = right_of(&entry.edit);
+    if !has_right(owner, right) {
+        return Ok(Decision::Refused(Refusal::Denied { right }));
+    }
+    if let Some(kept) = kept_number(&state.kept, &owner, entry.number) {
+        return Ok(repeated(kept, entry));
+    }
+    let floor = floor_of(&state.kept, &owner);
+    if entry.number < floor {
+        return Ok(Decision::Refused(Refusal::KeyOld { floor }));
+    }
+    match refusal(
+        alloc,
+        &state.registry,
+        state.weight,
+        state.prefixes,
+        &entry.edit,
+    )? {
+        Some(refusal) => Ok(Decision::Refused(refusal)),
+        None => Ok(Decision::Accepted),
+    }
+}
+
+/// What is decided of a request. It changes nothing; its only error is want of memory.
+pub fn decide(alloc: Global, state: &State, entry: &Entry) -> Result<Decision, AllocError>
+    requires { ValidState state.now }
+    ensures { IfOk result (Says entry.now.number (verdict state.now entry.now)) }
+{
+    match rights(&state.registry, entry.secret.as_slice()) {
+        Some(owner) => decide_of(alloc, state, owner, entry),
+        None => Ok(Decision::Refused(Refusal::NoKey)),
+    }
+}

@@ -1,0 +1,33 @@
+//! Questions and their answers.
+use ixp_num::{Family, Items};
+use ixp_registry::{Contact, Member, MemberRule, Refusal};
+
+/// What is asked.
+#[derive(Clone, Copy, Debug)]
+pub enum Query {
+    /// The member with the number.
+    Member(u32),
+    /// The member's contacts.
+    Contacts(u32),
+    /// The member's rules.
+    Rules(u32),
+    /// The use of the VLAN's addresses of the family.
+    Use(u32, Family),
+}
+
+/// What is answered.
+#[derive(Debug, Drop)]
+pub enum Answer {
+    Member(Member),
+    Contacts(Items<Contact>),
+    Rules(Items<MemberRule>),
+    Text(Items<u8>),
+}
+
+/// Why nothing is answered.
+#[derive(Debug, Drop)]
+pub enum AskFault {
+    /// X0, X1 or X4.
+    Refused(Refusal),
+    NoMemory,
+}
