@@ -61,7 +61,7 @@ abbrev pub IsStray : Registry → Router → SessionRoute → Cause → Type 0
 IsStray registry router route cause =
     ((session registry router route.interface ≡ None) × (cause ≡ record { code = E5; place = Line route.line }))
     ⊎ ((sender : Session) × (session registry router route.interface ≡ Some sender) × (route.route.net.family ≢ router.family)
-        × (cause ≡ record { code = E2; place = Line route.line }))
+    × (cause ≡ record { code = E2; place = Line route.line }))
 
 -- why the router that is asked for has none
 abbrev pub IsAstray : Registry → SessionRoute → Cause → Type 0

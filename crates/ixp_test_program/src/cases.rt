@@ -151,8 +151,7 @@ pub const SIX_FATES: &str =
 20=address 1 10.1.0.1 0 1 1 0 -^address 1 2001:db8:1::1 0 1 1 1 -^;21=address 2 10.1.0.2 0 1 1 0 -^address 2 2001:db8:1::2 0 1 0 0 -^;25=router rs6 1 6 2001:db8:1::fe 4200000000 10.1.0.254 32 48 0 2001:db8:1::66 0^;26=prefix 1 2001:db8:100::/40^;27=origin 1 6 65001^;32=end 32^@route rs6 1 203.0.113.0/24 65001 10.1.0.1 - -^@2@@ixpm: bad input E2 35^";
 
 /// What is refused, and for which of several reasons.
-pub const NO_FATES: &str =
-    "@@2@@ixpm: bad input E1 33^
+pub const NO_FATES: &str = "@@2@@ixpm: bad input E1 33^
 32=@route rs1 1 203.0.113.0/24 65001 10.1.0.1 - -^@2@@ixpm: bad input U1 32^
 27=origin 9 4 65001^@x^@2@@ixpm: bad input U4 Q2 27^
 @route RS1 1 203.0.113.0/24 65001 10.1.0.1 - -^@2@@ixpm: bad input E1 33^

@@ -38,5 +38,5 @@ SessionRouteAnswer ls first (Err (fault.BadRoute n c)) =
     ((ls ≡ []) × (n ≡ first) × (c ≡ code.Text))
     ⊎ ((line : List ℕ) × (after : List (List ℕ)) × (ls ≡ line ∷ after) × SaysNoRoute line c × (n ≡ first))
     ⊎ ((line second router : List ℕ) × (interface : ℕ) × (route : Route) × (after : List (List ℕ))
-        × (ls ≡ line ∷ second ∷ after) × SaysRoute line router interface route × (n ≡ first + 1) × (c ≡ code.Text))
+    × (ls ≡ line ∷ second ∷ after) × SaysRoute line router interface route × (n ≡ first + 1) × (c ≡ code.Text))
 SessionRouteAnswer ls first (Err fault.NoMemory) = Unit {0}

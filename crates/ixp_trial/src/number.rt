@@ -10,13 +10,7 @@ pub(crate) fn number_up_to(field: &[u8], most: u64) -> Option<u64>
     ensures { MatchOption result ((n : ℕ) → ¬ (IsUpTo most field.now n)) (λ n. IsUpTo most field.now n) }
 {
     match number_of(field) {
-        Ok((number, [])) => {
-            if number <= most {
-                Some(number)
-            } else {
-                None
-            }
-        }
+        Ok((number, [])) => { if number <= most { Some(number) } else { None } }
         Ok((_, [_, ..])) => None,
         Err(_) => None,
     }
