@@ -1,5 +1,5 @@
 -- An accepted request is made.
-use Rattle.std.proofs.Common.{◌≡◌, ℕ, ◌+◌, true, List, Some, None, refl, sym, ap, ◌∙◌}
+use Rattle.std.proofs.Common.{◌≡◌, true, Some, None, refl, sym, ap, ◌∙◌}
 use Rattle.ixp_tables.specs.Tables.{if_there}
 use Rattle.ixp_registry.specs.Alphabets.{is_handle}
 use Rattle.ixp_registry.specs.declared.members.Owner.{Owner}
@@ -9,18 +9,16 @@ use Rattle.ixp_registry.specs.declared.registry.Registry.{Registry}
 use Rattle.ixp_members.specs.Owners.{owner_of}
 use Rattle.ixp_edits.specs.declared.edit.Edit.{Edit}
 use Rattle.ixp_edits.specs.declared.edit.Edit.TheVariants.{AddRouter}
-use Rattle.ixp_edits.specs.Edits.{next, refusal}
-use Rattle.ixp_edits.specs.Lists.{prefixes_in}
+use Rattle.ixp_edits.specs.Edits.{refusal}
 use Rattle.ixp_edits.specs.Routers.{new_router, add_router_tests}
 use Rattle.ixp_edits.proofs.Numbers.{handle_is_name}
 use Rattle.ixp_edits.proofs.Passing.{no_refusal, holds}
 use Rattle.ixp_effects.specs.Names.{has_name}
-use Rattle.ixp_steps.specs.declared.kept.KeptOwner.{KeptOwner}
 use Rattle.ixp_steps.specs.declared.state.Entry.{Entry}
 use Rattle.ixp_steps.specs.declared.state.State.{State}
-use Rattle.ixp_steps.specs.Kept.{kept_of, noted_for}
-use Rattle.ixp_steps.specs.Steps.{Accepted, Refused, verdict, verdict_of, kept_entry, weight_of, step}
-use Rattle.ixp_steps.proofs.Accepting.{accepted_parts, accepted_step}
+use Rattle.ixp_steps.specs.Kept.{kept_of}
+use Rattle.ixp_steps.specs.Steps.{Accepted, Refused, verdict, verdict_of}
+use Rattle.ixp_steps.proofs.Accepting.{accepted_parts}
 
 -- the handle of a new router is a name, where the edit isn't refused
 pub named : (r : Registry) (e : Edit) → refusal r e ≡ None → has_name e ≡ true
@@ -39,18 +37,3 @@ owners s e owner found h = sym (ap (λ o. if_there o (Refused NoKey) (λ owner. 
 
 pub unrefused : (s : State) (e : Entry) (owner : Owner) → owner_of s.registry e.secret ≡ Some owner → verdict s e ≡ Accepted → refusal s.registry e.edit ≡ None
 unrefused s e owner found h = (accepted_parts s.registry (kept_of s.kept owner) owner e.number e.edit (owners s e owner found h)).lawful
-
-abbrev made : Registry → List KeptOwner → ℕ → ℕ → ℕ → State
-made r kept accepted weight prefixes = record { registry = r; kept = kept; accepted = accepted; weight = weight; prefixes = prefixes }
-
-pub stepped : (s : State) (e : Entry) (owner : Owner) → owner_of s.registry e.secret ≡ Some owner → verdict s e ≡ Accepted → (t : State) → t.registry ≡ next s.registry e.edit → t.kept ≡ noted_for owner (kept_entry e (s.accepted + 1)) s.kept
-    → t.accepted ≡ s.accepted + 1 → t.weight ≡ weight_of (next s.registry e.edit) → t.prefixes ≡ prefixes_in (next s.registry e.edit).irr → t ≡ step s e
-stepped s e owner found h t registry kept accepted weight prefixes =
-    let r = next s.registry e.edit in
-    let ks = noted_for owner (kept_entry e (s.accepted + 1)) s.kept in
-    ap (λ x. made x t.kept t.accepted t.weight t.prefixes) registry
-    ∙ (ap (λ x. made r x t.accepted t.weight t.prefixes) kept
-    ∙ (ap (λ x. made r ks x t.weight t.prefixes) accepted
-    ∙ (ap (λ x. made r ks (s.accepted + 1) x t.prefixes) weight
-    ∙ (ap (λ x. made r ks (s.accepted + 1) (weight_of r) x) prefixes
-    ∙ sym (accepted_step s owner e found (owners s e owner found h))))))
