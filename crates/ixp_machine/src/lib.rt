@@ -1,19 +1,22 @@
-//! The machine of edits: what is decided of a request, after how many accepted ones it stands, and what questions are
-//! answered.
+//! The machine of edits: what is decided of a request, the state after one that is accepted, after how many accepted ones
+//! one stands, and what questions are answered.
 //!
-//! `specs/Steps.antt` of ixp_steps says what is decided of a request, `specs/Questions.antt` here what a question is answered.
-//! Nothing here changes a state.
+//! `specs/Steps.antt` of ixp_steps says what is decided of a request and which state comes after it, `specs/Questions.antt` here
+//! what a question is answered. [`apply`] alone changes a state, in place.
 #![tactic(auto)]
 
+mod applying;
 mod asking;
 mod deciding;
 mod decision;
+mod keeping;
 mod kept;
 mod kinds;
 mod question;
 mod rights;
 mod subjects;
 
+pub use applying::apply;
 pub use asking::ask;
 pub use deciding::decide;
 pub use decision::{Decision, Reply};

@@ -1,14 +1,16 @@
 //! What edits are about.
-ghost use Rattle.std.specs.Prelude.{◌≡◌};
+ghost use Rattle.std.specs.Prelude.{◌≡◌, true, IfOk};
+ghost use Rattle.ixp_effects.specs.Names.{has_name};
 ghost use Rattle.ixp_num.specs.AddressForms.{version_of};
 ghost use Rattle.ixp_steps.specs.declared.subject.Subject.TheVariants as form;
 ghost use Rattle.ixp_steps.specs.Subjects.{subject_of, same_subject, public_place, public_kind};
 ghost use Rattle.ixp_machine.specs.Decisions.{Names};
 
 use ixp_edits::{Edit, PublicList};
-use ixp_num::Family;
+use ixp_num::{Family, Name};
 use ixp_registry::{Handle, RowKey};
 use ixp_steps::{PublicKind, Subject};
+use std::alloc::{AllocError, Global};
 
 fn version_of(family: Family) -> u32
     ensures { result ≡ version_of family }
@@ -124,5 +126,47 @@ pub(crate) fn key_of(subject: &Subject) -> RowKey
         Subject::Pair(first, second) => RowKey::Pair(*first, *second),
         Subject::Handle(name) => RowKey::Handle(Handle::of(name)),
         Subject::Public(kind) => RowKey::Word(kind.word()),
+    }
+}
+
+/// What the edit is about.
+pub(crate) fn subject_of(alloc: Global, edit: &Edit) -> Result<Subject, AllocError>
+    requires { has_name edit.now ≡ true }
+    ensures { IfOk result (λ s. s ≡ subject_of edit.now) }
+{
+    match edit {
+        Edit::AddMember { number, .. } => Ok(Subject::Number(*number)),
+        Edit::RenameMember { member, .. } => Ok(Subject::Number(*member)),
+        Edit::MoveStatus { member, .. } => Ok(Subject::Number(*member)),
+        Edit::SetMacro { member, .. } => Ok(Subject::Number(*member)),
+        Edit::PutContact { member, place, .. } => Ok(Subject::Pair(*member, *place)),
+        Edit::DropContact { member, place } => Ok(Subject::Pair(*member, *place)),
+        Edit::AddKey { number, .. } => Ok(Subject::Number(*number)),
+        Edit::DropKey { key } => Ok(Subject::Number(*key)),
+        Edit::AddSwitch { number, .. } => Ok(Subject::Number(*number)),
+        Edit::DropSwitch { switch } => Ok(Subject::Number(*switch)),
+        Edit::AddPort { number, .. } => Ok(Subject::Number(*number)),
+        Edit::AssignPort { port, .. } => Ok(Subject::Number(*port)),
+        Edit::FreePort { port } => Ok(Subject::Number(*port)),
+        Edit::DropPort { port } => Ok(Subject::Number(*port)),
+        Edit::AddVlan { number, .. } => Ok(Subject::Number(*number)),
+        Edit::DropVlan { vlan } => Ok(Subject::Number(*vlan)),
+        Edit::AddInterface { number, .. } => Ok(Subject::Number(*number)),
+        Edit::SetAddress {
+            interface,
+            family,
+            ..
+        } => Ok(Subject::Pair(*interface, version_of(*family))),
+        Edit::DropInterface { interface } => Ok(Subject::Number(*interface)),
+        Edit::AddRouter { handle, .. } => {
+            let name = Name::new(alloc, handle.as_slice())?;
+            Ok(Subject::Handle(name))
+        }
+        Edit::SetRouter { handle, .. } => Ok(Subject::Handle(handle.copied(alloc)?)),
+        Edit::DropRouter { handle } => Ok(Subject::Handle(handle.copied(alloc)?)),
+        Edit::PutIrr { member, family, .. } => Ok(Subject::Pair(*member, version_of(*family))),
+        Edit::PutOrigins { member, family, .. } => Ok(Subject::Pair(*member, version_of(*family))),
+        Edit::SetRules { member, .. } => Ok(Subject::Number(*member)),
+        Edit::PutPublic { list } => Ok(Subject::Public(public_kind(list))),
     }
 }

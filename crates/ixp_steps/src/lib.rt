@@ -4,6 +4,7 @@
 //! valid, that a request acts once however often it is sent, and that a member's answers depend on what it sees alone.
 #![tactic(auto)]
 
+mod copies;
 mod kept;
 mod laws;
 mod state;
