@@ -1,9 +1,11 @@
+pub mod Complete
 pub mod Ending
 pub mod Evaluating
 pub mod Fating
 pub mod Generating
 pub mod Inputs
 pub mod LongInputs
+pub mod OneAnswer
 pub mod OneOutput
 pub mod Refusals
 pub mod Telling

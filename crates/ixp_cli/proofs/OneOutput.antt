@@ -14,7 +14,7 @@ use Rattle.ixp_trial.specs.Trials.{TrialAnswer}
 use Rattle.ixp_trial.proofs.OneTrial.{one_text, one_trial}
 use Rattle.ixp_cli.specs.Evals.{IsConfiguration, IsOutcome, outcome_text, Evaluates}
 
-one_configuration : (input : List ℕ) (c d : List ItemTree) → IsConfiguration input c → IsConfiguration input d → c ≡ d
+pub one_configuration : (input : List ℕ) (c d : List ItemTree) → IsConfiguration input c → IsConfiguration input d → c ≡ d
 one_configuration input c d (t, is, spells) (s, is', spells') = one_spelling t c d spells (subst (λ u. SpellsText u d) (one_text input s t is' is) spells')
 
 told : (t : Trial) → ◌≢◌ {A = Result Trial TrialFault} (Ok t) (Err trial_fault.NoMemory)
@@ -23,7 +23,7 @@ told t e = cc
 same_trial : (t u : Trial) → ◌≡◌ {A = Result Trial TrialFault} (Ok t) (Ok u) → t ≡ u
 same_trial t u e = cc
 
-one_route : (input : List ℕ) (t u : Trial) → TrialAnswer input (Ok t) → TrialAnswer input (Ok u) → t ≡ u
+pub one_route : (input : List ℕ) (t u : Trial) → TrialAnswer input (Ok t) → TrialAnswer input (Ok u) → t ≡ u
 one_route input t u is is' = same_trial t u (one_trial input (Ok t) (Ok u) (told t) (told u) is is')
 
 one_outcome : (c : List ItemTree) (t : Trial) (x y : List ℕ) → IsOutcome c t x → IsOutcome c t y → x ≡ y

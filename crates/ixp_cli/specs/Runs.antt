@@ -182,3 +182,11 @@ IsLongEnd (BadInput cause) = cause ≡ too_long
 IsLongEnd ReadFault = Unit {0}
 IsLongEnd NoMemory = Unit {0}
 IsLongEnd end = ⊥
+
+-- how a run ends whose input the command answers so: the output took the answer, or memory ran out, or a read or a write failed
+abbrev pub IsAnswered : List ℕ → Flow → Flow → Flow → Flow → End → Type 0
+IsAnswered answer input input' output output' Done = Takes output.bytes output'.bytes answer
+IsAnswered answer input input' output output' ReadFault = Rose input.faults input'.faults
+IsAnswered answer input input' output output' WriteFault = Rose output.faults output'.faults
+IsAnswered answer input input' output output' NoMemory = Unit {0}
+IsAnswered answer input input' output output' end = ⊥

@@ -194,6 +194,38 @@ fn routes_have_their_fates(rt: HostRuntime) -> Result<(), Fail> {
     Ok(())
 }
 
+/// What `fate` tells of a route at the exchange whose path has the member's number so often.
+fn long_path_outcome(alloc: Global, count: usize) -> Result<Vec<u8>, AllocError> {
+    let mut behind = String::new(alloc);
+    behind.push_str("route rs1 1 203.0.113.0/24 65001")?;
+    for _ in 1..count {
+        behind.push_str(",65001")?;
+    }
+    behind.push_str(" 10.1.0.1 - -^")?;
+    let input = exchange_with(alloc, "", behind.as_str())?;
+    outcome(
+        alloc,
+        &["fate"],
+        input,
+        Plan::smooth(alloc),
+        Plan::smooth(alloc),
+    )
+}
+
+#[test]
+fn paths_have_64_numbers_at_most(rt: HostRuntime) -> Result<(), Fail> {
+    let alloc = rt.alloc();
+    let passed = long_path_outcome(alloc, 64)?;
+    assert!(rt; passed.as_slice().ends_with(b" 10.1.0.1 - -^@"));
+    let stopped = long_path_outcome(alloc, 65)?;
+    assert!(rt;
+        stopped
+            .as_slice()
+            .ends_with(b" 10.1.0.1 - 65500:1101:5^stopped 5^@")
+    );
+    Ok(())
+}
+
 #[test]
 fn commands_answer(rt: HostRuntime) -> Result<(), Fail> {
     let tables = [
