@@ -25,7 +25,7 @@ use Rattle.ixp_cli.specs.Inputs.{dump_part}
 abbrev pub HasRegistry : List ℕ → Registry → Type 0
 HasRegistry input registry = RegistryAnswer (version_in (dump_part input)) (dump_part input) (Ok registry)
 
--- what the lines behind the dump say; they are numbered as lines of the input
+-- what the lines after the dump say; they are numbered as lines of the input
 abbrev pub HasRoute : List ℕ → Result SessionRoute TrialFault → Type 0
 HasRoute input = SessionRouteAnswer (lines (drop (length (dump_part input)) input)) (length (lines (dump_part input)) + 1)
 
@@ -48,7 +48,7 @@ pub record IsFate (registry : Registry) (route : SessionRoute) (output : List �
   pub is_text : output ≡ Gen registry router ++ fate_text (fate_of registry router route.route is_sent.sender) (Some router.asn)
   pub is_right : Right (Gen registry router) registry router
 
--- The input is the dump of a valid registry, and behind it the line of a route that a session of one of its routers brings.
+-- The input is the dump of a valid registry, followed by the line of a route that a session of one of its routers brings.
 pub record Fates (input output : List ℕ) : Type 0 where
   pub registry : Registry
   pub has_registry : HasRegistry input registry
@@ -67,11 +67,11 @@ IsStray registry router route cause =
 abbrev pub IsAstray : Registry → SessionRoute → Cause → Type 0
 IsAstray registry route cause = (router : Router) × (find router_key route.router registry.routers ≡ Some router) × IsStray registry router route cause
 
--- why the lines behind the dump say no route
+-- why the lines after the dump say no route
 abbrev pub IsNoRoute : List ℕ → Cause → Type 0
 IsNoRoute input cause = (fault : TrialFault) × (trial.cause_of fault ≡ Some cause) × HasRoute input (Err fault)
 
--- why an input is refused: for its dump, or else for what stands behind that, or else since the router has no fate for the route
+-- why an input is refused: for its dump, or else for what follows that, or else since the router has no fate for the route
 abbrev pub IsNoFate : List ℕ → Cause → Type 0
 IsNoFate input cause =
     IsNoDump (dump_part input) cause

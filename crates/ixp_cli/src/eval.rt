@@ -64,7 +64,7 @@ fn refusal(config: &Config, trial: &Trial) -> Option<TrialFault>
     }
 }
 
-/// How a fault of what stands behind a filter text, or behind a dump, is told.
+/// How a fault of what follows a filter text or a dump is told.
 pub(crate) fn refused(fault: TrialFault) -> NoAnswer
     ensures { result ≡ no_answer (cause_of fault) }
 {

@@ -31,7 +31,7 @@ use ixp_rows::Registry;
 use ixp_trial::{SessionRoute, read_session_route};
 use std::alloc::{AllocError, Global};
 
-/// The route whose line stands behind the dump.
+/// The route whose line follows the dump.
 #[tactic(auto, using(crate::proofs::Fating::no_route))]
 fn route_of(alloc: Global, input: &[u8]) -> Result<SessionRoute, NoAnswer>
     ensures route { IfOk result (λ route. HasRoute input.now (Ok route)) }

@@ -34,7 +34,7 @@ struct Parts<'a> {
     text: &'a [u8],
 }
 
-/// What stands behind the first word of a line, cut at its blanks.
+/// What follows the first word of a line, cut at its blanks.
 #[tactic(auto, using(crate::proofs::Parts::no_handle_cut, crate::proofs::Parts::no_number_cut, crate::proofs::Parts::parts_are))]
 fn parts_of(line: &[u8]) -> Option<Parts<'_>>
     ensures { MatchOption result ((handle number text : List ℕ) → ¬ (AreParts line.now handle number text)) (λ p. AreParts line.now p.handle.now p.number.now p.text.now) }
@@ -127,7 +127,7 @@ fn lines_count(text: &[u8]) -> u64
     count
 }
 
-/// Reads what stands behind a dump in an input: one line, `route <handle> <interface> <route>`. The number of that line is told by
+/// Reads what follows a dump in an input: one line, `route <handle> <interface> <route>`. The number of that line is told by
 /// the lines of what stands before it.
 pub fn read_session_route(
     alloc: Global,

@@ -14,7 +14,7 @@ const HELP: &str = "ixpm: the registry of an internet exchange, and its route se
                    route by that text
   ixpm generate R  reads the dump of a registry on standard input, and writes the configuration of the route server with
                    the handle R
-  ixpm fate        reads the dump of a registry on standard input, and behind it a line route R INTERFACE ROUTE, and writes
+  ixpm fate        reads the dump of a registry on standard input, and after it a line route R INTERFACE ROUTE, and writes
                    the configuration of the route server with the handle R, and the fate of the route that the interface's
                    session brings
   ixpm --help      writes this
@@ -26,7 +26,7 @@ error says why.
 
 const VERSION: &str = "ixpm 0.1.0\n";
 
-/// The words behind the program's name.
+/// The words after the program's name.
 fn words_of(rt: &HostRuntime) -> io::Result<Vec<String>> {
     let mut words = Vec::new(rt.alloc());
     for word in env::args(rt)?.skip(1) {
