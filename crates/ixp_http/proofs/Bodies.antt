@@ -1,22 +1,21 @@
 -- What is answered by what stands first.
-use Rattle.std.proofs.Common.{◌≡◌, ◌≤◌, ◌<◌, ◌+◌, ◌-◌, ℕ, Bool, true, false, if◌then◌else◌, nat_le, ◌⊎◌, Option, None, Some, MatchOption, Result, Ok, Err, List, [], ◌++◌, length, take, drop, refl, sym, ap, ◌∙◌, subst, arith, length-append, length-drop, append-nil}
+use Rattle.std.proofs.Common.{◌≡◌, ◌≤◌, ◌<◌, ◌+◌, ◌-◌, ℕ, Bool, true, false, if◌then◌else◌, nat_le, Option, None, Some, MatchOption, Result, List, [], ◌++◌, length, take, drop, refl, sym, ap, ◌∙◌, subst, arith, length-append, length-drop, append-nil}
 use mathlib.Core.Logic.{inl, inr}
 use Rattle.std.proofs.lemmas.List.{take-append-le, drop-append-le, drop-drop}
-use Rattle.std.proofs.lemmas.Grind.{common_steps}
 use Rattle.std.proofs.lemmas.Bool.Decides.{nat_tests}
 use Rattle.ixp_io.specs.Told.{Told, WhereTold, IsDone}
 use Rattle.httparse.specs.Grammar.{HasNoRequest}
 use Rattle.ixp_http.specs.declared.next.Next.{Next}
 use Rattle.ixp_http.specs.declared.next.HttpFault.{HttpFault}
 use Rattle.ixp_http.specs.declared.head.Start.{Start}
-use Rattle.ixp_http.specs.declared.head.Start.TheVariants.{Over, Between, Inside, Headed}
+use Rattle.ixp_http.specs.declared.head.Start.TheVariants.{Headed}
 use Rattle.ixp_http.specs.declared.fields.Need.{Need}
 use Rattle.ixp_http.specs.declared.fields.Need.TheVariants.{Refused, Body}
 use Rattle.ixp_http.specs.declared.request.Head.{Head}
 use Rattle.ixp_http.specs.declared.request.Request.{Request}
 use Rattle.ixp_http.specs.Heads.{start_of}
 use Rattle.ixp_http.specs.Fields.{need_of}
-use Rattle.ixp_http.specs.Messages.{Reading, message, closed, cut, bad, Begins, First, IsHead, request_of, with_need}
+use Rattle.ixp_http.specs.Messages.{Reading, message, cut, bad, Begins, First, IsHead, request_of, with_need}
 use Rattle.ixp_http.specs.Answers.{Together, Tells, IsHeaded, IsBodied}
 use Rattle.ixp_http.proofs.Together.{together_none, told_by, told_with, tells_after, where_any, where_by}
 

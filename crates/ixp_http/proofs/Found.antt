@@ -1,12 +1,12 @@
 -- What httparse's answers say of a whole head.
-use Rattle.std.proofs.Common.{◌≡◌, ◌≤◌, ◌<◌, ◌+◌, ℕ, Result, Ok, Err, IfOk, List, [], ◌++◌, length, drop, map, refl, sym, ap, ◌∙◌, subst, arith}
+use Rattle.std.proofs.Common.{◌≡◌, ◌≤◌, ◌<◌, ◌+◌, ℕ, Result, Ok, Err, IfOk, List, [], length, drop, map, sym, subst, arith}
 use Rattle.std.proofs.lemmas.List.{append-nil}
 use Rattle.httparse.specs.declared.spans.HeaderSpan.{HeaderSpan}
 use Rattle.httparse.specs.declared.spans.RequestSpans.{RequestSpans}
-use Rattle.httparse.specs.Grammar.{RequestHead, ReadsRequest, HasNoRequest}
+use Rattle.httparse.specs.Grammar.{ReadsRequest, HasNoRequest}
 use Rattle.httparse.specs.Spans.{IsRequestOf, RequestOverflows}
 use Rattle.ixp_http.specs.declared.request.Head.{Head}
-use Rattle.ixp_http.specs.Heads.{IsCut, line_feeds, line_limit}
+use Rattle.ixp_http.specs.Heads.{IsCut, line_feeds}
 use Rattle.ixp_http.specs.Messages.{IsHead, head_at, field_of}
 use Rattle.ixp_http.proofs.Grammar.{whole_head, few_fields}
 

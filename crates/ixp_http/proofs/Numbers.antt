@@ -1,5 +1,5 @@
 -- Numbers that are kept within a limit.
-use Rattle.std.proofs.Common.{◌≡◌, ℕ, ◌+◌, ◌-◌, ◌*◌, min, List, [], ◌∷◌, refl, sym, ap, ◌∙◌, arith}
+use Rattle.std.proofs.Common.{◌≡◌, ℕ, ◌+◌, ◌-◌, ◌*◌, min, List, [], ◌∷◌, sym, ap, ◌∙◌, arith}
 use Rattle.ixp_http.specs.Fields.{number_from}
 
 -- digits that follow a number that was cut down to a limit

@@ -1,15 +1,13 @@
 -- Bytes have one reading.
-use Rattle.std.proofs.Common.{◌≡◌, ℕ, ◌+◌, ◌⊎◌, List, [], ◌∷◌, ◌++◌, take, drop, refl, sym, ap, ◌∙◌, subst}
+use Rattle.std.proofs.Common.{◌≡◌, ℕ, ◌+◌, List, [], ◌∷◌, take, drop, refl, sym, ap, ◌∙◌, subst}
 use mathlib.Core.Logic.{inl, inr}
-use Rattle.httparse.specs.Grammar.{RequestHead, ReadsRequest}
 use Rattle.httparse.proofs.GrammarLemmas.{request_unique}
 use Rattle.ixp_http.specs.declared.head.Start.{Start}
 use Rattle.ixp_http.specs.declared.head.Start.TheVariants.{Over, Between, Inside, Headed}
 use Rattle.ixp_http.specs.declared.request.Head.{Head}
-use Rattle.ixp_http.specs.declared.request.Request.{Request}
 use Rattle.ixp_http.specs.Heads.{start_of}
 use Rattle.ixp_http.specs.Fields.{need_of}
-use Rattle.ixp_http.specs.Messages.{Reading, message, closed, cut, bad, Begins, First, IsEnd, IsHead, parts_of, with_need, Messages, OneReading}
+use Rattle.ixp_http.specs.Messages.{Reading, message, Begins, First, IsEnd, IsHead, parts_of, with_need, Messages, OneReading}
 
 head_unique : (bytes : List ℕ) (a b : Head) → IsHead bytes a → IsHead bytes b → a ≡ b
 head_unique bytes a b p q = p.2 ∙ ap parts_of (request_unique bytes p.0 q.0 [] [] p.1 q.1).0 ∙ sym q.2

@@ -1,12 +1,12 @@
 -- Where heads begin and end, and that more bytes don't change it.
-use Rattle.std.proofs.Common.{◌≡◌, ◌≤◌, ◌<◌, ◌+◌, ◌-◌, ℕ, suc, Bool, true, false, nat_lt, nat_le, if◌then◌else◌, ◌==◌, ◌&&◌, ◌||◌, Option, None, Some, option_map, List, [], ◌∷◌, ◌++◌, length, take, drop, refl, sym, ap, ◌∙◌, subst, arith, append_assoc}
+use Rattle.std.proofs.Common.{◌≡◌, ◌≤◌, ◌+◌, ◌-◌, ℕ, suc, Bool, true, false, nat_lt, nat_le, if◌then◌else◌, ◌==◌, ◌&&◌, ◌||◌, Option, None, Some, option_map, List, [], ◌∷◌, ◌++◌, length, take, drop, refl, sym, ap, ◌∙◌, subst, arith, append_assoc}
 use Rattle.std.specs.Prelude.{zero}
-use Rattle.std.proofs.lemmas.List.{take-append-drop, take-append-le, drop-append-le, take_all}
+use Rattle.std.proofs.lemmas.List.{append-nil, take-append-drop, take-append-le, drop-append-le}
 use Rattle.std.proofs.lemmas.Grind.{common_steps}
 use Rattle.std.proofs.lemmas.Bool.Decides.{nat_tests}
-use Rattle.ixp_io.specs.Told.{WhereTold}
+use Rattle.ixp_io.specs.Told.{WhereTold, IsDone}
 use Rattle.ixp_http.specs.declared.head.Start.{Start}
-use Rattle.ixp_http.specs.declared.head.Start.TheVariants.{Over, Between, Inside, Headed}
+use Rattle.ixp_http.specs.declared.head.Start.TheVariants.{Headed}
 use Rattle.ixp_http.specs.Heads.{begins_with, line_end, blank_len, end_after, one_more, head_len, line_feeds, line_limit, head_limit, start_lined, start_open, start_after, start_front, start_within, start_of, is_open, IsCut, IsPlaced}
 
 -- a length, from so many bytes before
@@ -318,3 +318,9 @@ pub settled : (b : Option (List ℕ)) (held : List ℕ) (s : Start) → s ≡ st
     → WhereTold b (λ rest. start_of (held ++ rest) ≡ s)
 settled None held s is closed = tt
 settled (Some rest) held s is closed = stays head_limit held rest (ap is_open (sym is) ∙ closed) ∙ sym is
+
+-- at the end of the input what is held is all
+pub settled_done : (b : Option (List ℕ)) (held : List ℕ) (s : Start) → s ≡ start_of held → IsDone b → WhereTold b (λ rest. start_of (held ++ rest) ≡ s)
+settled_done None held s is done = tt
+settled_done (Some rest) held s is done =
+    ap (λ (t : List ℕ). start_of (held ++ t)) done ∙ ap start_of (append-nil held) ∙ sym is

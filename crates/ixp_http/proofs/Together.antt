@@ -1,9 +1,6 @@
 -- Reads that follow each other, and what they answer.
-use Rattle.std.proofs.Common.{◌≡◌, ◌≤◌, ◌<◌, ◌+◌, ◌-◌, ℕ, Option, None, Some, Result, Ok, Err, List, [], ◌++◌, length, take, drop, nat_le, true, false, refl, sym, ap, ◌∙◌, append_assoc, subst, arith}
-use Rattle.std.proofs.lemmas.List.{append-nil, take-append-le, drop-append-le}
-use Rattle.std.proofs.lemmas.Grind.{common_steps}
-use Rattle.std.proofs.lemmas.Bool.Decides.{nat_tests}
-use Rattle.ixp_io.specs.Told.{Told, WhereTold, Moves, IsDone}
+use Rattle.std.proofs.Common.{ℕ, Option, None, Some, Result, Ok, Err, List, ◌++◌, refl, sym, ap, ◌∙◌, append_assoc, subst}
+use Rattle.ixp_io.specs.Told.{Told, WhereTold, Moves}
 use Rattle.ixp_http.specs.declared.next.Next.{Next}
 use Rattle.ixp_http.specs.declared.next.Next.TheVariants.{Request as Found, End}
 use Rattle.ixp_http.specs.declared.next.HttpFault.{HttpFault}

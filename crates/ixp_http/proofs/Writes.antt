@@ -1,6 +1,6 @@
 -- Writes that follow each other.
-use Rattle.std.proofs.Common.{◌≡◌, ◌≤◌, ◌+◌, ◌-◌, ℕ, min, map, Result, Ok, Err, OnErr, Option, None, Some, List, [], ◌∷◌, ◌++◌, length, length-append, take, drop, refl, sym, ap, ◌∙◌, append_assoc, subst, arith}
-use Rattle.std.proofs.lemmas.List.{append-nil, take-append-le}
+use Rattle.std.proofs.Common.{◌≡◌, ◌≤◌, ◌+◌, ◌-◌, ℕ, min, map, Result, Ok, Err, OnErr, Option, None, Some, List, [], ◌∷◌, ◌++◌, length, length-append, take, refl, sym, ap, ◌∙◌, append_assoc, subst, arith}
+use Rattle.std.proofs.lemmas.List.{append-nil}
 use Rattle.std.proofs.lemmas.Grind.{common_steps}
 use Rattle.ixp_io.specs.Told.{Told, Takes, TakesPart}
 use Rattle.ixp_http.proofs.Starts.{take_over}

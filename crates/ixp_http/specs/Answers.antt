@@ -1,7 +1,6 @@
 -- What a call that reads a request answers.
-use Rattle.std.specs.Prelude.{◌≡◌, ℕ, Option, List, [], ◌++◌, drop, ⊤, Result, Ok, Err}
+use Rattle.std.specs.Prelude.{◌≡◌, ℕ, Option, List, ◌++◌, drop, ⊤, Result, Ok, Err}
 use Rattle.ixp_io.specs.Told.{Told}
-use Rattle.ixp_http.specs.declared.request.Request.{Request}
 use Rattle.ixp_http.specs.declared.next.Next.{Next}
 use Rattle.ixp_http.specs.declared.next.Next.TheVariants.{Request as Found, End}
 use Rattle.ixp_http.specs.declared.next.HttpFault.{HttpFault}

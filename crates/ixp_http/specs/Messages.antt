@@ -1,5 +1,5 @@
 -- The messages that bytes hold (RFC 9112 sections 2, 3, 6 and 9.6).
-use Rattle.std.specs.Prelude.{◌≡◌, ℕ, ◌+◌, Bool, true, false, ◌||◌, ◌==◌, ◌⊎◌, nat_le, if◌then◌else◌, Option, None, Some, unwrap_or, List, [], ◌∷◌, ◌++◌, length, map, take, drop, codes, ⊤, Result, Ok, Err}
+use Rattle.std.specs.Prelude.{◌≡◌, ℕ, ◌+◌, Bool, ◌||◌, ◌==◌, ◌⊎◌, nat_le, if◌then◌else◌, unwrap_or, List, [], ◌∷◌, length, map, take, drop, codes, ⊤}
 use Rattle.httparse.specs.Grammar.{RequestHead, ReadsRequest, HasNoRequest}
 use Rattle.httparse.specs.Spans.{name_and_value, span_bytes, header_bytes}
 use Rattle.httparse.specs.declared.spans.HeaderSpan.{HeaderSpan}

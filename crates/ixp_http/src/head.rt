@@ -1,9 +1,9 @@
 //! Where the head of a request stands among the bytes.
-ghost use Rattle.std.specs.Prelude.{◌≡◌, ◌<◌, ◌≤◌, length, take, IfSome, IsTrue};
+ghost use Rattle.std.specs.Prelude.{◌≡◌, ◌<◌, ◌≤◌, nat_lt, length, take, IfSome, IsTrue};
 ghost use Rattle.ixp_http.specs.Heads as spec;
 
 /// The greatest number of bytes of a head and the empty lines before it.
-const HEAD_LIMIT: usize = 16_384;
+pub(crate) const HEAD_LIMIT: usize = 16_384;
 
 /// The greatest number of lines of a head: the request line, 64 fields and the empty line.
 const LINE_LIMIT: usize = 66;
@@ -105,6 +105,13 @@ fn line_feeds(bytes: &[u8]) -> usize
         }
     }
     count
+}
+
+/// Whether an LF is among the bytes.
+pub(crate) fn has_feed(bytes: &[u8]) -> bool
+    ensures { result ≡ nat_lt 0 (spec.line_feeds bytes.now) }
+{
+    line_feeds(bytes) > 0
 }
 
 // What stands behind the empty lines, where no head ends there.

@@ -9,7 +9,7 @@ ghost use Rattle.ixp_http.specs.Answers as spec;
 
 use crate::buf::Buf;
 use crate::fields::{Need, need_of};
-use crate::head::{Start, start_of};
+use crate::head::{HEAD_LIMIT, Start, has_feed, start_of};
 use crate::request::{Head, Request, head_of, request_of};
 use ixp_io::Source;
 use ixp_lists::Items;
@@ -48,7 +48,32 @@ impl From<AllocError> for HttpFault {
     }
 }
 
-// Reads until it is known what stands first.
+// Reads until a line may have ended, or the limit of a head is reached, and answers whether the input goes on.
+fn read_line<L: Source>(link: &mut L, buf: &mut Buf) -> Result<bool, HttpFault>
+    requires { length buf.old < head_limit }
+    ensures together { OnOk result (spec.Together (L.left link.old) (L.left link.new) buf.old buf.new) }
+    ensures grows { IfOk result (λ more. more ≡ true → length buf.old < length buf.new) }
+    ensures done { IfOk result (λ more. more ≡ false → IsDone (L.left link.new)) }
+    ensures nothing { IfErr result spec.SaysNothing }
+    ensures failed { result ≡ Err HttpFault.ReadFault → Rose (L.read_faults link.old) (L.read_faults link.new) }
+    ensures counts { L.read_faults link.old ≤ L.read_faults link.new }
+    ensures written { L.written link.new ≡ L.written link.old }
+    ensures write_faults { L.write_faults link.new ≡ L.write_faults link.old }
+{
+    while buf.len() < HEAD_LIMIT {
+        let before = buf.len();
+        let count = buf.read_more(link)?;
+        if count == 0 {
+            return Ok(false);
+        }
+        if has_feed(&buf.as_slice()[before..]) {
+            return Ok(true);
+        }
+    }
+    Ok(true)
+}
+
+// Reads until it is known what stands first. The bytes are searched again only where a line may have ended.
 fn fill_head<L: Source>(link: &mut L, buf: &mut Buf) -> Result<Start, HttpFault>
     ensures together { OnOk result (spec.Together (L.left link.old) (L.left link.new) buf.old buf.new) }
     ensures start { IfOk result (λ start. start ≡ start_of buf.new) }
@@ -64,9 +89,8 @@ fn fill_head<L: Source>(link: &mut L, buf: &mut Buf) -> Result<Start, HttpFault>
         if !start.is_open() {
             return Ok(start);
         }
-        let count = buf.read_more(link)?;
-        if count == 0 {
-            return Ok(start);
+        if !read_line(link, buf)? {
+            return Ok(start_of(buf.as_slice()));
         }
     }
 }

@@ -1,4 +1,4 @@
-use Rattle.std.proofs.Common.{drop, ◌≡◌, ◌≤◌, ◌+◌, min}
+use Rattle.std.proofs.Common.{drop, ◌≡◌, ◌≤◌, min}
 use Rattle.ixp_http.specs.Fields.{number_from}
 use Rattle.ixp_http.proofs.fields.need_within.Given as goal
 

@@ -1,4 +1,4 @@
-use Rattle.std.proofs.Common.{length, drop, ◌-◌, ◌≡◌, ◌≤◌, ◌+◌}
+use Rattle.std.proofs.Common.{length, drop, ◌-◌, ◌≡◌, ◌≤◌}
 use Rattle.ixp_http.specs.Heads as spec
 use Rattle.ixp_http.proofs.Starts.{onward}
 use Rattle.ixp_http.proofs.head.head_len.Given as goal

@@ -1,4 +1,4 @@
-use Rattle.std.proofs.Common.{length, drop, ◌≡◌, ◌≤◌, ◌+◌}
+use Rattle.std.proofs.Common.{drop, ◌≡◌, ◌≤◌, ◌+◌}
 use Rattle.ixp_http.specs.Heads as spec
 use Rattle.ixp_http.proofs.head.line_feeds.Given as goal
 

@@ -3,7 +3,7 @@ use Rattle.ixp_http.specs.declared.head.Start.{Start}
 use Rattle.ixp_http.specs.declared.head.Start.TheVariants.{Headed}
 use Rattle.ixp_io.specs.Told.{WhereTold}
 use Rattle.ixp_http.specs.Heads.{start_of}
-use Rattle.ixp_http.specs.Messages.{Begins, bad, closed, cut}
+use Rattle.ixp_http.specs.Messages.{Begins, bad, cut}
 use Rattle.ixp_http.proofs.Starts.{placed}
 use Rattle.ixp_http.proofs.Bodies.{first_plain, first_headed}
 use Rattle.ixp_http.proofs.next.next_request.Goals as goal

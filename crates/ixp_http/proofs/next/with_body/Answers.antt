@@ -1,4 +1,4 @@
-use Rattle.std.proofs.Common.{◌≡◌, arith}
+use Rattle.std.proofs.Common.{arith}
 use Rattle.std.proofs.lemmas.Grind.{common_steps}
 use Rattle.ixp_http.proofs.Bodies.{body_came, body_cut}
 use Rattle.ixp_http.proofs.next.with_body.Goals as goal

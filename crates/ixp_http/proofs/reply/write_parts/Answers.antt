@@ -1,4 +1,4 @@
-use Rattle.std.proofs.Common.{◌≡◌, ◌+◌, drop, get_or, map, arith}
+use Rattle.std.proofs.Common.{◌+◌, drop, get_or, map, arith}
 use Rattle.std.proofs.lemmas.List.{drop_more}
 use Rattle.ixp_io.specs.Told.{TakesPart}
 use Rattle.ixp_http.specs.declared.reply.Part.TheVariants.{Version}

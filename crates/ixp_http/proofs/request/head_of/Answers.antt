@@ -1,4 +1,3 @@
-use Rattle.std.proofs.Common.{arith}
 use Rattle.ixp_http.proofs.Found.{none_found}
 use Rattle.ixp_http.proofs.request.head_of.Goals as goal
 
