@@ -1,0 +1,9 @@
+pub mod Starts
+pub mod Items
+pub mod Numbers
+pub mod Together
+pub mod Grammar
+pub mod Writes
+pub mod Found
+pub mod Readings
+pub mod Bodies

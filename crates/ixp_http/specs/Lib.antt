@@ -1,0 +1,5 @@
+pub mod Heads
+pub mod Fields
+pub mod Messages
+pub mod Answers
+pub mod Replies

@@ -1,0 +1,15 @@
+//! Requests of a stream of bytes, and replies (RFC 9112).
+#![tactic(auto)]
+
+mod buf;
+mod fields;
+mod head;
+mod next;
+mod reply;
+mod request;
+
+pub use buf::Buf;
+pub use fields::{BODY_LIMIT, Field};
+pub use next::{HttpFault, Next, bytes_have_one_reading, next_request};
+pub use reply::{HttpReply, write_reply};
+pub use request::Request;
