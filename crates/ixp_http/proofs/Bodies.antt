@@ -1,6 +1,6 @@
 -- What is answered by what stands first.
-use Rattle.std.proofs.Common.{◌≡◌, ◌≤◌, ◌<◌, ◌+◌, ◌-◌, ℕ, Bool, true, false, if◌then◌else◌, nat_le, Option, None, Some, MatchOption, Result, List, [], ◌++◌, length, take, drop, refl, sym, ap, ◌∙◌, subst, arith, length-append, length-drop, append-nil}
-use mathlib.Core.Logic.{inl, inr}
+use Rattle.std.proofs.Common.{◌≡◌, ◌≤◌, ◌<◌, ◌+◌, ◌-◌, ℕ, Bool, true, false, if◌then◌else◌, nat_le, Option, Some, MatchOption, Result, List, [], ◌++◌, length, take, drop, refl, sym, ap, ◌∙◌, subst, arith, length-append, length-drop, append-nil}
+use mathlib.Core.Logic.{inl}
 use Rattle.std.proofs.lemmas.List.{take-append-le, drop-append-le, drop-drop}
 use Rattle.std.proofs.lemmas.Bool.Decides.{nat_tests}
 use Rattle.ixp_io.specs.Told.{Told, WhereTold, IsDone}
@@ -10,12 +10,12 @@ use Rattle.ixp_http.specs.declared.next.HttpFault.{HttpFault}
 use Rattle.ixp_http.specs.declared.head.Start.{Start}
 use Rattle.ixp_http.specs.declared.head.Start.TheVariants.{Headed}
 use Rattle.ixp_http.specs.declared.fields.Need.{Need}
-use Rattle.ixp_http.specs.declared.fields.Need.TheVariants.{Refused, Body}
+use Rattle.ixp_http.specs.declared.fields.Need.TheVariants.{Body}
 use Rattle.ixp_http.specs.declared.request.Head.{Head}
 use Rattle.ixp_http.specs.declared.request.Request.{Request}
 use Rattle.ixp_http.specs.Heads.{start_of}
 use Rattle.ixp_http.specs.Fields.{need_of}
-use Rattle.ixp_http.specs.Messages.{Reading, message, cut, bad, Begins, First, IsHead, request_of, with_need}
+use Rattle.ixp_http.specs.Messages.{Reading, message, cut, Begins, First, IsHead, request_of, with_need}
 use Rattle.ixp_http.specs.Answers.{Together, Tells, IsHeaded, IsBodied}
 use Rattle.ixp_http.proofs.Together.{together_none, told_by, told_with, tells_after, where_any, where_by}
 
@@ -79,32 +79,12 @@ body_cut a b head at size held full p done before short =
 
 -- ---- the head
 
-told_same : (a : Option (List ℕ)) (P : List ℕ → List ℕ → Type 0) → ((left : List ℕ) → P left left) → Told a a P
-told_same None P f = tt
-told_same (Some left) P f = f left
-
 -- a part of what is held stays, whatever is left
 kept_part : (held left : List ℕ) (from n : ℕ) → from + n ≤ length held → take n (drop from (held ++ left)) ≡ take n (drop from held)
 kept_part held left from n fits =
     let before : from ≤ length held = omega arith in
     let inside : n ≤ length (drop from held) = omega (arith, length-drop from held) in
     ap (take n) (drop-append-le from held left before) ∙ take-append-le n (drop from held) left inside
-
-pub no_head : (a : Option (List ℕ)) (held : List ℕ) (from n : ℕ) → from + n ≤ length held → HasNoRequest (take n (drop from held))
-    → Told a a (λ left rest. IsHeaded from n (held ++ left) (bad 400))
-no_head a held from n fits none =
-    told_same a (λ left rest. IsHeaded from n (held ++ left) (bad 400))
-    λ left. inr (subst HasNoRequest (sym (kept_part held left from n fits)) none, refl)
-
-pub head_refused : (a : Option (List ℕ)) (held : List ℕ) (from n status : ℕ) (head : Head) → from + n ≤ length held → IsHead (take n (drop from held)) head
-    → need_of head.fields ≡ Refused status → Told a a (λ left rest. IsHeaded from n (held ++ left) (bad status))
-head_refused a held from n status head fits is refused =
-    told_same a (λ left rest. IsHeaded from n (held ++ left) (bad status))
-    λ left. inl (
-      head,
-      subst (λ (t : List ℕ). IsHead t head) (sym (kept_part held left from n fits)) is,
-      ap (λ (need : Need). with_need head need (drop (from + n) (held ++ left))) (sym refused),
-    )
 
 pub head_bodied : (a b : Option (List ℕ)) (held holds : List ℕ) (from n size : ℕ) (head : Head) (r : Result Next HttpFault) → from + n ≤ length held
     → IsHead (take n (drop from held)) head → need_of head.fields ≡ Body size

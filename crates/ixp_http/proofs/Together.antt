@@ -1,24 +1,17 @@
 -- Reads that follow each other, and what they answer.
-use Rattle.std.proofs.Common.{ℕ, Option, None, Some, Result, Ok, Err, List, ◌++◌, refl, sym, ap, ◌∙◌, append_assoc, subst}
-use Rattle.ixp_io.specs.Told.{Told, WhereTold, Moves}
+use Rattle.std.proofs.Common.{ℕ, Option, None, Some, Result, Ok, Err, List, ◌++◌, refl, sym, ◌∙◌, subst}
+use Rattle.ixp_io.specs.Told.{Told, WhereTold}
 use Rattle.ixp_http.specs.declared.next.Next.{Next}
 use Rattle.ixp_http.specs.declared.next.Next.TheVariants.{Request as Found, End}
 use Rattle.ixp_http.specs.declared.next.HttpFault.{HttpFault}
 use Rattle.ixp_http.specs.declared.next.HttpFault.TheVariants.{Bad, Cut, ReadFault, WriteFault, NoMemory}
 use Rattle.ixp_http.specs.Messages.{Reading, message, closed, cut, bad}
-use Rattle.ixp_http.specs.Answers.{Together, Tells, SaysNothing}
+use Rattle.ixp_http.specs.Answers.{Together, Tells}
 
 -- nothing was read yet
 pub together_none : (a : Option (List ℕ)) (held : List ℕ) → Together a a held held
 together_none None held = tt
 together_none (Some left) held = refl
-
--- bytes went from the link to the end of the buffer
-pub together_moved : (a b : Option (List ℕ)) (held bytes : List ℕ) → Moves a b bytes → Together a b held (held ++ bytes)
-together_moved None None held bytes m = tt
-together_moved None (Some rest) held bytes m = m
-together_moved (Some left) None held bytes m = m
-together_moved (Some left) (Some rest) held bytes m = ap (λ (t : List ℕ). held ++ t) m ∙ sym (append_assoc held bytes rest)
 
 -- two reads in a row
 pub together_then : (a b c : Option (List ℕ)) (x y z : List ℕ) → Together a b x y → Together b c y z → Together a c x z
@@ -46,14 +39,6 @@ told_with None None R S P p q f = tt
 told_with None (Some rest) R S P p q f = p
 told_with (Some left) None R S P p q f = p
 told_with (Some left) (Some rest) R S P p q f = f left rest p q
-
--- a fault that says nothing is an answer to anything
-pub tells_nothing : (P : List ℕ → Reading → Type 0) (a b : Option (List ℕ)) (held holds : List ℕ) (e : HttpFault) → SaysNothing e → Tells P a b held holds (Err e)
-tells_nothing P a b held holds (Bad status) s = absurd s
-tells_nothing P a b held holds Cut s = absurd s
-tells_nothing P a b held holds ReadFault s = tt
-tells_nothing P a b held holds WriteFault s = tt
-tells_nothing P a b held holds NoMemory s = tt
 
 -- what was read before a call: what it answers of all that is held and left then, it answers of what was held and left
 -- before

@@ -1,6 +1,5 @@
 -- Writes that follow each other.
-use Rattle.std.proofs.Common.{◌≡◌, ◌≤◌, ◌+◌, ◌-◌, ℕ, min, map, Result, Ok, Err, OnErr, Option, None, Some, List, [], ◌∷◌, ◌++◌, length, length-append, take, refl, sym, ap, ◌∙◌, append_assoc, subst, arith}
-use Rattle.std.proofs.lemmas.List.{append-nil}
+use Rattle.std.proofs.Common.{◌≡◌, ◌≤◌, ◌+◌, ◌-◌, ℕ, min, map, Result, Ok, Err, OnErr, Option, None, Some, List, ◌∷◌, ◌++◌, length, take, sym, ap, ◌∙◌, append_assoc, subst, arith}
 use Rattle.std.proofs.lemmas.Grind.{common_steps}
 use Rattle.ixp_io.specs.Told.{Told, Takes, TakesPart}
 use Rattle.ixp_http.proofs.Starts.{take_over}
@@ -10,10 +9,6 @@ use Rattle.ixp_http.specs.Replies.{Holds, concat}
 -- what is still to be written after what was written: these held bytes and the rest
 abbrev pub Owes : Option (List ℕ) → Option (List ℕ) → List ℕ → List ℕ → List ℕ → Type 0
 Owes before now holds rest all = Told before now (λ old new. (new ++ (holds ++ rest) ≡ old ++ all) × (length old ≤ length new))
-
-pub owes_none : (a : Option (List ℕ)) (all : List ℕ) → Owes a a [] all all
-owes_none None all = tt
-owes_none (Some old) all = (refl, omega arith)
 
 pub owes_then : (a b c : Option (List ℕ)) (x y text rest all : List ℕ) → Owes a b x (text ++ rest) all → Holds b c x y text → Owes a c y rest all
 owes_then None None None x y text rest all p q = tt
@@ -28,15 +23,6 @@ owes_then (Some u) (Some v) (Some w) x y text rest all p q = (
   where
     regroup : (a b c d : List ℕ) → (a ++ (b ++ c)) ++ d ≡ a ++ (b ++ (c ++ d))
     regroup a b c d = simp append_assoc
-
--- all that is owed was written
-pub owes_all : (a b c : Option (List ℕ)) (x all : List ℕ) → Owes a b x [] all → Takes b c x → Takes a c all
-owes_all None None None x all p q = tt
-owes_all None None (Some w) x all p q = q
-owes_all None (Some v) c x all p q = absurd p
-owes_all (Some u) None c x all p q = absurd p
-owes_all (Some u) (Some v) None x all p q = q
-owes_all (Some u) (Some v) (Some w) x all p q = q ∙ ap (λ (t : List ℕ). v ++ t) (sym (append-nil x)) ∙ p.0
 
 first : (k : ℕ) (x y : List ℕ) → take (min k (length x)) (x ++ y) ≡ take k x
 first k x y = grind (arith, common_steps)
@@ -73,20 +59,6 @@ owes_part_text a b c x text rest all p q = owes_part a b c (x ++ text) rest all 
 
 -- ---- the two ways to add a text
 
-pub holds_more : (a : Option (List ℕ)) (held text holds : List ℕ) → holds ≡ held ++ text → Holds a a held holds text
-holds_more None held text holds e = tt
-holds_more (Some u) held text holds e = (ap (λ (t : List ℕ). u ++ t) e, omega arith)
-
-pub holds_both : (a b c : Option (List ℕ)) (held text : List ℕ) → Takes a b held → Takes b c text → Holds a c held [] text
-holds_both None None None held text p q = tt
-holds_both None None (Some w) held text p q = q
-holds_both None (Some v) c held text p q = absurd p
-holds_both (Some u) None c held text p q = absurd p
-holds_both (Some u) (Some v) None held text p q = q
-holds_both (Some u) (Some v) (Some w) held text p q =
-    let all : w ≡ u ++ (held ++ text) = q ∙ ap (λ (t : List ℕ). t ++ text) p ∙ append_assoc u held text in
-    (append-nil w ∙ all, omega (arith, ap length all, length-append u (held ++ text)))
-
 pub part_first : (a b : Option (List ℕ)) (x y : List ℕ) → TakesPart a b x → TakesPart a b (x ++ y)
 part_first a b x y p =
     (min p.0 (length x), subst (Takes a b) (sym (first p.0 x y)) p.1)
@@ -98,10 +70,6 @@ part_then a b c x y p q =
 -- the same of a text that was held, and of a result
 pub part_first_of : (a b : Option (List ℕ)) (x held y : List ℕ) → held ≡ x → TakesPart a b held → TakesPart a b (x ++ y)
 part_first_of a b x held y is p = part_first a b x y (subst (TakesPart a b) is p)
-
-pub on_err : {A E : Type 0} (r : Result A E) (P Q : Type 0) → (P → Q) → OnErr r P → OnErr r Q
-on_err (Ok a) P Q f p = tt
-on_err (Err e) P Q f p = f p
 
 -- the texts from one on
 pub concat_next : {A : Type 0} (text : A → List ℕ) (parts : List A) (part : A) (rest : List A) → parts ≡ part ∷ rest
