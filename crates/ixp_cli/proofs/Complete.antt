@@ -1,12 +1,18 @@
--- A run on an input that its command answers.
-use Rattle.std.proofs.Common.{◌≡◌, ◌<◌, ◌≤◌, ℕ, List, [], ◌++◌, length, append-nil, Option, Some, None, Ok, Err, inl, inr, refl, sym, ap, ◌∙◌, subst, arith}
+-- A run on an input that its question answers, and one of `restore` on a dump.
+use Rattle.std.proofs.Common.{◌≡◌, ◌≢◌, ◌<◌, ◌≤◌, ℕ, List, [], ◌++◌, length, append-nil, Option, Some, None, Ok, Err, inl, inr, refl, sym, ap, ◌∙◌, subst, arith}
 use Rattle.ixp_causes.specs.declared.Cause.{Cause}
-use Rattle.ixp_io.specs.Told.{Moves, IsDone, Takes, Told}
-use Rattle.ixp_cli.specs.declared.command.Command.{Command}
+use Rattle.ixp_io.specs.Told.{Moves, IsDone, Takes, Told, WhereTold}
+use Rattle.ixp_cli.specs.declared.command.Command.TheVariants.{Ask, Restore}
+use Rattle.ixp_cli.specs.declared.command.Question.{Question}
 use Rattle.ixp_cli.specs.declared.end.End.{End}
-use Rattle.ixp_cli.specs.declared.end.End.TheVariants.{Done, Usage, BadInput, ReadFault, WriteFault, NoMemory, UnknownRouter}
-use Rattle.ixp_cli.specs.Runs.{Flow, Outside, Answers, CommandEnds, IsAnswered, AsksInVain, IsRefused, IsTold, ReadsAll, Runs, input_limit}
-use Rattle.ixp_cli.proofs.OneAnswer.{one_written, not_refused, not_in_vain}
+use Rattle.ixp_cli.specs.declared.end.End.TheVariants.{Done, Usage, BadInput, ReadFault, WriteFault, KeeperFault, NoMemory, UnknownRouter, NotEmpty}
+use Rattle.ixp_cli.specs.Checks.{IsNoDump}
+use Rattle.ixp_cli.specs.Restores.{Fills, IsDumpOf, Restores}
+use Rattle.ixp_cli.specs.Runs.{Flow, Outside, Answers, QuestionEnds, IsAnswered, AsksInVain, IsRefused, IsTold, IsRestored, ReadsAll, ReadsDump, RestoreEnds, Runs, input_limit}
+use Rattle.ixp_cli.proofs.OneAnswer.{one_written, not_refused, not_in_vain, same_registry, is_dump}
+use Rattle.ixp_registry.specs.declared.registry.Registry.{Registry}
+use Rattle.std.specs.FinMap.{empty}
+use Rattle.ixp_io.specs.Tables.{Table}
 
 -- what was read is the whole input
 read_whole : (left text : List ℕ) (before after : Option (List ℕ)) → before ≡ Some left → Moves before after text → IsDone after → text ≡ left
@@ -17,36 +23,70 @@ read_whole left text (Some l) (Some rest) e moves done =
     let here : l ≡ left = cc in
     sym (append-nil text) ∙ sym (ap (λ r. text ++ r) done) ∙ sym moves ∙ here
 
-module _ (command : Command) (left answer : List ℕ) (input input' output output' : Flow) (is : input.bytes ≡ Some left) (short : length left ≤ input_limit)
-    (answers : Answers command left (Ok answer)) where
+-- such an input isn't too long
+too_long : (left : List ℕ) (before after : Option (List ℕ)) → before ≡ Some left → Told before after (λ l rest. input_limit < length l) → length left ≤ input_limit → ⊥
+too_long left None after e long short = cc
+too_long left (Some l) None e long short = long
+too_long left (Some l) (Some rest) e long short =
+    let same_left : ◌≡◌ {A = Option (List ℕ)} (Some l) (Some left) = e in
+    let here : l ≡ left = cc in
+    omega (arith, ap length here, short, long)
+
+module _ (question : Question) (left answer : List ℕ) (input input' output output' : Flow) (is : input.bytes ≡ Some left) (short : length left ≤ input_limit)
+    (answers : Answers question left (Ok answer)) where
   whole : (text : List ℕ) → ReadsAll input input' text → text ≡ left
   whole text (moves, done, fits) = read_whole left text input.bytes input'.bytes is moves done
 
-  written : (text out : List ℕ) → ReadsAll input input' text → Answers command text (Ok out) → out ≡ answer
-  written text out all told = one_written command left out answer (subst (λ t. Answers command t (Ok out)) (whole text all) told) answers
+  written : (text out : List ℕ) → ReadsAll input input' text → Answers question text (Ok out) → out ≡ answer
+  written text out all told = one_written question left out answer (subst (λ t. Answers question t (Ok out)) (whole text all) told) answers
 
-  pub answered : (end : End) → CommandEnds command input input' output output' end → IsAnswered answer input input' output output' end
+  pub answered : (end : End) → QuestionEnds question input input' output output' end → IsAnswered answer input input' output output' end
   answered Done (text, out, all, told, took) = subst (Takes output.bytes output'.bytes) (written text out all told) took
   answered Usage e = absurd e
   answered (BadInput cause) (why, same) = by_case why where
-    too_long : (before after : Option (List ℕ)) → before ≡ Some left → Told before after (λ l rest. input_limit < length l) → ⊥
-    too_long None after e long = cc
-    too_long (Some l) None e long = long
-    too_long (Some l) (Some rest) e long =
-        let same_left : ◌≡◌ {A = Option (List ℕ)} (Some l) (Some left) = e in
-        let here : l ≡ left = cc in
-        omega (arith, ap length here, short, long)
-
-    by_case : IsRefused command input input' cause → ⊥
-    by_case (inl (e, (long, some))) = too_long input.bytes input'.bytes is long
-    by_case (inr (text, all, told)) = not_refused command left answer cause answers (subst (λ t. Answers command t (Err cause)) (whole text all) told)
+    by_case : IsRefused (λ read why. Answers question read (Err why)) input input' cause → ⊥
+    by_case (inl (e, (long, some))) = too_long left input.bytes input'.bytes is long short
+    by_case (inr (text, all, told)) = not_refused question left answer cause answers (subst (λ t. Answers question t (Err cause)) (whole text all) told)
   answered ReadFault (rose, some, same) = rose
   answered WriteFault (text, out, all, told, took, rose) = rose
+  answered KeeperFault e = absurd e
   answered NoMemory e = tt
-  answered (UnknownRouter router) (text, all, vain, same) = not_in_vain command left answer router answers (subst (λ t. AsksInVain command t router) (whole text all) vain)
+  answered NotEmpty e = absurd e
+  answered (UnknownRouter router) (text, all, vain, same) = not_in_vain question left answer router answers (subst (λ t. AsksInVain question t router) (whole text all) vain)
 
 pub answered_run :
-    (command : Command) (before after : Outside) (status : Option ℕ) (left answer : List ℕ) → before.input.bytes ≡ Some left → length left ≤ input_limit → Answers command left (Ok answer)
-    → Runs (Some command) before after status → (end : End) × IsAnswered answer before.input after.input before.output after.output end × IsTold end before.errors after.errors status
-answered_run command before after status left answer is short answers runs =
-    (runs.end, answered command left answer before.input after.input before.output after.output is short answers runs.end runs.ends, runs.told)
+    (question : Question) (before after : Outside) (status : Option ℕ) (left answer : List ℕ) → before.input.bytes ≡ Some left → length left ≤ input_limit → Answers question left (Ok answer)
+    → Runs (Some (Ask question)) before after status → (end : End) × IsAnswered answer before.input after.input before.output after.output end × IsTold end before.errors after.errors status
+answered_run question before after status left answer is short answers runs =
+    (runs.end, answered question left answer before.input after.input before.output after.output is short answers runs.end runs.ends.0, runs.told)
+
+module _ (r : Registry) (left : List ℕ) (before after : Outside) (is : before.input.bytes ≡ Some left) (dump : IsDumpOf left r) (clear : before.store.rows ≡ Some empty) where
+  same_dump : (s : Registry) → ReadsDump before.input after.input s → s ≡ r
+  same_dump s (read, (moves, done, fits), other) =
+      same_registry left s r (subst (λ t. IsDumpOf t s) (read_whole left read before.input.bytes after.input.bytes is moves done) other) dump
+
+  none_filled : (rows : Option Table) → rows ≡ Some empty → WhereTold rows (λ t. t ≢ empty) → ⊥
+  none_filled None e some = cc
+  none_filled (Some t) e some = some (let same : ◌≡◌ {A = Option Table} (Some t) (Some empty) = e in cc)
+
+  restored : (end : End) → length left ≤ input_limit → RestoreEnds before.input after.input before.output after.output before.store after.store end → IsRestored r before after end
+  restored Done short (s, reads, fills, took) =
+      (subst (λ x. Fills x before.store after.store) (same_dump s reads) fills, subst (λ x. Takes before.output.bytes after.output.bytes (Restores x)) (same_dump s reads) took)
+  restored Usage short e = absurd e
+  restored (BadInput cause) short (why, same) = by_case why where
+    by_case : IsRefused IsNoDump before.input after.input cause → ⊥
+    by_case (inl (e, (long, some))) = too_long left before.input.bytes after.input.bytes is long short
+    by_case (inr (text, (moves, done, fits), none)) =
+        is_dump left r cause dump (subst (λ t. IsNoDump t cause) (read_whole left text before.input.bytes after.input.bytes is moves done) none)
+  restored ReadFault short (rose, some, same) = rose
+  restored WriteFault short (s, reads, fills, took, rose) = rose
+  restored KeeperFault short (s, reads, rose, same) = rose
+  restored NoMemory short e = tt
+  restored (UnknownRouter router) short e = absurd e
+  restored NotEmpty short (s, reads, filled, same) = none_filled before.store.rows clear filled
+
+pub restored_run :
+    (r : Registry) (before after : Outside) (status : Option ℕ) (left : List ℕ) → before.input.bytes ≡ Some left → length left ≤ input_limit → IsDumpOf left r → before.store.rows ≡ Some empty
+    → Runs (Some Restore) before after status → (end : End) × IsRestored r before after end × IsTold end before.errors after.errors status
+restored_run r before after status left is short dump clear runs =
+    (runs.end, restored r left before after is dump clear runs.end short runs.ends, runs.told)

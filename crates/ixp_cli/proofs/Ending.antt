@@ -1,30 +1,38 @@
 -- How a run ends, and its status.
 use Rattle.std.proofs.Common.{◌≡◌, ◌↔◌, ℕ, Option, Some, None, refl, sym, ap, subst, ◌∙◌}
 use Rattle.ixp_cli.specs.declared.command.Command.{Command}
+use Rattle.ixp_cli.specs.declared.command.Command.TheVariants.{Ask, Restore}
 use Rattle.ixp_cli.specs.declared.end.End.{End}
-use Rattle.ixp_cli.specs.declared.end.End.TheVariants.{Done, Usage, BadInput, ReadFault, WriteFault, NoMemory, UnknownRouter}
-use Rattle.ixp_cli.specs.Runs.{Flow, Outside, Ends, CommandEnds, IsStatus, Runs, Tells, status_of, error_text}
+use Rattle.ixp_cli.specs.declared.end.End.TheVariants.{Done, Usage, BadInput, ReadFault, WriteFault, KeeperFault, NoMemory, UnknownRouter, NotEmpty}
+use Rattle.ixp_cli.specs.Runs.{Outside, Ends, IsStatus, Runs, Tells, status_of, error_text}
 
-pub a_run : (command : Option Command) (before after : Outside) (end : End) (status : Option ℕ) → Ends command before.input after.input before.output after.output end
-    → status ≡ Some (status_of end) → Tells before.errors after.errors (error_text end) → after.rows ≡ before.rows → after.keeper_faults ≡ before.keeper_faults → after.second ≡ before.second
+pub a_run : (command : Option Command) (before after : Outside) (end : End) (status : Option ℕ) → Ends command before after end
+    → status ≡ Some (status_of end) → Tells before.errors after.errors (error_text end) → after.second ≡ before.second
     → Runs command before after status
-a_run command before after end status ends is line rows faults second = record { end = end; ends = ends; told = (is, line); alone = (rows, faults, second) }
+a_run command before after end status ends is line second = record { end = end; ends = ends; told = (is, line); clock = second }
 
-other_status : (n : ℕ) (o : Option Command) (c : Command) → (◌≡◌ {A = Option ℕ} (Some n) (Some 1) → ⊥) → (◌≡◌ {A = Option ℕ} (Some n) (Some 1)) ↔ (◌≡◌ {A = Option Command} (Some c) None)
-other_status n o c never = ((λ e. absurd (never e)), λ e. absurd cc)
+-- a command ends otherwise than as usage
+not_usage : (c : Command) (before after : Outside) → Ends (Some c) before after Usage → ⊥
+not_usage (Ask question) before after e = e.0
+not_usage Restore before after e = e
 
-of_end : (o : Option Command) (i j k l : Flow) (end : End) → Ends o i j k l end → (◌≡◌ {A = Option ℕ} (Some (status_of end)) (Some 1)) ↔ (o ≡ None)
-of_end None i j k l end (is, input, output) = ((λ _. refl), λ _. ap (λ e. Some (status_of e)) is)
-of_end (Some c) i j k l Done e = other_status 0 (Some c) c (λ h. cc)
-of_end (Some c) i j k l Usage e = absurd e
-of_end (Some c) i j k l (BadInput cause) e = other_status 2 (Some c) c (λ h. cc)
-of_end (Some c) i j k l ReadFault e = other_status 3 (Some c) c (λ h. cc)
-of_end (Some c) i j k l WriteFault e = other_status 4 (Some c) c (λ h. cc)
-of_end (Some c) i j k l NoMemory e = other_status 8 (Some c) c (λ h. cc)
-of_end (Some c) i j k l (UnknownRouter router) e = other_status 9 (Some c) c (λ h. cc)
+other_status : (n : ℕ) (c : Command) → (◌≡◌ {A = Option ℕ} (Some n) (Some 1) → ⊥) → (◌≡◌ {A = Option ℕ} (Some n) (Some 1)) ↔ (◌≡◌ {A = Option Command} (Some c) None)
+other_status n c never = ((λ e. absurd (never e)), λ e. absurd cc)
 
-pub usage_is : (o : Option Command) (i j k l : Flow) (end : End) (status : Option ℕ) → Ends o i j k l end → status ≡ Some (status_of end) → (status ≡ Some 1) ↔ (o ≡ None)
-usage_is o i j k l end status e is = subst (λ (s : Option ℕ). (s ≡ Some 1) ↔ (o ≡ None)) (sym is) (of_end o i j k l end e)
+of_end : (o : Option Command) (before after : Outside) (end : End) → Ends o before after end → (◌≡◌ {A = Option ℕ} (Some (status_of end)) (Some 1)) ↔ (o ≡ None)
+of_end None before after end (is, input, output) = ((λ _. refl), λ _. ap (λ e. Some (status_of e)) is)
+of_end (Some c) before after Done e = other_status 0 c (λ h. cc)
+of_end (Some c) before after Usage e = absurd (not_usage c before after e)
+of_end (Some c) before after (BadInput cause) e = other_status 2 c (λ h. cc)
+of_end (Some c) before after ReadFault e = other_status 3 c (λ h. cc)
+of_end (Some c) before after WriteFault e = other_status 4 c (λ h. cc)
+of_end (Some c) before after KeeperFault e = other_status 5 c (λ h. cc)
+of_end (Some c) before after NoMemory e = other_status 8 c (λ h. cc)
+of_end (Some c) before after (UnknownRouter router) e = other_status 9 c (λ h. cc)
+of_end (Some c) before after NotEmpty e = other_status 11 c (λ h. cc)
+
+pub usage_is : (o : Option Command) (before after : Outside) (end : End) (status : Option ℕ) → Ends o before after end → status ≡ Some (status_of end) → (status ≡ Some 1) ↔ (o ≡ None)
+usage_is o before after end status e is = subst (λ (s : Option ℕ). (s ≡ Some 1) ↔ (o ≡ None)) (sym is) (of_end o before after end e)
 
 lawful : (end : End) → IsStatus (Some (status_of end))
 lawful Done = refl
@@ -32,8 +40,10 @@ lawful Usage = refl
 lawful (BadInput cause) = refl
 lawful ReadFault = refl
 lawful WriteFault = refl
+lawful KeeperFault = refl
 lawful NoMemory = refl
 lawful (UnknownRouter router) = refl
+lawful NotEmpty = refl
 
 pub is_status : (end : End) (status : Option ℕ) → status ≡ Some (status_of end) → IsStatus status
 is_status end status is = subst IsStatus (sym is) (lawful end)

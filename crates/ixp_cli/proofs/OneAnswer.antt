@@ -32,8 +32,8 @@ use Rattle.ixp_trial.specs.SessionRoutes.{SessionRouteAnswer}
 use Rattle.ixp_trial.specs.Trials.{TrialAnswer}
 use Rattle.ixp_trial.proofs.OneSessionRoute.{one_session_route}
 use Rattle.ixp_trial.proofs.OneTrial.{one_text, one_trial}
-use Rattle.ixp_cli.specs.declared.command.Command.{Command}
-use Rattle.ixp_cli.specs.declared.command.Command.TheVariants.{Check, Eval, Fate, Generate}
+use Rattle.ixp_cli.specs.declared.command.Question.{Question}
+use Rattle.ixp_cli.specs.declared.command.Question.TheVariants.{Check, Eval, Fate, Generate}
 use Rattle.ixp_cli.specs.Checks.{Checks, IsNoDump, ok_text}
 use Rattle.ixp_cli.specs.Evals.{Evaluates, IsConfiguration, IsNoEval, IsNoText, IsNoTrial, IsOfOtherFamily, IsRefused, IsTaken}
 use Rattle.ixp_cli.specs.Fates.{Fates, HasNoRouter, HasRoute, IsFate, IsNoFate, IsStray}
@@ -61,12 +61,12 @@ text_told f c e gone = let none : ◌≡◌ {A = Option Cause} (Some c) None = s
 registry_told : (r : Registry) → ◌≢◌ {A = Result Registry DumpFault} (Ok r) (Err dump_fault.NoMemory)
 registry_told r e = cc
 
-same_registry : (t : List ℕ) (r s : Registry) → RegistryAnswer (version_in t) t (Ok r) → RegistryAnswer (version_in t) t (Ok s) → r ≡ s
+pub same_registry : (t : List ℕ) (r s : Registry) → RegistryAnswer (version_in t) t (Ok r) → RegistryAnswer (version_in t) t (Ok s) → r ≡ s
 same_registry t r s x y =
     let e : ◌≡◌ {A = Result Registry DumpFault} (Ok r) (Ok s) = one_registry (version_in t) t (Ok r) (Ok s) (registry_told r) (registry_told s) x y in
     cc
 
-is_dump : (t : List ℕ) (r : Registry) (c : Cause) → RegistryAnswer (version_in t) t (Ok r) → ¬ (IsNoDump t c)
+pub is_dump : (t : List ℕ) (r : Registry) (c : Cause) → RegistryAnswer (version_in t) t (Ok r) → ¬ (IsNoDump t c)
 is_dump t r c x (f, e, y) =
     let both : ◌≡◌ {A = Result Registry DumpFault} (Ok r) (Err f) = one_registry (version_in t) t (Ok r) (Err f) (registry_told r) (dump_told f c e) x y in
     cc
@@ -172,19 +172,19 @@ is_evaluated input x c a (inr (items, is, none)) =
 
 -- of any command
 
-pub one_written : (command : Command) (input x y : List ℕ) → Answers command input (Ok x) → Answers command input (Ok y) → x ≡ y
+pub one_written : (question : Question) (input x y : List ℕ) → Answers question input (Ok x) → Answers question input (Ok y) → x ≡ y
 one_written Check input x y a b = one_check input x y a b
 one_written Eval input x y a b = one_output input x y a b
 one_written Fate input x y a b = one_told input x y a b
 one_written (Generate handle) input x y a b = one_generated handle input x y a b
 
-pub not_refused : (command : Command) (input x : List ℕ) (c : Cause) → Answers command input (Ok x) → ¬ (Answers command input (Err c))
+pub not_refused : (question : Question) (input x : List ℕ) (c : Cause) → Answers question input (Ok x) → ¬ (Answers question input (Err c))
 not_refused Check input x c a none = is_dump input a.registry c a.is_dump none
 not_refused Eval input x c a none = is_evaluated input x c a none
 not_refused Fate input x c a none = is_fated input x c a none
 not_refused (Generate handle) input x c a none = is_dump input a.registry c a.is_dump none
 
-pub not_in_vain : (command : Command) (input x handle : List ℕ) → Answers command input (Ok x) → ¬ (AsksInVain command input handle)
+pub not_in_vain : (question : Question) (input x handle : List ℕ) → Answers question input (Ok x) → ¬ (AsksInVain question input handle)
 not_in_vain Check input x handle a vain = vain
 not_in_vain Eval input x handle a vain = vain
 not_in_vain Fate input x handle a vain = has_router input x handle a vain

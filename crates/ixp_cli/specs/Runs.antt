@@ -5,29 +5,33 @@ use Rattle.ixp_causes.specs.declared.Code.TheVariants.{U5}
 use Rattle.ixp_causes.specs.declared.Place.TheVariants.{Byte}
 use Rattle.ixp_causes.specs.Causes.{cause_text}
 use Rattle.ixp_io.specs.Faults.{Rose}
-use Rattle.ixp_io.specs.Tables.{Table}
 use Rattle.ixp_io.specs.Told.{Told, Moves, MovesUpTo, IsDone, Takes, TakesPart}
 use Rattle.ixp_registry.specs.Alphabets.{is_handle}
+use Rattle.ixp_registry.specs.declared.registry.Registry.{Registry}
 use Rattle.ixp_tables.specs.Tables.{same}
 use Rattle.ixp_cli.specs.declared.command.Command.{Command}
-use Rattle.ixp_cli.specs.declared.command.Command.TheVariants.{Check, Eval, Fate, Generate}
+use Rattle.ixp_cli.specs.declared.command.Command.TheVariants.{Ask, Restore}
+use Rattle.ixp_cli.specs.declared.command.Question.{Question}
+use Rattle.ixp_cli.specs.declared.command.Question.TheVariants.{Check, Eval, Fate, Generate}
 use Rattle.ixp_cli.specs.declared.end.End.{End}
-use Rattle.ixp_cli.specs.declared.end.End.TheVariants.{Done, Usage, BadInput, ReadFault, WriteFault, NoMemory, UnknownRouter}
+use Rattle.ixp_cli.specs.declared.end.End.TheVariants.{Done, Usage, BadInput, ReadFault, WriteFault, KeeperFault, NoMemory, UnknownRouter, NotEmpty}
 use Rattle.ixp_cli.specs.declared.end.NoAnswer.{NoAnswer}
 use Rattle.ixp_cli.specs.declared.end.NoAnswer.TheVariants as answer
 use Rattle.ixp_cli.specs.Checks.{Checks, IsNoDump}
 use Rattle.ixp_cli.specs.Evals.{Evaluates, IsNoEval}
 use Rattle.ixp_cli.specs.Fates.{Fates, HasNoRouter, IsNoFate}
 use Rattle.ixp_cli.specs.Generates.{Generates, IsUnknown}
+use Rattle.ixp_cli.specs.Restores.{Store, IsDumpOf, Fills, IsFilled, Restores}
 
 -- the command that a word is
 abbrev pub command_by : List ℕ → Option Command
 command_by word =
-    if same word (codes "check") then Some Check else if same word (codes "eval") then Some Eval else if same word (codes "fate") then Some Fate else None
+    if same word (codes "check") then Some (Ask Check) else if same word (codes "eval") then Some (Ask Eval) else if same word (codes "fate") then Some (Ask Fate)
+    else if same word (codes "restore") then Some Restore else None
 
 -- the command that a word and a handle are
 abbrev pub command_with : List ℕ → List ℕ → Option Command
-command_with word handle = if same word (codes "generate") && is_handle handle then Some (Generate handle) else None
+command_with word handle = if same word (codes "generate") && is_handle handle then Some (Ask (Generate handle)) else None
 
 -- the command that words are
 abbrev pub command_in : List (List ℕ) → Option Command
@@ -36,8 +40,8 @@ command_in (word ∷ []) = command_by word
 command_in (word ∷ handle ∷ []) = command_with word handle
 command_in (word ∷ other ∷ third ∷ words) = None
 
--- what a command says of an input: what it writes, or why it refuses it
-abbrev pub Answers : Command → List ℕ → Result (List ℕ) Cause → Type 0
+-- what a question answers of an input: what it writes, or why it refuses it
+abbrev pub Answers : Question → List ℕ → Result (List ℕ) Cause → Type 0
 Answers Check input (Ok output) = Checks input output
 Answers Check input (Err cause) = IsNoDump input cause
 Answers Eval input (Ok output) = Evaluates input output
@@ -47,8 +51,8 @@ Answers Fate input (Err cause) = IsNoFate input cause
 Answers (Generate handle) input (Ok output) = Generates handle input output
 Answers (Generate handle) input (Err cause) = IsNoDump input cause
 
--- a command asks for the router with this handle, and the input's registry has none
-abbrev pub AsksInVain : Command → List ℕ → List ℕ → Type 0
+-- a question asks for the router with this handle, and the input's registry has none
+abbrev pub AsksInVain : Question → List ℕ → List ℕ → Type 0
 AsksInVain (Generate handle) input router = (router ≡ handle) × IsUnknown handle input
 AsksInVain Check input router = ⊥
 AsksInVain Eval input router = ⊥
@@ -78,8 +82,10 @@ status_of Usage = 1
 status_of (BadInput cause) = 2
 status_of ReadFault = 3
 status_of WriteFault = 4
+status_of KeeperFault = 5
 status_of NoMemory = 8
 status_of (UnknownRouter router) = 9
+status_of NotEmpty = 11
 
 -- the line that tells of a run that ends so
 abbrev pub error_text : End → List ℕ
@@ -88,8 +94,10 @@ error_text Usage = codes "ixpm: usage\n"
 error_text (BadInput cause) = codes "ixpm: bad input " ++ (cause_text cause ++ 10 ∷ [])
 error_text ReadFault = codes "ixpm: read fault\n"
 error_text WriteFault = codes "ixpm: write fault\n"
+error_text KeeperFault = codes "ixpm: keeper fault\n"
 error_text NoMemory = codes "ixpm: no memory\n"
 error_text (UnknownRouter router) = codes "ixpm: unknown router " ++ (router ++ 10 ∷ [])
+error_text NotEmpty = codes "ixpm: store not empty\n"
 
 -- what a source or a sink tells at a moment: the bytes that are left, or those that were written, and how many calls failed
 pub record Flow : Type 0 where
@@ -102,8 +110,7 @@ pub record Outside : Type 0 where
   pub input : Flow
   pub output : Flow
   pub errors : Flow
-  pub rows : Option Table
-  pub keeper_faults : ℕ
+  pub store : Store
   pub second : Option ℕ
 
 -- the greatest number of bytes of an input that is read whole
@@ -126,55 +133,78 @@ too_long = record { code = U5; place = Byte input_limit }
 abbrev pub IsTooLong : Flow → Flow → Type 0
 IsTooLong before after = Told before.bytes after.bytes (λ left rest. input_limit < length left) × ReadsSome before after
 
--- Why an input is refused: it is too long, or else the command refuses all of it.
-abbrev pub IsRefused : Command → Flow → Flow → Cause → Type 0
-IsRefused command before after cause =
-    ((cause ≡ too_long) × IsTooLong before after) ⊎ ((input : List ℕ) × ReadsAll before after input × Answers command input (Err cause))
+-- the input was read, and is the dump of this registry
+abbrev pub ReadsDump : Flow → Flow → Registry → Type 0
+ReadsDump before after r = (read : List ℕ) × ReadsAll before after read × IsDumpOf read r
 
--- How a command ends that reads all of its input, and then writes all that it has to say. Where it doesn't come to writing, the
--- output is as it was; where a write fails, the output took a first part of what the command says.
-abbrev pub CommandEnds : Command → Flow → Flow → Flow → Flow → End → Type 0
-CommandEnds command input input' output output' Done =
-    (read written : List ℕ) × ReadsAll input input' read × Answers command read (Ok written) × Takes output.bytes output'.bytes written
-CommandEnds command input input' output output' Usage = ⊥
-CommandEnds command input input' output output' (BadInput cause) = IsRefused command input input' cause × (output' ≡ output)
-CommandEnds command input input' output output' ReadFault = Rose input.faults input'.faults × ReadsSome input input' × (output' ≡ output)
-CommandEnds command input input' output output' WriteFault =
-    (read written : List ℕ) × ReadsAll input input' read × Answers command read (Ok written) × TakesPart output.bytes output'.bytes written
+-- Why an input is refused: it is too long, or else it is refused for what it is.
+abbrev pub IsRefused : (List ℕ → Cause → Type 0) → Flow → Flow → Cause → Type 0
+IsRefused refuses before after cause =
+    ((cause ≡ too_long) × IsTooLong before after) ⊎ ((input : List ℕ) × ReadsAll before after input × refuses input cause)
+
+-- How a question ends. It reads all of its input, and then writes all that it has to say. Where it doesn't come to writing, the
+-- output is as it was; where a write fails, the output took a first part of what the question says.
+abbrev pub QuestionEnds : Question → Flow → Flow → Flow → Flow → End → Type 0
+QuestionEnds question input input' output output' Done =
+    (read written : List ℕ) × ReadsAll input input' read × Answers question read (Ok written) × Takes output.bytes output'.bytes written
+QuestionEnds question input input' output output' Usage = ⊥
+QuestionEnds question input input' output output' (BadInput cause) =
+    IsRefused (λ read why. Answers question read (Err why)) input input' cause × (output' ≡ output)
+QuestionEnds question input input' output output' ReadFault = Rose input.faults input'.faults × ReadsSome input input' × (output' ≡ output)
+QuestionEnds question input input' output output' WriteFault =
+    (read written : List ℕ) × ReadsAll input input' read × Answers question read (Ok written) × TakesPart output.bytes output'.bytes written
     × Rose output.faults output'.faults
-CommandEnds command input input' output output' NoMemory = ReadsSome input input' × (output' ≡ output)
-CommandEnds command input input' output output' (UnknownRouter router) =
-    (read : List ℕ) × ReadsAll input input' read × AsksInVain command read router × (output' ≡ output)
+QuestionEnds question input input' output output' KeeperFault = ⊥
+QuestionEnds question input input' output output' NoMemory = ReadsSome input input' × (output' ≡ output)
+QuestionEnds question input input' output output' (UnknownRouter router) =
+    (read : List ℕ) × ReadsAll input input' read × AsksInVain question read router × (output' ≡ output)
+QuestionEnds question input input' output output' NotEmpty = ⊥
 
--- How a run ends. Words that are no command end as usage, with nothing read or written.
-abbrev pub Ends : Option Command → Flow → Flow → Flow → Flow → End → Type 0
-Ends None input input' output output' end = (end ≡ Usage) × (input' ≡ input) × (output' ≡ output)
-Ends (Some command) input input' output output' end = CommandEnds command input input' output output' end
+-- How `restore` ends. It reads all of its input, a registry's dump, puts the rows of that registry into the keeper, which has to
+-- have none, and writes how many lines they are. Where it doesn't come to writing, keeper and output are as they were.
+abbrev pub RestoreEnds : Flow → Flow → Flow → Flow → Store → Store → End → Type 0
+RestoreEnds input input' output output' store store' Done =
+    (r : Registry) × ReadsDump input input' r × Fills r store store' × Takes output.bytes output'.bytes (Restores r)
+RestoreEnds input input' output output' store store' Usage = ⊥
+RestoreEnds input input' output output' store store' (BadInput cause) =
+    IsRefused IsNoDump input input' cause × (output' ≡ output) × (store' ≡ store)
+RestoreEnds input input' output output' store store' ReadFault =
+    Rose input.faults input'.faults × ReadsSome input input' × (output' ≡ output) × (store' ≡ store)
+RestoreEnds input input' output output' store store' WriteFault =
+    (r : Registry) × ReadsDump input input' r × Fills r store store' × TakesPart output.bytes output'.bytes (Restores r)
+    × Rose output.faults output'.faults
+RestoreEnds input input' output output' store store' KeeperFault =
+    (r : Registry) × ReadsDump input input' r × Rose store.faults store'.faults × (output' ≡ output) × (store'.rows ≡ store.rows)
+RestoreEnds input input' output output' store store' NoMemory = ReadsSome input input' × (output' ≡ output) × (store'.rows ≡ store.rows)
+RestoreEnds input input' output output' store store' (UnknownRouter router) = ⊥
+RestoreEnds input input' output output' store store' NotEmpty =
+    (r : Registry) × ReadsDump input input' r × IsFilled store × (output' ≡ output) × (store'.rows ≡ store.rows)
+
+-- How a run ends. Words that are no command end as usage, with nothing read or written. A question leaves the keeper alone.
+abbrev pub Ends : Option Command → Outside → Outside → End → Type 0
+Ends None before after end = (end ≡ Usage) × (after.input ≡ before.input) × (after.output ≡ before.output) × (after.store ≡ before.store)
+Ends (Some (Ask question)) before after end = QuestionEnds question before.input after.input before.output after.output end × (after.store ≡ before.store)
+Ends (Some Restore) before after end = RestoreEnds before.input after.input before.output after.output before.store after.store end
 
 -- the errors took the line, or a first part of it, and a write failed
 abbrev pub Tells : Flow → Flow → List ℕ → Type 0
 Tells before after line = Takes before.bytes after.bytes line ⊎ (TakesPart before.bytes after.bytes line × Rose before.faults after.faults)
 
--- nothing was asked of keeper and clock
-abbrev pub LeavesAlone : Outside → Outside → Type 0
-LeavesAlone before after = (after.rows ≡ before.rows) × (after.keeper_faults ≡ before.keeper_faults) × (after.second ≡ before.second)
-
 -- what is told of an end: the status, and a line on the errors
 abbrev pub IsTold : End → Flow → Flow → Option ℕ → Type 0
 IsTold end before after status = (status ≡ Some (status_of end)) × Tells before after (error_text end)
 
--- A run of a command: it ends in one way, which its status says, and of which a line on the errors tells. No command uses the keeper or
--- the clock.
+-- A run of a command: it ends in one way, which its status says, and of which a line on the errors tells. No command uses the clock.
 pub record Runs (command : Option Command) (before after : Outside) (status : Option ℕ) : Type 0 where
   pub end : End
-  pub ends : Ends command before.input after.input before.output after.output end
+  pub ends : Ends command before after end
   pub told : IsTold end before.errors after.errors status
-  pub alone : LeavesAlone before after
+  pub clock : after.second ≡ before.second
 
 -- the statuses that a run may have
 abbrev pub IsStatus : Option ℕ → Type 0
 IsStatus None = ⊥
-IsStatus (Some n) = IsTrue (n == 0 || n == 1 || n == 2 || n == 3 || n == 4 || n == 8 || n == 9)
+IsStatus (Some n) = IsTrue (n == 0 || n == 1 || n == 2 || n == 3 || n == 4 || n == 5 || n == 8 || n == 9 || n == 11)
 
 -- how a run ends whose input is longer than the limit: it is refused as such, or a read failed, or memory ran out
 abbrev pub IsLongEnd : End → Type 0
@@ -183,10 +213,20 @@ IsLongEnd ReadFault = Unit {0}
 IsLongEnd NoMemory = Unit {0}
 IsLongEnd end = ⊥
 
--- how a run ends whose input the command answers so: the output took the answer, or memory ran out, or a read or a write failed
+-- how a run ends whose input the question answers so: the output took the answer, or memory ran out, or a read or a write failed
 abbrev pub IsAnswered : List ℕ → Flow → Flow → Flow → Flow → End → Type 0
 IsAnswered answer input input' output output' Done = Takes output.bytes output'.bytes answer
 IsAnswered answer input input' output output' ReadFault = Rose input.faults input'.faults
 IsAnswered answer input input' output output' WriteFault = Rose output.faults output'.faults
 IsAnswered answer input input' output output' NoMemory = Unit {0}
 IsAnswered answer input input' output output' end = ⊥
+
+-- how `restore` ends with the dump of this registry and an empty keeper: that has the registry's rows, or memory ran out, or a read, a write or the
+-- keeper failed
+abbrev pub IsRestored : Registry → Outside → Outside → End → Type 0
+IsRestored r before after Done = Fills r before.store after.store × Takes before.output.bytes after.output.bytes (Restores r)
+IsRestored r before after ReadFault = Rose before.input.faults after.input.faults
+IsRestored r before after WriteFault = Rose before.output.faults after.output.faults
+IsRestored r before after KeeperFault = Rose before.store.faults after.store.faults
+IsRestored r before after NoMemory = Unit {0}
+IsRestored r before after end = ⊥

@@ -1,13 +1,16 @@
 //! The top calls: a command by its words, over the objects that the caller hands in.
 ghost use Rattle.std.specs.Prelude.{◌≡◌, ◌↔◌, ◌≤◌, List, ℕ, map, Some, None, Ok, Err, IsSome, IsTrue, IfOk, IfErr};
-ghost use Rattle.ixp_cli.specs.declared.command.Command.TheVariants.{Generate as AskFor};
-ghost use Rattle.ixp_cli.specs.Runs.{Answers, AsksInVain, CommandEnds, Ends, Flow, IsStatus, Outside, RefusedOr, Runs, command_by, command_in, command_with, too_long};
+ghost use Rattle.ixp_cli.specs.declared.command.Command.TheVariants.{Ask};
+ghost use Rattle.ixp_cli.specs.declared.command.Question.TheVariants.{Generate as AskFor};
+ghost use Rattle.ixp_cli.specs.Restores.{Store};
+ghost use Rattle.ixp_cli.specs.Runs.{Answers, AsksInVain, Ends, Flow, IsStatus, Outside, QuestionEnds, RefusedOr, Runs, command_by, command_in, command_with, too_long};
 
 use crate::check::check;
 use crate::end::{End, NoAnswer, report};
 use crate::eval::eval;
 use crate::fate::fate;
 use crate::generation::router_text;
+use crate::restore::run_restore;
 use ixp_causes::{Cause, Code, Place};
 use ixp_io::{Clock, Door, Gate, Keeper, Sink, Source, WholeFault, read_whole, write_all};
 use ixp_num::Name;
@@ -17,9 +20,9 @@ use std::alloc::{AllocError, Global};
 /// The greatest number of bytes of an input that is read whole.
 pub const INPUT_LIMIT: usize = 268_435_456;
 
-/// A command of the program, by what it does with its input.
+/// A command that reads all of its input, and writes what there is to say of it.
 #[derive(Debug, Drop)]
-pub enum Command {
+pub enum Question {
     Check,
     Eval,
     Fate,
@@ -27,16 +30,32 @@ pub enum Command {
     Generate { router: Name },
 }
 
+/// A command of the program.
+#[derive(Debug, Drop)]
+pub enum Command {
+    Ask { question: Question },
+    /// Puts the registry whose dump is read into the store, which has to be empty.
+    Restore,
+}
+
+fn ask(question: Question) -> Command
+    ensures { result ≡ Ask question }
+{
+    Command::Ask { question }
+}
+
 /// The command that a word is.
 fn command_by(word: &[u8]) -> Option<Command>
     ensures { result ≡ command_by word.now }
 {
     if word == b"check".as_slice() {
-        Some(Command::Check)
+        Some(ask(Question::Check))
     } else if word == b"eval".as_slice() {
-        Some(Command::Eval)
+        Some(ask(Question::Eval))
     } else if word == b"fate".as_slice() {
-        Some(Command::Fate)
+        Some(ask(Question::Fate))
+    } else if word == b"restore".as_slice() {
+        Some(Command::Restore)
     } else {
         None
     }
@@ -46,13 +65,13 @@ fn command_by(word: &[u8]) -> Option<Command>
 #[tactic(auto, using(ixp_trial::proofs::Handles::handle_is_name))]
 fn command_with(alloc: Global, word: &[u8], handle: &[u8]) -> Result<Option<Command>, AllocError>
     ensures ok { IfOk result (λ c. c ≡ command_with word.now handle.now) }
-    ensures err { IfErr result (λ e. command_with word.now handle.now ≡ Some (AskFor handle.now)) }
+    ensures err { IfErr result (λ e. command_with word.now handle.now ≡ Some (Ask (AskFor handle.now))) }
 {
     if word != b"generate".as_slice() || !is_handle(handle) {
         return Ok(None);
     }
     let router = Name::new(alloc, handle)?;
-    Ok(Some(Command::Generate { router }))
+    Ok(Some(ask(Question::Generate { router })))
 }
 
 /// The command that words are.
@@ -67,22 +86,22 @@ fn command_in(alloc: Global, words: &[&str]) -> Result<Option<Command>, AllocErr
     }
 }
 
-/// What a command writes for an input.
+/// What a question answers of an input.
 #[tactic(auto, using(crate::proofs::Refusals::no_router_asked))]
-fn answer(alloc: Global, command: Command, input: &[u8]) -> Result<Vec<u8>, NoAnswer>
-    ensures output { IfOk result (λ out. Answers command input.now (Ok out.items)) }
-    ensures refusal { IfErr result (RefusedOr (λ cause. Answers command input.now (Err cause)) (AsksInVain command input.now)) }
+fn answer(alloc: Global, question: Question, input: &[u8]) -> Result<Vec<u8>, NoAnswer>
+    ensures output { IfOk result (λ out. Answers question input.now (Ok out.items)) }
+    ensures refusal { IfErr result (RefusedOr (λ cause. Answers question input.now (Err cause)) (AsksInVain question input.now)) }
 {
-    match command {
-        Command::Check => check(alloc, input),
-        Command::Eval => eval(alloc, input),
-        Command::Fate => fate(alloc, input),
-        Command::Generate { router } => router_text(alloc, router, input),
+    match question {
+        Question::Check => check(alloc, input),
+        Question::Eval => eval(alloc, input),
+        Question::Fate => fate(alloc, input),
+        Question::Generate { router } => router_text(alloc, router, input),
     }
 }
 
 /// The cause of an input that is longer than the limit.
-fn too_long() -> Cause
+pub(crate) fn too_long() -> Cause
     ensures { result ≡ too_long }
 {
     Cause {
@@ -93,14 +112,14 @@ fn too_long() -> Cause
     }
 }
 
-/// Reads all of the input, and writes what the command says of it.
-fn run_command<S: Source, K: Sink>(
+/// Reads all of the input, and writes what the question answers of it.
+fn run_question<S: Source, K: Sink>(
     alloc: Global,
-    command: Command,
+    question: Question,
     input: &mut S,
     output: &mut K,
 ) -> End
-    ensures { CommandEnds command (record { bytes = S.left input.old; faults = S.read_faults input.old })
+    ensures { QuestionEnds question (record { bytes = S.left input.old; faults = S.read_faults input.old })
         (record { bytes = S.left input.new; faults = S.read_faults input.new })
         (record { bytes = K.written output.old; faults = K.write_faults output.old })
         (record { bytes = K.written output.new; faults = K.write_faults output.new }) result }
@@ -111,7 +130,7 @@ fn run_command<S: Source, K: Sink>(
         Err(WholeFault::TooLong) => return End::BadInput { cause: too_long() },
         Err(WholeFault::NoMemory) => return End::NoMemory,
     };
-    let text = match answer(alloc, command, bytes.as_slice()) {
+    let text = match answer(alloc, question, bytes.as_slice()) {
         Ok(text) => text,
         Err(NoAnswer::Bad { cause }) => return End::BadInput { cause },
         Err(NoAnswer::Unknown { router }) => return End::UnknownRouter { router },
@@ -124,19 +143,32 @@ fn run_command<S: Source, K: Sink>(
 }
 
 /// Runs the command that the words are, if they are one.
-fn run_words<S: Source, K: Sink>(
+fn run_words<S: Source, K: Sink, P: Keeper>(
     alloc: Global,
     words: &[&str],
     input: &mut S,
     output: &mut K,
+    keeper: &mut P,
 ) -> End
-    ensures { Ends (command_in (map (λ w. w.now) words.now)) (record { bytes = S.left input.old; faults = S.read_faults input.old })
-        (record { bytes = S.left input.new; faults = S.read_faults input.new })
-        (record { bytes = K.written output.old; faults = K.write_faults output.old })
-        (record { bytes = K.written output.new; faults = K.write_faults output.new }) result }
+    ensures { (errors : Flow) (second : Option ℕ) → Ends (command_in (map (λ w. w.now) words.now))
+        (record {
+          input = record { bytes = S.left input.old; faults = S.read_faults input.old };
+          output = record { bytes = K.written output.old; faults = K.write_faults output.old };
+          errors = errors;
+          store = record { rows = P.table keeper.old; faults = P.faults keeper.old };
+          second = second;
+        })
+        (record {
+          input = record { bytes = S.left input.new; faults = S.read_faults input.new };
+          output = record { bytes = K.written output.new; faults = K.write_faults output.new };
+          errors = errors;
+          store = record { rows = P.table keeper.new; faults = P.faults keeper.new };
+          second = second;
+        }) result }
 {
     match command_in(alloc, words) {
-        Ok(Some(command)) => run_command(alloc, command, input, output),
+        Ok(Some(Command::Ask { question })) => run_question(alloc, question, input, output),
+        Ok(Some(Command::Restore)) => run_restore(alloc, input, output, keeper),
         Ok(None) => End::Usage,
         Err(_) => End::NoMemory,
     }
@@ -144,7 +176,8 @@ fn run_words<S: Source, K: Sink>(
 
 /// Runs the command that the words are, and tells its exit status: 0 where the work is done, 1 where the words are no
 /// command, 2 where the input isn't of the command's form or is longer than 268,435,456 bytes, 3 and 4 where a read
-/// or a write failed, 8 where memory ran out, 9 where no router has the handle. A status other than 0 has a line on `errors`, as far as that takes it.
+/// or a write failed, 5 where the keeper failed, 8 where memory ran out, 9 where no router has the handle, 11 where the store that is to be filled has
+/// a row. A status other than 0 has a line on `errors`, as far as that takes it.
 /// None is kept for commands that wait, of which there is none yet.
 pub fn run_plain<S: Source, K: Sink, E: Sink, P: Keeper, C: Clock>(
     alloc: Global,
@@ -163,16 +196,14 @@ pub fn run_plain<S: Source, K: Sink, E: Sink, P: Keeper, C: Clock>(
           input = record { bytes = S.left input.old; faults = S.read_faults input.old };
           output = record { bytes = K.written output.old; faults = K.write_faults output.old };
           errors = record { bytes = E.written errors.old; faults = E.write_faults errors.old };
-          rows = P.table keeper.old;
-          keeper_faults = P.faults keeper.old;
+          store = record { rows = P.table keeper.old; faults = P.faults keeper.old };
           second = C.given clock.old;
         })
         (record {
           input = record { bytes = S.left input.new; faults = S.read_faults input.new };
           output = record { bytes = K.written output.new; faults = K.write_faults output.new };
           errors = record { bytes = E.written errors.new; faults = E.write_faults errors.new };
-          rows = P.table keeper.new;
-          keeper_faults = P.faults keeper.new;
+          store = record { rows = P.table keeper.new; faults = P.faults keeper.new };
           second = C.given clock.new;
         }) result }
 
@@ -180,7 +211,7 @@ pub fn run_plain<S: Source, K: Sink, E: Sink, P: Keeper, C: Clock>(
     ensures usage { (result ≡ Some 1) ↔ (command_in (map (λ w. w.now) words.now) ≡ None) }
     ensures statuses { IsStatus result }
 {
-    let end = run_words(alloc, words, input, output);
+    let end = run_words(alloc, words, input, output, keeper);
     let status = end.status();
     report(errors, end);
     Some(status)
@@ -204,16 +235,14 @@ pub fn run<R, S: Source, K: Sink, E: Sink, P: Keeper, C: Clock, D: Door, G: Gate
           input = record { bytes = S.left input.old; faults = S.read_faults input.old };
           output = record { bytes = K.written output.old; faults = K.write_faults output.old };
           errors = record { bytes = E.written errors.old; faults = E.write_faults errors.old };
-          rows = P.table keeper.old;
-          keeper_faults = P.faults keeper.old;
+          store = record { rows = P.table keeper.old; faults = P.faults keeper.old };
           second = C.given clock.old;
         })
         (record {
           input = record { bytes = S.left input.new; faults = S.read_faults input.new };
           output = record { bytes = K.written output.new; faults = K.write_faults output.new };
           errors = record { bytes = E.written errors.new; faults = E.write_faults errors.new };
-          rows = P.table keeper.new;
-          keeper_faults = P.faults keeper.new;
+          store = record { rows = P.table keeper.new; faults = P.faults keeper.new };
           second = C.given clock.new;
         }) (Some result) }
     ensures usage { (result ≡ 1) ↔ (command_in (map (λ w. w.now) words.now) ≡ None) }

@@ -21,9 +21,12 @@ pub enum End {
     BadInput { cause: Cause },
     ReadFault,
     WriteFault,
+    KeeperFault,
     NoMemory,
     /// No router has the handle.
     UnknownRouter { router: Name },
+    /// The store that is to be filled has a row.
+    NotEmpty,
 }
 
 /// Why a command has nothing to write for an input.
@@ -72,8 +75,10 @@ impl End {
             End::BadInput { .. } => 2,
             End::ReadFault => 3,
             End::WriteFault => 4,
+            End::KeeperFault => 5,
             End::NoMemory => 8,
             End::UnknownRouter { .. } => 9,
+            End::NotEmpty => 11,
         }
     }
 }
@@ -206,10 +211,12 @@ fn write_end<E: Sink>(errors: &mut E, end: End) -> Result<(), Failed>
         End::BadInput { cause } => write_refusal(errors, b"ixpm: bad input ", cause),
         End::ReadFault => write_all(errors, b"ixpm: read fault\n"),
         End::WriteFault => write_all(errors, b"ixpm: write fault\n"),
+        End::KeeperFault => write_all(errors, b"ixpm: keeper fault\n"),
         End::NoMemory => write_all(errors, b"ixpm: no memory\n"),
         End::UnknownRouter { router } => {
             write_named(errors, b"ixpm: unknown router ", router.as_bytes())
         }
+        End::NotEmpty => write_all(errors, b"ixpm: store not empty\n"),
     }
 }
 

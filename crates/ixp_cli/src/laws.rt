@@ -1,10 +1,15 @@
 //! Laws of runs. The functions do nothing: each is called for what it ensures.
 ghost use Rattle.std.specs.Prelude.{◌≡◌, ◌<◌, ◌≤◌, ℕ, List, Option, Some, Ok, Err, length};
 ghost use Rattle.ixp_causes.specs.declared.Cause.{Cause};
+ghost use Rattle.std.specs.FinMap.{empty};
+ghost use Rattle.ixp_registry.specs.declared.registry.Registry.{Registry};
 ghost use Rattle.ixp_cli.specs.declared.command.Command.{Command};
+ghost use Rattle.ixp_cli.specs.declared.command.Command.TheVariants.{Ask, Restore};
+ghost use Rattle.ixp_cli.specs.declared.command.Question.{Question};
 ghost use Rattle.ixp_cli.specs.declared.end.End.{End};
 ghost use Rattle.ixp_cli.specs.Evals.{Evaluates};
-ghost use Rattle.ixp_cli.specs.Runs.{Answers, AsksInVain, IsAnswered, IsLongEnd, IsTold, Outside, Runs, input_limit};
+ghost use Rattle.ixp_cli.specs.Restores.{IsDumpOf};
+ghost use Rattle.ixp_cli.specs.Runs.{Answers, AsksInVain, IsAnswered, IsLongEnd, IsRestored, IsTold, Outside, Runs, input_limit};
 
 /// An input of `eval` has one output.
 pub fn one_output()
@@ -18,13 +23,21 @@ pub fn long_inputs_are_refused()
         (end : End) × IsLongEnd end × IsTold end before.errors after.errors status }
 {}
 
-/// An input of a command has one answer: one output, or one refusal of it, or one router that isn't there. So an input that a command
+/// An input of a question has one answer: one output, or one refusal of it, or one router that isn't there. So an input that a question
 /// answers is answered, but that a read or a write may fail or memory run out.
 pub fn inputs_are_answered()
-    ensures output { (command : Command) (input x y : List ℕ) → Answers command input (Ok x) → Answers command input (Ok y) → x ≡ y }
-    ensures refusal { (command : Command) (input x : List ℕ) (cause : Cause) → Answers command input (Ok x) → ¬ (Answers command input (Err cause)) }
-    ensures away { (command : Command) (input x router : List ℕ) → Answers command input (Ok x) → ¬ (AsksInVain command input router) }
-    ensures run { (command : Command) (before after : Outside) (status : Option ℕ) (input output : List ℕ) → before.input.bytes ≡ Some input →
-        length input ≤ input_limit → Answers command input (Ok output) → Runs (Some command) before after status →
+    ensures output { (question : Question) (input x y : List ℕ) → Answers question input (Ok x) → Answers question input (Ok y) → x ≡ y }
+    ensures refusal { (question : Question) (input x : List ℕ) (cause : Cause) → Answers question input (Ok x) → ¬ (Answers question input (Err cause)) }
+    ensures away { (question : Question) (input x router : List ℕ) → Answers question input (Ok x) → ¬ (AsksInVain question input router) }
+    ensures run { (question : Question) (before after : Outside) (status : Option ℕ) (input output : List ℕ) → before.input.bytes ≡ Some input →
+        length input ≤ input_limit → Answers question input (Ok output) → Runs (Some (Ask question)) before after status →
         (end : End) × IsAnswered output before.input after.input before.output after.output end × IsTold end before.errors after.errors status }
+{}
+
+/// A registry's dump is restored into a keeper that tells that it has no row, but that a read, a write or the keeper may fail or memory run
+/// out.
+pub fn dumps_are_restored()
+    ensures { (r : Registry) (before after : Outside) (status : Option ℕ) (input : List ℕ) → before.input.bytes ≡ Some input →
+        length input ≤ input_limit → IsDumpOf input r → before.store.rows ≡ Some empty → Runs (Some Restore) before after status →
+        (end : End) × IsRestored r before after end × IsTold end before.errors after.errors status }
 {}

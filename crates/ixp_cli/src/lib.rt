@@ -9,6 +9,7 @@ mod fate;
 mod generation;
 mod input;
 pub mod laws;
+mod restore;
 
-pub use command::{Command, INPUT_LIMIT, run, run_plain};
+pub use command::{Command, INPUT_LIMIT, Question, run, run_plain};
 pub use end::End;

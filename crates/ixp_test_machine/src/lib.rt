@@ -1,4 +1,4 @@
-//! Tests of the machine of edits: what each kind of edits does, and why each is refused.
+//! Tests of the machine of edits: what each kind of edits does, why each is refused, and what becomes of requests that are sent again.
 //!
 //! The registry is read from the text of a dump (`samples.rt`), and what is told is compared with values worked out by hand from
 //! the rules' sentences.
@@ -14,6 +14,8 @@ mod details;
 mod lists;
 #[cfg(test)]
 mod refused;
+#[cfg(test)]
+mod requests;
 #[cfg(test)]
 mod samples;
 #[cfg(test)]

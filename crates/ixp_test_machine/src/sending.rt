@@ -11,10 +11,10 @@ use ixp_turns::request;
 use std::alloc::AllocError;
 
 /// A secret, a request's number, and its edit.
-type Sent = (&'static str, u64, Change);
+pub type Sent = (&'static str, u64, Change);
 
 /// Adds what becomes of the request.
-fn put_request(state: &mut State, sent: Sent, out: &mut Vec<u8>) -> Result<(), AllocError>
+pub fn put_request(state: &mut State, sent: Sent, out: &mut Vec<u8>) -> Result<(), AllocError>
     requires { ValidState state.old }
     ensures { ValidState state.new }
 {

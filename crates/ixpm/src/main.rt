@@ -2,7 +2,8 @@
 #![tactic(auto)]
 
 use ixp_cli::run;
-use ixp_io::{FreeGate, MemDoor, MemKeeper, Plan, ReadSource, SetClock, WriteSink};
+use ixp_io::{FreeGate, MemDoor, Plan, ReadSource, SetClock, WriteSink};
+use ixp_keeper_sql::FileKeeper;
 use std::collections::VecDeque;
 use std::process::ExitCode;
 use std::{env, io};
@@ -17,12 +18,17 @@ const HELP: &str = "ixpm: the registry of an internet exchange, and its route se
   ixpm fate        reads the dump of a registry on standard input, and after it a line route R INTERFACE ROUTE, and writes
                    the configuration of the route server with the handle R, and the fate of the route that the interface's
                    session brings
+  ixpm restore     reads the dump of a registry on standard input, and puts it into the store, the file ixpm.db of the
+                   current folder, which has to be empty
   ixpm --help      writes this
   ixpm --version   writes the version
 
-Status: 0 done, 1 usage, 2 bad input, 3 read fault, 4 write fault, 8 no memory, 9 unknown router. A line on standard
-error says why.
+Status: 0 done, 1 usage, 2 bad input, 3 read fault, 4 write fault, 5 keeper fault, 8 no memory, 9 unknown router,
+11 store not empty. A line on standard error says why.
 ";
+
+/// The file of the store, in the current folder. It is opened by the commands that use it.
+const STORE: &str = "ixpm.db";
 
 const VERSION: &str = "ixpm 0.1.0\n";
 
@@ -49,10 +55,12 @@ fn command(rt: &HostRuntime, words: &[&str]) -> u8 {
     let mut input = ReadSource::new(rt.stdin());
     let mut output = WriteSink::new(rt.stdout());
     let mut errors = WriteSink::new(rt.stderr());
-    let mut keeper = MemKeeper::new(alloc, Plan::smooth(alloc));
+    let Ok(mut keeper) = FileKeeper::new(rt, STORE) else {
+        return 8;
+    };
     let mut clock = SetClock::new(0);
     let mut door = MemDoor::new(VecDeque::new(alloc), Plan::smooth(alloc));
-    run(
+    let status = run(
         rt,
         alloc,
         words,
@@ -63,7 +71,9 @@ fn command(rt: &HostRuntime, words: &[&str]) -> u8 {
         &mut clock,
         &mut door,
         &FreeGate,
-    )
+    );
+    keeper.close();
+    status
 }
 
 /// What the words ask for: one of the program's own texts, or a command.

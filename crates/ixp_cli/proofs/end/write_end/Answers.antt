@@ -35,3 +35,19 @@ returns-in-UnknownRouter-clause-err g c =
     subst (λ (e : End). OnErr c.write_named.result (TakesPart (g.E.Stream.written c.args.errors.now) (g.E.Stream.written c.write_named.new.errors) (error_text e))) (sym c.in-UnknownRouter.is)
     (subst (λ (n : List ℕ). OnErr c.write_named.result (TakesPart (g.E.Stream.written c.args.errors.now) (g.E.Stream.written c.write_named.new.errors) (codes "ixpm: unknown router " ++ (n ++ 10 ∷ []))))
     c.as_bytes.ensures.bytes c.write_named.ensures.err)
+
+pub returns-in-KeeperFault-clause-ok : goal.returns-in-KeeperFault-clause-ok
+returns-in-KeeperFault-clause-ok g c =
+    subst (λ (e : End). OnOk c.write_all-in-KeeperFault.result (Takes (g.E.Stream.written c.args.errors.now) (g.E.Stream.written c.write_all-in-KeeperFault.new.sink) (error_text e))) (sym c.in-KeeperFault.is) c.write_all-in-KeeperFault.ensures.ok
+
+pub returns-in-KeeperFault-clause-err : goal.returns-in-KeeperFault-clause-err
+returns-in-KeeperFault-clause-err g c =
+    subst (λ (e : End). OnErr c.write_all-in-KeeperFault.result (TakesPart (g.E.Stream.written c.args.errors.now) (g.E.Stream.written c.write_all-in-KeeperFault.new.sink) (error_text e))) (sym c.in-KeeperFault.is) c.write_all-in-KeeperFault.ensures.err
+
+pub returns-in-NotEmpty-clause-ok : goal.returns-in-NotEmpty-clause-ok
+returns-in-NotEmpty-clause-ok g c =
+    subst (λ (e : End). OnOk c.write_all-in-NotEmpty.result (Takes (g.E.Stream.written c.args.errors.now) (g.E.Stream.written c.write_all-in-NotEmpty.new.sink) (error_text e))) (sym c.in-NotEmpty.is) c.write_all-in-NotEmpty.ensures.ok
+
+pub returns-in-NotEmpty-clause-err : goal.returns-in-NotEmpty-clause-err
+returns-in-NotEmpty-clause-err g c =
+    subst (λ (e : End). OnErr c.write_all-in-NotEmpty.result (TakesPart (g.E.Stream.written c.args.errors.now) (g.E.Stream.written c.write_all-in-NotEmpty.new.sink) (error_text e))) (sym c.in-NotEmpty.is) c.write_all-in-NotEmpty.ensures.err

@@ -1,0 +1,4 @@
+pub mod Keeping
+pub mod Nothing
+pub mod Reading
+pub mod SameRows

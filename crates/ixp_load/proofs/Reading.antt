@@ -1,0 +1,77 @@
+-- Rows of a keeper that are read one after the other.
+use Rattle.std.proofs.Common.{◌≡◌, ◌-◌, List, [], ◌∷◌, ◌++◌, map, append-nil, length, ℕ, Option, Some, None, option_map, refl, sym, ap, ◌∙◌, arith}
+use Rattle.std.specs.Prelude.{slice_get}
+use Rattle.std.proofs.lemmas.List.{append_assoc, map-append}
+use Rattle.std.specs.FinMap.{entries}
+use Rattle.ixp_io.specs.declared.keeper.Row.{Row}
+use Rattle.ixp_io.specs.Tables.{Table, next_after, row_entry}
+use Rattle.ixp_io.specs.Told.{WhereTold}
+use Rattle.ixp_io.proofs.Rows.{rows_in_order}
+use Rattle.ixp_stored.specs.Names.{Entry}
+use Rattle.ixp_load.specs.Reading.{IsFront, ComesNext, name_before}
+
+-- the last of some rows
+record Ends (rows : List Row) (n : ℕ) : Type 0 where
+  front : List Row
+  last : Row
+  is : rows ≡ front ++ last ∷ []
+  got : slice_get rows n ≡ Some last
+
+ends : (x : Row) (xs : List Row) → Ends (x ∷ xs) (length xs)
+ends x [] = record { front = []; last = x; is = refl; got = refl }
+ends x (y ∷ ys) = let e = ends y ys in record { front = x ∷ e.front; last = e.last; is = ap (λ l. x ∷ l) e.is; got = e.got }
+
+-- what comes after rows that are the first ones
+behind : (t : Table) (rows : List Row) (rest : List Entry) → entries t ≡ map row_entry rows ++ rest → next_after (name_before rows) t ≡ slice_get rest 0
+behind t [] rest e = ap (λ es. slice_get es 0) e
+behind t (x ∷ xs) rest e =
+    let at = ends x xs in
+    let one : length (x ∷ xs) - 1 ≡ length xs = omega arith in
+    let here : name_before (x ∷ xs) ≡ Some (at.last).name = ap (λ n. option_map (λ r. r.name) (slice_get (x ∷ xs) n)) one ∙ ap (λ o. option_map (λ r. r.name) o) at.got in
+    let parted : entries t ≡ map row_entry at.front ++ row_entry at.last ∷ rest =
+        e ∙ (ap (λ l. map row_entry l ++ rest) at.is ∙ (ap (λ l. l ++ rest) (map-append row_entry at.front (at.last ∷ [])) ∙ append_assoc (map row_entry at.front) (row_entry at.last ∷ []) rest)) in
+    ap (λ o. next_after o t) here ∙ rows_in_order t (map row_entry at.front) rest (row_entry at.last) parted
+
+no_first : (es : List Entry) → None ≡ slice_get es 0 → es ≡ []
+no_first [] e = refl
+no_first (x ∷ xs) e = absurd (let bad : ◌≡◌ {A = Option Entry} None (Some x) = e in cc)
+
+abbrev first_rest : List Entry → List Entry
+first_rest [] = []
+first_rest (x ∷ xs) = xs
+
+a_first : (es : List Entry) (x : Entry) → Some x ≡ slice_get es 0 → es ≡ x ∷ first_rest es
+a_first [] x e = absurd (let bad : ◌≡◌ {A = Option Entry} (Some x) None = e in cc)
+a_first (y ∷ ys) x e = let same : ◌≡◌ {A = Option Entry} (Some x) (Some y) = e in let here : x ≡ y = cc in ap (λ z. z ∷ ys) (sym here)
+
+none_left : (t : Table) (rows : List Row) (rest : List Entry) → entries t ≡ map row_entry rows ++ rest → None ≡ next_after (name_before rows) t → map row_entry rows ≡ entries t
+none_left t rows rest front e =
+    let none : rest ≡ [] = no_first rest (e ∙ behind t rows rest front) in
+    sym (append-nil (map row_entry rows)) ∙ (ap (λ r. map row_entry rows ++ r) (sym none) ∙ sym front)
+
+one_more : (t : Table) (rows : List Row) (rest : List Entry) (row : Row) → entries t ≡ map row_entry rows ++ rest → Some (row_entry row) ≡ next_after (name_before rows) t → IsFront t (rows ++ row ∷ [])
+one_more t rows rest row front e =
+    let some : rest ≡ row_entry row ∷ first_rest rest = a_first rest (row_entry row) (e ∙ behind t rows rest front) in
+    (first_rest rest,
+    front ∙ (ap (λ r. map row_entry rows ++ r) some ∙ (sym (append_assoc (map row_entry rows) (row_entry row ∷ []) (first_rest rest)) ∙ ap (λ l. l ++ first_rest rest) (sym (map-append row_entry rows (row ∷ []))))))
+
+comes : (t : Table) (rows : List Row) (o : Option Row) → option_map row_entry o ≡ next_after (name_before rows) t → ComesNext t rows o
+comes t rows None e = λ f. none_left t rows f.0 f.1 e
+comes t rows (Some row) e = λ f. one_more t rows f.0 row f.1 e
+
+pub comes_where_told : (o : Option Table) (rows : List Row) (row : Option Row) → WhereTold o (λ t. option_map row_entry row ≡ next_after (name_before rows) t) → WhereTold o (λ t. ComesNext t rows row)
+comes_where_told None rows row e = tt
+comes_where_told (Some t) rows row e = comes t rows row e
+
+pub none_read : (o : Option Table) → WhereTold o (λ t. IsFront t [])
+none_read None = tt
+none_read (Some t) = (entries t, refl)
+
+-- where the first rows are all of them
+pub all_read : (o : Option Table) (rows : List Row) → WhereTold o (λ t. IsFront t rows) → WhereTold o (λ t. ComesNext t rows None) → WhereTold o (λ t. map row_entry rows ≡ entries t)
+all_read None rows front next = tt
+all_read (Some t) rows front next = next front
+
+pub more_read : (o : Option Table) (rows : List Row) (row : Row) → WhereTold o (λ t. IsFront t rows) → WhereTold o (λ t. ComesNext t rows (Some row)) → WhereTold o (λ t. IsFront t (rows ++ row ∷ []))
+more_read None rows row front next = tt
+more_read (Some t) rows row front next = next front

@@ -1,0 +1,5 @@
+use Rattle.std.proofs.Common.{length}
+use Rattle.ixp_load.proofs.opened.count_in.Given as goal
+
+abbrev pub decreases-rows : goal.decreases-rows
+decreases-rows l = length l.left

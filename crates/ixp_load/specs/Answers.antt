@@ -1,0 +1,30 @@
+-- What a store is the store of.
+use Rattle.std.specs.Prelude.{◌≡◌, ◌⊎◌, []}
+use Rattle.std.specs.FinMap.{empty}
+use Rattle.ixp_io.specs.Tables.{Table}
+use Rattle.ixp_registry.specs.declared.registry.Registry.{Registry}
+use Rattle.ixp_opening.specs.Openings.{first_state}
+use Rattle.ixp_steps.specs.declared.state.State.{State}
+use Rattle.ixp_stored.specs.States.{tables}
+
+-- the registry without rows; its site has the numbers 0 and no name
+abbrev pub empty_registry : Registry
+empty_registry = record {
+  site = record { ixp_id = 0; ixf_id = 0; shortname = [] };
+  members = [];
+  contacts = [];
+  keys = [];
+  switches = [];
+  ports = [];
+  vlans = [];
+  interfaces = [];
+  routers = [];
+  irr = [];
+  origins = [];
+  rules = [];
+  public = record { bogons = []; bogon_as = []; transit = []; roas = [] };
+}
+
+-- a store has the rows of the state; one without rows is that of the first state of the registry without rows
+abbrev pub IsStoreOf : State → Table → Type 0
+IsStoreOf s rows = (rows ≡ tables s) ⊎ ((rows ≡ empty) × (s ≡ first_state empty_registry))

@@ -1,0 +1,9 @@
+-- The fault of a load by that of its keeper.
+use Rattle.ixp_io.specs.declared.keeper.KeepFault.{KeepFault}
+use Rattle.ixp_io.specs.declared.keeper.KeepFault.TheVariants as keep
+use Rattle.ixp_load.specs.declared.fault.LoadFault.{LoadFault}
+use Rattle.ixp_load.specs.declared.fault.LoadFault.TheVariants.{KeeperFault, NoMemory}
+
+abbrev pub fault_of : KeepFault → LoadFault
+fault_of keep.Failed = KeeperFault
+fault_of keep.NoMemory = NoMemory

@@ -1,0 +1,39 @@
+//! Whether rows are those of a state.
+ghost use Rattle.std.specs.Prelude.{◌≡◌, IfOk, IsTrue, map};
+ghost use Rattle.ixp_io.specs.Tables.{row_entry};
+ghost use Rattle.ixp_stored.specs.States.{set_row, stored_rows};
+ghost use Rattle.std.specs.List.Sorted.{IsPermutation};
+
+use crate::decode::sets;
+use ixp_io::{Change, Row};
+use ixp_steps::State;
+use ixp_stored::whole_batch;
+use std::alloc::{AllocError, Global};
+
+/// Whether the changes put these rows into a store, in this order.
+fn are_set(batch: &[Change], rows: &[Row]) -> bool
+    ensures { IsTrue result → batch.now ≡ map set_row (map row_entry rows.now) }
+{
+    let mut changes = batch;
+    let mut left = rows;
+    'each: while let Some((change, others)) = changes.split_first() {
+        let Some((row, behind)) = left.split_first() else {
+            return false;
+        };
+        if !sets(change, row) {
+            return false;
+        }
+        changes = others;
+        left = behind;
+    }
+    left.is_empty()
+}
+
+/// Whether the rows are those that a store has of the state, in the order of their names.
+pub(crate) fn are_rows_of(alloc: Global, state: &State, rows: &[Row]) -> Result<bool, AllocError>
+    ensures { IfOk result (λ are. IsTrue are → IsPermutation (map set_row (stored_rows state.now)) (map set_row (map row_entry rows.now))) }
+{
+    let mut batch = whole_batch(alloc, state)?;
+    batch.sort_unstable_by(|a, b| a.name.cmp(&b.name));
+    Ok(are_set(batch.as_slice(), rows))
+}

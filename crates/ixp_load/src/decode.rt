@@ -1,0 +1,69 @@
+//! Rows of lines: which typed row each of them is.
+ghost use Rattle.std.specs.Prelude.{◌≡◌, ◌<◌, length, IfOk, IfSome, IsTrue};
+ghost use Rattle.ixp_io.specs.Tables.{row_entry};
+ghost use Rattle.ixp_stored.specs.States.{set_row};
+
+use crate::fault::{Damage, NoState};
+use ixp_io::{Change, Row, RowName};
+use ixp_lines::{Lined, Unread, Version, word_of};
+use ixp_stored::{Stored, set_row};
+use std::alloc::{AllocError, Global};
+
+/// The fault of a damaged row.
+pub(crate) fn damaged(alloc: Global, name: &RowName) -> NoState {
+    match name.copied(alloc) {
+        Ok(name) => NoState::Damaged {
+            name,
+            damage: Damage::Row,
+        },
+        Err(_) => NoState::NoMemory,
+    }
+}
+
+/// Whether the change puts this very row into the store.
+pub(crate) fn sets(change: &Change, row: &Row) -> bool
+    ensures { IsTrue result → change.now ≡ set_row (row_entry row.now) }
+{
+    if change.name.kind != row.name.kind
+        || change.name.key.as_slice() != row.name.key.as_slice()
+    {
+        return false;
+    }
+    match &change.body {
+        Some(body) => body.as_slice() == row.body.as_slice(),
+        None => false,
+    }
+}
+
+/// The row whose line stands at the front of the text, and what is behind it.
+#[tactic(auto, using(ixp_lines::proofs::Lengths::fields_less))]
+pub(crate) fn front_line<R: Lined + Drop>(
+    alloc: Global,
+    text: &[u8],
+) -> Result<Option<(R, &[u8])>, AllocError>
+    ensures shorter { IfOk result (λ o. IfSome o (λ x. length x.1.now < length text.now)) }
+{
+    let Some(rest) = text.strip_prefix(word_of(R::kind())) else {
+        return Ok(None);
+    };
+    match R::read(alloc, Version::Two, rest) {
+        Ok((row, behind)) => Ok(Some((row, behind))),
+        Err(Unread::Bad) => Ok(None),
+        Err(Unread::NoMemory) => Err(AllocError),
+    }
+}
+
+/// The typed row, where this is one of its kind.
+pub(crate) fn row_of<R: Stored + Drop>(alloc: Global, row: &Row) -> Result<Option<R>, AllocError> {
+    let mut text = Vec::from_slice(alloc, row.body.as_slice())?;
+    text.push(b'\n')?;
+    let Some((typed, _)) = front_line::<R>(alloc, text.as_slice())? else {
+        return Ok(None);
+    };
+    let change = set_row(alloc, &typed)?;
+    if sets(&change, row) {
+        Ok(Some(typed))
+    } else {
+        Ok(None)
+    }
+}

@@ -1,0 +1,18 @@
+//! The state that a store holds.
+//!
+//! [`load`] reads all rows of a keeper. It answers the valid state whose rows they are (`specs/States.antt` of ixp_stored), or why
+//! there is none: the first row, in the keeper's order, that is no row of a state, or the lowest rule of a registry that the
+//! rows break and the row that breaks it.
+#![tactic(auto)]
+
+mod checking;
+mod decode;
+mod fault;
+mod kept;
+mod keeper;
+mod lines;
+mod opened;
+mod words;
+
+pub use fault::{Damage, LoadFault};
+pub use opened::load;

@@ -1,0 +1,125 @@
+//! Runs of requests: who may ask for what, requests that are sent again, and numbers that were used.
+ghost use Rattle.ixp_steps.specs.States.{ValidState};
+
+use crate::changes::Change;
+use crate::samples::{LINES, Plays, STAFF, is_wanted, told};
+use crate::sending::{Sent, put_request};
+use ixp_machine::place_of;
+use ixp_registry::Owner;
+use ixp_steps::State;
+use ixp_text::{put, put_number};
+use std::alloc::AllocError;
+use std::process::Abort;
+
+const MEMBER: &str = "memberb000000002";
+
+/// Sends the requests one after the other.
+#[derive(Clone, Copy)]
+struct Sends(&'static [Sent]);
+
+impl Plays for Sends {
+    fn play(&self, state: &mut State, out: &mut Vec<u8>) -> Result<(), AllocError> {
+        let mut left = self.0;
+        'each: while let Some((sent, others)) = left.split_first() {
+            put_request(state, *sent, out)?;
+            put(out, b"\n")?;
+            left = others;
+        }
+        Ok(())
+    }
+}
+
+const RUN: &[Sent] = &[
+    ("nobody0000000000", 1, Change::AddSwitch(9, "s")),
+    (MEMBER, 1, Change::AddSwitch(9, "s")),
+    (MEMBER, 1, Change::SetMacro(1, "AS1")),
+    (MEMBER, 1, Change::PutContact(3, 1, "Bob", "", "")),
+    (MEMBER, 1, Change::SetMacro(2, "AS2")),
+    (MEMBER, 1, Change::SetMacro(2, "AS2")),
+    (MEMBER, 1, Change::SetMacro(2, "a b")),
+    (MEMBER, 1, Change::SetMacro(1, "AS1")),
+    (MEMBER, 1, Change::PutContact(2, 1, "Bob", "", "")),
+    (STAFF, 1, Change::SetMacro(2, "AS3")),
+    (STAFF, 7, Change::AddMember(5, 65010, "E")),
+    (STAFF, 7, Change::AddMember(5, 65010, "E")),
+    (STAFF, 7, Change::AddSwitch(9, "s")),
+    (STAFF, 7, Change::AddMember(7, 65011, "G")),
+    (STAFF, 8, Change::AddMember(5, 65010, "E")),
+    (STAFF, 8, Change::AddSwitch(9, "s")),
+    (STAFF, 8, Change::DropSwitch(9)),
+];
+
+const TOLD: &str = "X0
+X1 staff
+X1 member 1
+X1 member 3
+ok
+again 1
+again 1
+X1 member 1
+X2 SetMacro 2
+ok
+ok
+again 7
+X2 AddMember 5
+X2 AddMember 5
+X11 5
+ok
+X2 AddSwitch 9
+";
+
+#[test]
+fn requests_one_after_the_other(rt: HostRuntime) {
+    let have = told(rt.alloc(), LINES.as_bytes(), &Sends(RUN));
+    is_wanted(&rt, have, TOLD.as_bytes(), "requests");
+}
+
+/// Sends so many requests of the staff, numbered from 1, then the first one again, and asks after which place some of them stand.
+#[derive(Clone, Copy)]
+struct Many(u64);
+
+fn put_place(state: &State, number: u64, out: &mut Vec<u8>) -> Result<(), AllocError> {
+    put(out, b" ")?;
+    match place_of(state, &Owner::Staff(1), number) {
+        Some(place) => put_number(out, place),
+        None => put(out, b"none"),
+    }
+}
+
+fn send_many(state: &mut State, count: u64, out: &mut Vec<u8>) -> Result<(), AllocError>
+    requires { ValidState state.old }
+    ensures { ValidState state.new }
+{
+    let mut said = Vec::new(*out.allocator());
+    'each: for number in 0..count {
+        put_request(state, (STAFF, number + 1, Change::SetMacro(2, "AS2")), &mut said)?;
+        if said.as_slice() != b"ok".as_slice() {
+            return put(out, b"refused ");
+        }
+        said.clear();
+    }
+    Ok(())
+}
+
+impl Plays for Many {
+    fn play(&self, state: &mut State, out: &mut Vec<u8>) -> Result<(), AllocError> {
+        send_many(state, self.0, out)?;
+        put_request(state, (STAFF, 1, Change::SetMacro(2, "AS2")), out)?;
+        put_place(state, 1, out)?;
+        put_place(state, 2, out)?;
+        put_place(state, 1025, out)?;
+        put_place(state, 20_000, out)
+    }
+}
+
+#[test]
+fn numbers_that_were_used(rt: HostRuntime) {
+    let have = told(rt.alloc(), LINES.as_bytes(), &Many(1025));
+    is_wanted(&rt, have, b"X3 2 1025 2 1025 none", "1,025 requests");
+}
+
+#[test]
+fn ten_thousand_requests(rt: HostRuntime) {
+    let have = told(rt.alloc(), LINES.as_bytes(), &Many(10_000));
+    is_wanted(&rt, have, b"X3 8977 10000 10000 10000 none", "10,000 requests");
+}
