@@ -13,6 +13,7 @@ ghost use Rattle.ixp_pfxset.specs.Plain.{Fills};
 ghost use Rattle.ixp_pfxset.specs.Trie.{AllWithin, IsMerged, IsMergedBelow, IsOfFamily};
 
 use crate::full::{first_half, second_half};
+use crate::lengths::ByLength;
 use crate::mode::Mode;
 use crate::ordered::in_order;
 use crate::plain::upper_bound;
@@ -53,6 +54,18 @@ fn push_if(
     Ok(())
 }
 
+/// Adds the pattern of a row that is alone.
+fn push_row(out: &mut Vec<Pattern>, row: &Prefix, l: u8, high: u8) -> Result<(), AllocError>
+    ensures { OnOk result ((t : Pattern) → Contains out.new.items t ↔ (Contains out.old.items t ⊎ (t ≡ record { prefix = row.now; low = l; high = high }))) }
+{
+    out.push(Pattern {
+        prefix: *row,
+        low: l,
+        high,
+    })?;
+    Ok(())
+}
+
 /// Whether the list, all of whose rows have length `l` and lie in `n`, has all such prefixes. Adds the patterns
 /// of the longest full prefixes within `n`, unless `n` itself is full.
 fn merge(
@@ -75,6 +88,10 @@ fn merge(
     if n.len == l {
         return Ok(true);
     }
+    if let [only] = list {
+        push_row(out, only, l, high)?;
+        return Ok(false);
+    }
     let first = first_half(n);
     let second = second_half(n);
     let (low, upper) = parted(list, second.value);
@@ -85,34 +102,13 @@ fn merge(
     Ok(low_full & upper_full)
 }
 
-/// The rows of a family and a length.
-fn rows_of_length(
-    alloc: Global,
-    list: &[Prefix],
-    family: Family,
-    l: u8,
-) -> Result<Vec<Prefix>, AllocError>
-    ensures { IfOk result (λ rows. rows.items ≡ filter (λ r. same_family r.family family && r.len == l) list.now) }
+/// The rows by their numbers.
+fn by_value(mut rows: Vec<Prefix>) -> Vec<Prefix>
+    ensures sorted { IsNonDecreasingBy (λ r. r.value) result.items }
+    ensures rows { IsPermutation rows.items result.items }
 {
-    list.iter()
-        .copied()
-        .filter(|r| r.family == family && r.len == l)
-        .collect(alloc)
-}
-
-/// The same, by their numbers.
-fn sorted_rows_of_length(
-    alloc: Global,
-    list: &[Prefix],
-    family: Family,
-    l: u8,
-) -> Result<Vec<Prefix>, AllocError>
-    ensures sorted { IfOk result (λ rows. IsNonDecreasingBy (λ r. r.value) rows.items) }
-    ensures rows { IfOk result (λ rows. IsPermutation (filter (λ r. same_family r.family family && r.len == l) list.now) rows.items) }
-{
-    let mut rows = rows_of_length(alloc, list, family, l)?;
     rows.sort_unstable_by_key(|r| r.value);
-    Ok(rows)
+    rows
 }
 
 /// The prefix of length 0.
@@ -127,21 +123,21 @@ fn whole(family: Family) -> Prefix
     }
 }
 
-/// Adds the patterns for the prefixes of a family and a length, from the list of new prefixes.
+/// Adds the patterns for the prefixes of a family and a length, of which these are the rows.
 fn merge_length(
     out: &mut Vec<Pattern>,
-    alloc: Global,
-    list: &[Prefix],
+    rows: Vec<Prefix>,
     family: Family,
     l: u8,
     high: u8,
 ) -> Result<(), AllocError>
-    requires { l ≤ bits_of family }
-    ensures { OnOk result ((t : Pattern) → Contains out.new.items t ↔ (Contains out.old.items t ⊎ ((t.prefix.family ≡ family) × IsMerged list.now l high t))) }
+    requires short { l ≤ bits_of family }
+    requires alike { filter (λ r. same_family r.family family && r.len == l) rows.items ≡ rows.items }
+    ensures { OnOk result ((t : Pattern) → Contains out.new.items t ↔ (Contains out.old.items t ⊎ ((t.prefix.family ≡ family) × IsMerged rows.items l high t))) }
 {
-    let rows = sorted_rows_of_length(alloc, list, family, l)?;
+    let ordered = by_value(rows);
     let whole = whole(family);
-    let full = merge(out, &rows, l, high, &whole)?;
+    let full = merge(out, &ordered, l, high, &whole)?;
     push_if(out, full, &whole, l, high)?;
     Ok(())
 }
@@ -157,8 +153,10 @@ fn merge_family(
 ) -> Result<(), AllocError>
     ensures { OnOk result ((t : Pattern) → Contains out.new.items t ↔ (Contains out.old.items t ⊎ IsOfFamily list.now mode high family t)) }
 {
+    let mut lengths = ByLength::of_family(alloc, list, family)?;
     for l in 0..=high.min(family.bits()) {
-        merge_length(out, alloc, list, family, l, upper_bound(mode, high, l))?;
+        let rows = lengths.take(alloc, l);
+        merge_length(out, rows, family, l, upper_bound(mode, high, l))?;
     }
     Ok(())
 }
