@@ -1,19 +1,23 @@
 //! The texts of a route server.
-ghost use Rattle.std.specs.Prelude.{◌≡◌, ◌++◌, ◌<◌, ◌^◌, IfOk, OnOk, Some};
+ghost use Rattle.std.specs.Prelude.{◌≡◌, ◌++◌, ◌<◌, ◌^◌, List, IfOk, OnOk, Some};
 ghost use Rattle.ixp_print.specs.Texts.{config_text};
 ghost use Rattle.ixp_pfxset.specs.BlockList.{blocks};
+ghost use Rattle.ixp_num.specs.declared.pattern.Pattern.{Pattern};
 ghost use Rattle.ixp_registry.specs.declared.router.Router.{Router};
+ghost use Rattle.ixp_compile.specs.Fragment.{fragment};
 ghost use Rattle.ixp_compile.specs.Header.{header};
 ghost use Rattle.ixp_compile.specs.Generated.{allowed_set, covered_set, footer, generated, header_inputs, mode_of, own_part, session_part};
+ghost use Rattle.ixp_generate.specs.Addresses.{AreInVlan};
 ghost use Rattle.ixp_generate.specs.Answers.{Prints, generated_at, header_at, part_at, router_at};
 ghost use Rattle.ixp_generate.specs.Made.{items_view};
 ghost use Rattle.ixp_generate.specs.Sessions.{part_text, sessions_text};
 ghost use Rattle.ixp_policy.specs.Views.{session_of};
 
+use crate::addresses::MemberAddresses;
 use crate::fault::GenFault;
 use crate::head::add_header;
 use crate::session::add_fragment;
-use crate::values::{header_inputs_of, inputs_of};
+use crate::values::{header_inputs_of, inputs_of, inputs_with};
 use ixp_compile::{HeaderInputs, Inputs};
 use ixp_lang::{Config, Item};
 use ixp_num::{Items, Name, Pattern, Prefix};
@@ -58,6 +62,17 @@ fn covered_set(alloc: Global, i: &Inputs) -> Result<Items<Pattern>, AllocError>
     merged(alloc, prefixes, Mode::More, i.family.bits())
 }
 
+/// The nets that the member's prefixes cover. Where the router has no next hop of routes to be dropped, no part asks for
+/// them, and there are none.
+fn asked_set(alloc: Global, i: &Inputs) -> Result<Items<Pattern>, AllocError>
+    ensures { IfOk result (λ it. (irr : List Pattern) → fragment i.now irr it ≡ fragment i.now irr (covered_set i.now)) }
+{
+    if i.blackhole.is_none() {
+        return Ok(Items::new(alloc));
+    }
+    covered_set(alloc, i)
+}
+
 // Parts of a text.
 
 /// Adds the text of items.
@@ -82,7 +97,7 @@ fn put_fragment(alloc: Global, out: &mut Vec<u8>, i: &Inputs) -> Result<(), Allo
     ensures { OnOk result (out.new.items ≡ out.old.items ++ config_text (session_part i.now)) }
 {
     let irr = allowed_set(alloc, i)?;
-    let blackholes = covered_set(alloc, i)?;
+    let blackholes = asked_set(alloc, i)?;
     let mut items = Vec::new(alloc);
     add_fragment(alloc, &mut items, i, irr, blackholes)?;
     put_items(alloc, out, items)
@@ -134,15 +149,18 @@ fn put_session(
     out: &mut Vec<u8>,
     registry: &Registry,
     router: &Router,
+    addresses: &MemberAddresses,
     interface: &Interface,
 ) -> Result<(), AllocError>
-    requires { router.now.high < 2 ^ 8 }
+    requires bound { router.now.high < 2 ^ 8 }
+    requires addresses { AreInVlan registry.now router.now addresses.now }
     ensures { OnOk result (out.new.items ≡ out.old.items ++ part_text registry.now router.now interface.now) }
 {
     let Some(session) = session_at(registry, router, interface) else {
         return Ok(());
     };
-    let i = inputs_of(alloc, registry, router, &session)?;
+    let own = addresses.of(alloc, session.interface.member)?;
+    let i = inputs_with(alloc, registry, router, &session, own)?;
     put_fragment(alloc, out, &i)
 }
 
@@ -157,8 +175,9 @@ fn put_sessions(
     ensures { OnOk result (out.new.items ≡ out.old.items ++ sessions_text registry.now router.now registry.now.interfaces) }
 {
     let mut left = registry.interfaces.as_slice();
+    let addresses = MemberAddresses::in_vlan(alloc, left, router.family, router.vlan)?;
     'each: while let Some((interface, others)) = left.split_first() {
-        put_session(alloc, out, registry, router, interface)?;
+        put_session(alloc, out, registry, router, &addresses, interface)?;
         left = others;
     }
     Ok(())
