@@ -47,30 +47,24 @@ fn merged(
     Ok(Items::from_vec(patterns))
 }
 
-fn allowed_set(alloc: Global, i: &Inputs) -> Result<Items<Pattern>, AllocError>
+/// The nets that these prefixes of the session's member allow.
+fn allowed_set(alloc: Global, i: &Inputs, prefixes: &[Prefix]) -> Result<Items<Pattern>, AllocError>
     requires { i.now.high < 2 ^ 8 }
-    ensures { IfOk result (λ it. it ≡ allowed_set i.now) }
+    ensures { IfOk result (λ it. it ≡ allowed_set (record i.now { prefixes = prefixes.now })) }
 {
     let mode = mode_of(i.address.more);
-    merged(alloc, i.prefixes.as_slice(), mode, i.high as u8)
+    merged(alloc, prefixes, mode, i.high as u8)
 }
 
-fn covered_set(alloc: Global, i: &Inputs) -> Result<Items<Pattern>, AllocError>
-    ensures { IfOk result (λ it. it ≡ covered_set i.now) }
-{
-    let prefixes = i.prefixes.as_slice();
-    merged(alloc, prefixes, Mode::More, i.family.bits())
-}
-
-/// The nets that the member's prefixes cover. Where the router has no next hop of routes to be dropped, no part asks for
-/// them, and there are none.
-fn asked_set(alloc: Global, i: &Inputs) -> Result<Items<Pattern>, AllocError>
-    ensures { IfOk result (λ it. (irr : List Pattern) → fragment i.now irr it ≡ fragment i.now irr (covered_set i.now)) }
+/// The nets that these prefixes cover. Where the router has no next hop of routes to be dropped, no part asks for them, and
+/// there are none.
+fn asked_set(alloc: Global, i: &Inputs, prefixes: &[Prefix]) -> Result<Items<Pattern>, AllocError>
+    ensures { IfOk result (λ it. (irr : List Pattern) → fragment i.now irr it ≡ fragment i.now irr (covered_set (record i.now { prefixes = prefixes.now }))) }
 {
     if i.blackhole.is_none() {
         return Ok(Items::new(alloc));
     }
-    covered_set(alloc, i)
+    merged(alloc, prefixes, Mode::More, i.family.bits())
 }
 
 // Parts of a text.
@@ -92,15 +86,28 @@ fn put_header(alloc: Global, out: &mut Vec<u8>, h: &HeaderInputs) -> Result<(), 
     put_items(alloc, out, items)
 }
 
+/// Adds the text of a session's part, by these prefixes of its member.
+fn put_part(
+    alloc: Global,
+    out: &mut Vec<u8>,
+    i: &Inputs,
+    prefixes: &[Prefix],
+) -> Result<(), AllocError>
+    requires { i.now.high < 2 ^ 8 }
+    ensures { OnOk result (out.new.items ≡ out.old.items ++ config_text (session_part (record i.now { prefixes = prefixes.now }))) }
+{
+    let irr = allowed_set(alloc, i, prefixes)?;
+    let blackholes = asked_set(alloc, i, prefixes)?;
+    let mut items = Vec::new(alloc);
+    add_fragment(alloc, &mut items, i, irr, blackholes)?;
+    put_items(alloc, out, items)
+}
+
 fn put_fragment(alloc: Global, out: &mut Vec<u8>, i: &Inputs) -> Result<(), AllocError>
     requires { i.now.high < 2 ^ 8 }
     ensures { OnOk result (out.new.items ≡ out.old.items ++ config_text (session_part i.now)) }
 {
-    let irr = allowed_set(alloc, i)?;
-    let blackholes = asked_set(alloc, i)?;
-    let mut items = Vec::new(alloc);
-    add_fragment(alloc, &mut items, i, irr, blackholes)?;
-    put_items(alloc, out, items)
+    put_part(alloc, out, i, i.prefixes.as_slice())
 }
 
 fn put_footer(alloc: Global, out: &mut Vec<u8>) -> Result<(), AllocError>
@@ -160,8 +167,8 @@ fn put_session(
         return Ok(());
     };
     let own = addresses.of(alloc, session.interface.member)?;
-    let i = inputs_with(alloc, registry, router, &session, own)?;
-    put_fragment(alloc, out, &i)
+    let i = inputs_with(alloc, registry, router, &session, own, Items::new(alloc))?;
+    put_part(alloc, out, &i, session.prefixes)
 }
 
 /// Adds the parts of the router's sessions.

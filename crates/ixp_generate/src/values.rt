@@ -8,7 +8,7 @@ ghost use Rattle.ixp_policy.specs.Views.{session_of};
 
 use crate::addresses::MemberAddresses;
 use ixp_compile::{HeaderInputs, Inputs};
-use ixp_num::{Addr, Asn, Items, Name};
+use ixp_num::{Addr, Asn, Items, Name, Prefix};
 use ixp_policy::{SessionRows, session};
 use ixp_registry::{Registry, Router};
 use ixp_tables::Copied;
@@ -20,16 +20,17 @@ fn is_listed(asns: &[Asn], number: u32) -> bool
     asns.iter().any(|a| a.0 == number)
 }
 
-/// What the session's part depends on, of which these are its member's addresses.
+/// What the session's part depends on, with these prefixes in the place of the member's. The addresses are the member's.
 pub(crate) fn inputs_with(
     alloc: Global,
     registry: &Registry,
     router: &Router,
     session: &SessionRows<'_>,
     addresses: Items<Addr>,
+    prefixes: Items<Prefix>,
 ) -> Result<Inputs, AllocError>
     requires { addresses ≡ member_addresses registry.now router.now (session_of session.now) }
-    ensures { IfOk result (λ i. i ≡ inputs registry.now router.now (session_of session.now)) }
+    ensures { IfOk result (λ i. i ≡ record (inputs registry.now router.now (session_of session.now)) { prefixes = prefixes }) }
 {
     let transit = registry.public.transit.as_slice();
     Ok(Inputs {
@@ -44,7 +45,7 @@ pub(crate) fn inputs_with(
         asn: session.member.asn,
         addresses,
         transit_free: is_listed(transit, session.member.asn.0),
-        prefixes: Items::from_slice(alloc, session.prefixes)?,
+        prefixes,
         origins: Items::from_slice(alloc, session.origins)?,
         rules: Items::from_slice(alloc, session.rules)?,
     })
@@ -63,7 +64,8 @@ pub(crate) fn inputs_of(
     let vlan = session.interface.vlan;
     let beside = MemberAddresses::in_vlan(alloc, interfaces, router.family, vlan)?;
     let addresses = beside.of(alloc, session.interface.member)?;
-    inputs_with(alloc, registry, router, session, addresses)
+    let prefixes = Items::from_slice(alloc, session.prefixes)?;
+    inputs_with(alloc, registry, router, session, addresses, prefixes)
 }
 
 /// What the head of the router's text depends on.

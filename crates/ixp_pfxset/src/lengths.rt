@@ -1,8 +1,6 @@
 //! The rows of a family by their lengths.
-ghost use Rattle.std.specs.Prelude.{◌≡◌, ◌==◌, ◌&&◌, ◌++◌, ◌∷◌, ℕ, [], if◌then◌else◌, IfOk, OnOk};
-ghost use Rattle.std.specs.List.{filter};
-ghost use Rattle.ixp_num.specs.Families.{same_family};
-ghost use Rattle.ixp_pfxset.specs.Lengths.{rows_of};
+ghost use Rattle.std.specs.Prelude.{◌≡◌, ◌++◌, ◌∷◌, ℕ, [], if◌then◌else◌, ◌==◌, IfOk, OnOk};
+ghost use Rattle.ixp_pfxset.specs.Lengths.{AreRows, rows_of};
 
 use ixp_num::{Family, Prefix};
 use std::alloc::{AllocError, Global};
@@ -50,7 +48,7 @@ impl ByLength {
         list: &[Prefix],
         family: Family,
     ) -> Result<ByLength, AllocError>
-        ensures { IfOk result (λ g. (m : ℕ) → rows_of g m ≡ filter (λ r. same_family r.family family && r.len == m) list.now) }
+        ensures { IfOk result (AreRows list.now family) }
     {
         let mut lengths = ByLength::new(alloc);
         'each: for r in list {

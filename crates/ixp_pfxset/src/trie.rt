@@ -2,13 +2,16 @@
 //!
 //! A node of the trie is a prefix with the rows that lie in it, which are a part of the sorted rows: so it takes no
 //! memory, and the work is that of a few steps for each row and each of its bits.
-ghost use Rattle.std.specs.Prelude.{◌≡◌, ◌≤◌, ◌<◌, ◌↔◌, ◌⊎◌, ◌++◌, ◌&&◌, ◌==◌, true, IfOk, OnOk, IsTrue};
+ghost use Rattle.std.specs.Prelude.{ℕ, List, ◌≡◌, ◌≤◌, ◌<◌, ◌↔◌, ◌⊎◌, ◌++◌, ◌&&◌, ◌==◌, true, IfOk, OnOk, IsTrue};
 ghost use Rattle.std.specs.List.{All, Contains, filter};
 ghost use Rattle.std.specs.List.Sorted.{IsNonDecreasingBy, IsPermutation};
 ghost use Rattle.ixp_num.specs.Families.{bits_of, same_family};
+ghost use Rattle.ixp_num.specs.declared.family.Family.TheVariants.{V4, V6};
 ghost use Rattle.ixp_num.specs.declared.pattern.Pattern.{Pattern};
 ghost use Rattle.ixp_num.specs.declared.prefix.Prefix.{Prefix};
 ghost use Rattle.ixp_pfxset.specs.BlockList.{blocks};
+ghost use Rattle.ixp_pfxset.specs.Blocks.{IsNew};
+ghost use Rattle.ixp_pfxset.specs.Lengths.{AreRows, rows_of};
 ghost use Rattle.ixp_pfxset.specs.Plain.{Fills};
 ghost use Rattle.ixp_pfxset.specs.Trie.{AllWithin, IsMerged, IsMergedBelow, IsOfFamily};
 
@@ -142,23 +145,38 @@ fn merge_length(
     Ok(())
 }
 
-/// Adds the patterns for the prefixes of a family, from the sorted list of new prefixes.
+/// Adds the patterns for the prefixes of a family, from its rows.
 fn merge_family(
     out: &mut Vec<Pattern>,
     alloc: Global,
-    list: &[Prefix],
+    mut lengths: ByLength,
     mode: Mode,
     high: u8,
     family: Family,
 ) -> Result<(), AllocError>
-    ensures { OnOk result ((t : Pattern) → Contains out.new.items t ↔ (Contains out.old.items t ⊎ IsOfFamily list.now mode high family t)) }
+    requires { (m : ℕ) → filter (λ r. same_family r.family family && r.len == m) (rows_of lengths m) ≡ rows_of lengths m }
+    ensures { (list : List Prefix) → AreRows list family lengths → OnOk result ((t : Pattern) → Contains out.new.items t ↔ (Contains out.old.items t ⊎ IsOfFamily list mode high family t)) }
 {
-    let mut lengths = ByLength::of_family(alloc, list, family)?;
     for l in 0..=high.min(family.bits()) {
         let rows = lengths.take(alloc, l);
         merge_length(out, rows, family, l, upper_bound(mode, high, l))?;
     }
     Ok(())
+}
+
+/// The new prefixes, by family and length.
+fn new_by_length(
+    alloc: Global,
+    rows: &[Prefix],
+    mode: Mode,
+    high: u8,
+) -> Result<(ByLength, ByLength), AllocError>
+    ensures { IfOk result (λ x. (list : List Prefix) × ((q : Prefix) → Contains list q ↔ IsNew rows.now mode high q) × AreRows list V4 x.0 × AreRows list V6 x.1) }
+{
+    let list = new_rows(alloc, rows, mode, high)?;
+    let four = ByLength::of_family(alloc, &list, Family::V4)?;
+    let six = ByLength::of_family(alloc, &list, Family::V6)?;
+    Ok((four, six))
 }
 
 /// The merged set of the rows, in order: what they allow of lengths up to `high`, as `blocks_plain` gives it. The
@@ -171,9 +189,9 @@ pub fn blocks_trie(
 ) -> Result<Vec<Pattern>, AllocError>
     ensures { IfOk result (λ ts. ts.items ≡ blocks rows.now mode high) }
 {
-    let list = new_rows(alloc, rows, mode, high)?;
+    let (four, six) = new_by_length(alloc, rows, mode, high)?;
     let mut blocks = Vec::new(alloc);
-    merge_family(&mut blocks, alloc, &list, mode, high, Family::V4)?;
-    merge_family(&mut blocks, alloc, &list, mode, high, Family::V6)?;
+    merge_family(&mut blocks, alloc, four, mode, high, Family::V4)?;
+    merge_family(&mut blocks, alloc, six, mode, high, Family::V6)?;
     Ok(in_order(blocks))
 }
