@@ -74,3 +74,10 @@ own_made r router s h i zero one two three of_head of_part e f g k =
     (f ∙ ap (λ (t : List ℕ). t ++ config_text (header h)) e ∙ ap (λ (x : HeaderInputs). config_text (header x)) of_head)
     ∙ ap (λ (x : Inputs). config_text (header (header_inputs r router)) ++ config_text (session_part x)) of_part)
     ∙ sym (own_text r router s)
+
+-- the part of an interface that has a session
+pub text_of_session :
+    (r : Registry) (router : Router) (i : Interface) (s : Session) → session_at r router i ≡ Some s
+    → config_text (session_part (inputs r router s)) ≡ part_text r router i
+unfolding part_text
+text_of_session r router i s e = sym (ap (λ t. if_there t [] (λ x. config_text (session_part (inputs r router x)))) e)

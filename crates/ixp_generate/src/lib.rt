@@ -6,6 +6,7 @@
 //! from the rows.
 #![tactic(auto)]
 
+mod addresses;
 mod fault;
 mod head;
 mod member_rules;

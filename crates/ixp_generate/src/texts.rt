@@ -1,19 +1,23 @@
 //! The texts of a route server.
-ghost use Rattle.std.specs.Prelude.{◌≡◌, ◌++◌, ◌<◌, ◌^◌, IfOk, OnOk, Some};
+ghost use Rattle.std.specs.Prelude.{◌≡◌, ◌++◌, ◌<◌, ◌^◌, List, IfOk, OnOk, Some};
 ghost use Rattle.ixp_print.specs.Texts.{config_text};
 ghost use Rattle.ixp_pfxset.specs.BlockList.{blocks};
+ghost use Rattle.ixp_num.specs.declared.pattern.Pattern.{Pattern};
 ghost use Rattle.ixp_registry.specs.declared.router.Router.{Router};
+ghost use Rattle.ixp_compile.specs.Fragment.{fragment};
 ghost use Rattle.ixp_compile.specs.Header.{header};
 ghost use Rattle.ixp_compile.specs.Generated.{allowed_set, covered_set, footer, generated, header_inputs, mode_of, own_part, session_part};
+ghost use Rattle.ixp_generate.specs.Addresses.{AreInVlan};
 ghost use Rattle.ixp_generate.specs.Answers.{Prints, generated_at, header_at, part_at, router_at};
 ghost use Rattle.ixp_generate.specs.Made.{items_view};
 ghost use Rattle.ixp_generate.specs.Sessions.{part_text, sessions_text};
 ghost use Rattle.ixp_policy.specs.Views.{session_of};
 
+use crate::addresses::MemberAddresses;
 use crate::fault::GenFault;
 use crate::head::add_header;
 use crate::session::add_fragment;
-use crate::values::{header_inputs_of, inputs_of};
+use crate::values::{header_inputs_of, inputs_of, inputs_with};
 use ixp_compile::{HeaderInputs, Inputs};
 use ixp_lang::{Config, Item};
 use ixp_num::{Items, Name, Pattern, Prefix};
@@ -43,18 +47,23 @@ fn merged(
     Ok(Items::from_vec(patterns))
 }
 
-fn allowed_set(alloc: Global, i: &Inputs) -> Result<Items<Pattern>, AllocError>
+/// The nets that these prefixes of the session's member allow.
+fn allowed_set(alloc: Global, i: &Inputs, prefixes: &[Prefix]) -> Result<Items<Pattern>, AllocError>
     requires { i.now.high < 2 ^ 8 }
-    ensures { IfOk result (λ it. it ≡ allowed_set i.now) }
+    ensures { IfOk result (λ it. it ≡ allowed_set (record i.now { prefixes = prefixes.now })) }
 {
     let mode = mode_of(i.address.more);
-    merged(alloc, i.prefixes.as_slice(), mode, i.high as u8)
+    merged(alloc, prefixes, mode, i.high as u8)
 }
 
-fn covered_set(alloc: Global, i: &Inputs) -> Result<Items<Pattern>, AllocError>
-    ensures { IfOk result (λ it. it ≡ covered_set i.now) }
+/// The nets that these prefixes cover. Where the router has no next hop of routes to be dropped, no part asks for them, and
+/// there are none.
+fn asked_set(alloc: Global, i: &Inputs, prefixes: &[Prefix]) -> Result<Items<Pattern>, AllocError>
+    ensures { IfOk result (λ it. (irr : List Pattern) → fragment i.now irr it ≡ fragment i.now irr (covered_set (record i.now { prefixes = prefixes.now }))) }
 {
-    let prefixes = i.prefixes.as_slice();
+    if i.blackhole.is_none() {
+        return Ok(Items::new(alloc));
+    }
     merged(alloc, prefixes, Mode::More, i.family.bits())
 }
 
@@ -77,15 +86,28 @@ fn put_header(alloc: Global, out: &mut Vec<u8>, h: &HeaderInputs) -> Result<(), 
     put_items(alloc, out, items)
 }
 
+/// Adds the text of a session's part, by these prefixes of its member.
+fn put_part(
+    alloc: Global,
+    out: &mut Vec<u8>,
+    i: &Inputs,
+    prefixes: &[Prefix],
+) -> Result<(), AllocError>
+    requires { i.now.high < 2 ^ 8 }
+    ensures { OnOk result (out.new.items ≡ out.old.items ++ config_text (session_part (record i.now { prefixes = prefixes.now }))) }
+{
+    let irr = allowed_set(alloc, i, prefixes)?;
+    let blackholes = asked_set(alloc, i, prefixes)?;
+    let mut items = Vec::new(alloc);
+    add_fragment(alloc, &mut items, i, irr, blackholes)?;
+    put_items(alloc, out, items)
+}
+
 fn put_fragment(alloc: Global, out: &mut Vec<u8>, i: &Inputs) -> Result<(), AllocError>
     requires { i.now.high < 2 ^ 8 }
     ensures { OnOk result (out.new.items ≡ out.old.items ++ config_text (session_part i.now)) }
 {
-    let irr = allowed_set(alloc, i)?;
-    let blackholes = covered_set(alloc, i)?;
-    let mut items = Vec::new(alloc);
-    add_fragment(alloc, &mut items, i, irr, blackholes)?;
-    put_items(alloc, out, items)
+    put_part(alloc, out, i, i.prefixes.as_slice())
 }
 
 fn put_footer(alloc: Global, out: &mut Vec<u8>) -> Result<(), AllocError>
@@ -134,16 +156,19 @@ fn put_session(
     out: &mut Vec<u8>,
     registry: &Registry,
     router: &Router,
+    addresses: &MemberAddresses,
     interface: &Interface,
 ) -> Result<(), AllocError>
-    requires { router.now.high < 2 ^ 8 }
+    requires bound { router.now.high < 2 ^ 8 }
+    requires addresses { AreInVlan registry.now router.now addresses.now }
     ensures { OnOk result (out.new.items ≡ out.old.items ++ part_text registry.now router.now interface.now) }
 {
     let Some(session) = session_at(registry, router, interface) else {
         return Ok(());
     };
-    let i = inputs_of(alloc, registry, router, &session)?;
-    put_fragment(alloc, out, &i)
+    let own = addresses.of(alloc, session.interface.member)?;
+    let i = inputs_with(alloc, registry, router, &session, own, Items::new(alloc))?;
+    put_part(alloc, out, &i, session.prefixes)
 }
 
 /// Adds the parts of the router's sessions.
@@ -157,8 +182,9 @@ fn put_sessions(
     ensures { OnOk result (out.new.items ≡ out.old.items ++ sessions_text registry.now router.now registry.now.interfaces) }
 {
     let mut left = registry.interfaces.as_slice();
+    let addresses = MemberAddresses::in_vlan(alloc, left, router.family, router.vlan)?;
     'each: while let Some((interface, others)) = left.split_first() {
-        put_session(alloc, out, registry, router, interface)?;
+        put_session(alloc, out, registry, router, &addresses, interface)?;
         left = others;
     }
     Ok(())

@@ -6,11 +6,12 @@ pub mod Found
 pub mod Fronts
 pub mod Halves
 pub mod Least
-pub mod Lengths
 pub mod Matching
 pub mod Members
 pub mod Merging
 pub mod NewRows
+pub mod OneLength
+pub mod OneRow
 pub mod Orders
 pub mod Parting
 pub mod Searching

@@ -1,5 +1,5 @@
 -- Members of lists: of a longer list, of what passes a test, of lists joined, of patterns put in order.
-use Rattle.std.proofs.Common.{◌≡◌, zero, suc, Bool, true, false, cond, List, [], ◌∷◌, ◌⊎◌, inl, inr, refl, sym, subst, arith}
+use Rattle.std.proofs.Common.{◌≡◌, zero, suc, Bool, true, false, cond, List, [], ◌∷◌, ◌⊎◌, inl, inr, refl, sym, ap, ◌∙◌, subst, arith}
 use Rattle.std.specs.List.{Any, Contains, filter, flat_map, list_any}
 use Rattle.std.proofs.lemmas.List.Elements.{Contains-append_left, Contains-append_right, Contains-append_cases}
 use Rattle.std.proofs.lemmas.List.Folds.{Any-from_list_any, list_any-from_Any}
@@ -65,3 +65,17 @@ module _ {X Y : Type 0} where
     by : (z ≡ x) ⊎ Contains xs x → (Contains xs x → Contains (flat_map f xs) y) → Contains (flat_map f (z ∷ xs)) y
     by (inl same) rest = Contains-append_left (f z) (flat_map f xs) y (subst (λ w. Contains (f w) y) (sym same) here)
     by (inr later) rest = Contains-append_right (f z) (flat_map f xs) y (rest later)
+
+-- what a filter leaves passes it again
+filter_step : {X : Type 0} (p : X → Bool) (x : X) (kept again : List X) → again ≡ kept → (b : Bool) → p x ≡ b → cond b (cond (p x) (x ∷ again) again) again ≡ cond b (x ∷ kept) kept
+filter_step p x kept again rest true e = ap (λ c. cond c (x ∷ again) again) e ∙ ap (λ t. x ∷ t) rest
+filter_step p x kept again rest false e = rest
+
+-- by cases on the test of the first item
+filter_of_cond : {X : Type 0} (p : X → Bool) (x : X) (xs : List X) (b : Bool) → filter p (cond b (x ∷ xs) xs) ≡ cond b (cond (p x) (x ∷ filter p xs) (filter p xs)) (filter p xs)
+filter_of_cond p x xs true = refl
+filter_of_cond p x xs false = refl
+
+pub filter_twice : {X : Type 0} (p : X → Bool) (xs : List X) → filter p (filter p xs) ≡ filter p xs
+filter_twice p [] = refl
+filter_twice p (x ∷ xs) = filter_of_cond p x (filter p xs) (p x) ∙ filter_step p x (filter p xs) (filter p (filter p xs)) (filter_twice p xs) (p x) refl

@@ -8,6 +8,7 @@
 mod derived;
 mod full;
 mod laws;
+mod lengths;
 mod mode;
 mod ordered;
 mod plain;

@@ -2,17 +2,21 @@
 //!
 //! A node of the trie is a prefix with the rows that lie in it, which are a part of the sorted rows: so it takes no
 //! memory, and the work is that of a few steps for each row and each of its bits.
-ghost use Rattle.std.specs.Prelude.{◌≡◌, ◌≤◌, ◌<◌, ◌↔◌, ◌⊎◌, ◌++◌, ◌&&◌, ◌==◌, true, IfOk, OnOk, IsTrue};
+ghost use Rattle.std.specs.Prelude.{ℕ, List, ◌≡◌, ◌≤◌, ◌<◌, ◌↔◌, ◌⊎◌, ◌++◌, ◌&&◌, ◌==◌, true, IfOk, OnOk, IsTrue};
 ghost use Rattle.std.specs.List.{All, Contains, filter};
 ghost use Rattle.std.specs.List.Sorted.{IsNonDecreasingBy, IsPermutation};
 ghost use Rattle.ixp_num.specs.Families.{bits_of, same_family};
+ghost use Rattle.ixp_num.specs.declared.family.Family.TheVariants.{V4, V6};
 ghost use Rattle.ixp_num.specs.declared.pattern.Pattern.{Pattern};
 ghost use Rattle.ixp_num.specs.declared.prefix.Prefix.{Prefix};
 ghost use Rattle.ixp_pfxset.specs.BlockList.{blocks};
+ghost use Rattle.ixp_pfxset.specs.Blocks.{IsNew};
+ghost use Rattle.ixp_pfxset.specs.Lengths.{AreRows, rows_of};
 ghost use Rattle.ixp_pfxset.specs.Plain.{Fills};
 ghost use Rattle.ixp_pfxset.specs.Trie.{AllWithin, IsMerged, IsMergedBelow, IsOfFamily};
 
 use crate::full::{first_half, second_half};
+use crate::lengths::ByLength;
 use crate::mode::Mode;
 use crate::ordered::in_order;
 use crate::plain::upper_bound;
@@ -53,6 +57,18 @@ fn push_if(
     Ok(())
 }
 
+/// Adds the pattern of a row that is alone.
+fn push_row(out: &mut Vec<Pattern>, row: &Prefix, l: u8, high: u8) -> Result<(), AllocError>
+    ensures { OnOk result ((t : Pattern) → Contains out.new.items t ↔ (Contains out.old.items t ⊎ (t ≡ record { prefix = row.now; low = l; high = high }))) }
+{
+    out.push(Pattern {
+        prefix: *row,
+        low: l,
+        high,
+    })?;
+    Ok(())
+}
+
 /// Whether the list, all of whose rows have length `l` and lie in `n`, has all such prefixes. Adds the patterns
 /// of the longest full prefixes within `n`, unless `n` itself is full.
 fn merge(
@@ -75,6 +91,10 @@ fn merge(
     if n.len == l {
         return Ok(true);
     }
+    if let [only] = list {
+        push_row(out, only, l, high)?;
+        return Ok(false);
+    }
     let first = first_half(n);
     let second = second_half(n);
     let (low, upper) = parted(list, second.value);
@@ -85,34 +105,13 @@ fn merge(
     Ok(low_full & upper_full)
 }
 
-/// The rows of a family and a length.
-fn rows_of_length(
-    alloc: Global,
-    list: &[Prefix],
-    family: Family,
-    l: u8,
-) -> Result<Vec<Prefix>, AllocError>
-    ensures { IfOk result (λ rows. rows.items ≡ filter (λ r. same_family r.family family && r.len == l) list.now) }
+/// The rows by their numbers.
+fn by_value(mut rows: Vec<Prefix>) -> Vec<Prefix>
+    ensures sorted { IsNonDecreasingBy (λ r. r.value) result.items }
+    ensures rows { IsPermutation rows.items result.items }
 {
-    list.iter()
-        .copied()
-        .filter(|r| r.family == family && r.len == l)
-        .collect(alloc)
-}
-
-/// The same, by their numbers.
-fn sorted_rows_of_length(
-    alloc: Global,
-    list: &[Prefix],
-    family: Family,
-    l: u8,
-) -> Result<Vec<Prefix>, AllocError>
-    ensures sorted { IfOk result (λ rows. IsNonDecreasingBy (λ r. r.value) rows.items) }
-    ensures rows { IfOk result (λ rows. IsPermutation (filter (λ r. same_family r.family family && r.len == l) list.now) rows.items) }
-{
-    let mut rows = rows_of_length(alloc, list, family, l)?;
     rows.sort_unstable_by_key(|r| r.value);
-    Ok(rows)
+    rows
 }
 
 /// The prefix of length 0.
@@ -127,40 +126,57 @@ fn whole(family: Family) -> Prefix
     }
 }
 
-/// Adds the patterns for the prefixes of a family and a length, from the list of new prefixes.
+/// Adds the patterns for the prefixes of a family and a length, of which these are the rows.
 fn merge_length(
     out: &mut Vec<Pattern>,
-    alloc: Global,
-    list: &[Prefix],
+    rows: Vec<Prefix>,
     family: Family,
     l: u8,
     high: u8,
 ) -> Result<(), AllocError>
-    requires { l ≤ bits_of family }
-    ensures { OnOk result ((t : Pattern) → Contains out.new.items t ↔ (Contains out.old.items t ⊎ ((t.prefix.family ≡ family) × IsMerged list.now l high t))) }
+    requires short { l ≤ bits_of family }
+    requires alike { filter (λ r. same_family r.family family && r.len == l) rows.items ≡ rows.items }
+    ensures { OnOk result ((t : Pattern) → Contains out.new.items t ↔ (Contains out.old.items t ⊎ ((t.prefix.family ≡ family) × IsMerged rows.items l high t))) }
 {
-    let rows = sorted_rows_of_length(alloc, list, family, l)?;
+    let ordered = by_value(rows);
     let whole = whole(family);
-    let full = merge(out, &rows, l, high, &whole)?;
+    let full = merge(out, &ordered, l, high, &whole)?;
     push_if(out, full, &whole, l, high)?;
     Ok(())
 }
 
-/// Adds the patterns for the prefixes of a family, from the sorted list of new prefixes.
+/// Adds the patterns for the prefixes of a family, from its rows.
 fn merge_family(
     out: &mut Vec<Pattern>,
     alloc: Global,
-    list: &[Prefix],
+    mut lengths: ByLength,
     mode: Mode,
     high: u8,
     family: Family,
 ) -> Result<(), AllocError>
-    ensures { OnOk result ((t : Pattern) → Contains out.new.items t ↔ (Contains out.old.items t ⊎ IsOfFamily list.now mode high family t)) }
+    requires { (m : ℕ) → filter (λ r. same_family r.family family && r.len == m) (rows_of lengths m) ≡ rows_of lengths m }
+    ensures { (list : List Prefix) → AreRows list family lengths → OnOk result ((t : Pattern) → Contains out.new.items t ↔ (Contains out.old.items t ⊎ IsOfFamily list mode high family t)) }
 {
     for l in 0..=high.min(family.bits()) {
-        merge_length(out, alloc, list, family, l, upper_bound(mode, high, l))?;
+        let rows = lengths.take(alloc, l);
+        merge_length(out, rows, family, l, upper_bound(mode, high, l))?;
     }
     Ok(())
+}
+
+/// The new prefixes, by family and length.
+fn new_by_length(
+    alloc: Global,
+    rows: &[Prefix],
+    mode: Mode,
+    high: u8,
+) -> Result<(ByLength, ByLength), AllocError>
+    ensures { IfOk result (λ x. (list : List Prefix) × ((q : Prefix) → Contains list q ↔ IsNew rows.now mode high q) × AreRows list V4 x.0 × AreRows list V6 x.1) }
+{
+    let list = new_rows(alloc, rows, mode, high)?;
+    let four = ByLength::of_family(alloc, &list, Family::V4)?;
+    let six = ByLength::of_family(alloc, &list, Family::V6)?;
+    Ok((four, six))
 }
 
 /// The merged set of the rows, in order: what they allow of lengths up to `high`, as `blocks_plain` gives it. The
@@ -173,9 +189,9 @@ pub fn blocks_trie(
 ) -> Result<Vec<Pattern>, AllocError>
     ensures { IfOk result (λ ts. ts.items ≡ blocks rows.now mode high) }
 {
-    let list = new_rows(alloc, rows, mode, high)?;
+    let (four, six) = new_by_length(alloc, rows, mode, high)?;
     let mut blocks = Vec::new(alloc);
-    merge_family(&mut blocks, alloc, &list, mode, high, Family::V4)?;
-    merge_family(&mut blocks, alloc, &list, mode, high, Family::V6)?;
+    merge_family(&mut blocks, alloc, four, mode, high, Family::V4)?;
+    merge_family(&mut blocks, alloc, six, mode, high, Family::V6)?;
     Ok(in_order(blocks))
 }

@@ -1,7 +1,13 @@
-use Rattle.std.proofs.Common.{◌≡◌, ◌≤◌, ◌<◌, ◌+◌, List, refl, arith, sym, ◌∙◌, subst}
+use Rattle.std.proofs.Common.{◌≡◌, ◌≤◌, ◌<◌, ◌+◌, ◌↔◌, ◌⊎◌, List, [], ◌∷◌, refl, arith, sym, ◌∙◌, subst}
+use Rattle.std.specs.List.{Contains}
 use Rattle.std.proofs.lemmas.Bool.{and_parts, and_from}
 use Rattle.ixp_num.specs.Families.{bits_of}
+use Rattle.ixp_num.specs.declared.pattern.Pattern.{Pattern}
 use Rattle.ixp_num.specs.declared.prefix.Prefix.{Prefix}
+use Rattle.ixp_pfxset.specs.Plain.{Fills}
+use Rattle.ixp_pfxset.specs.Trie.{AllWithin, IsMergedBelow}
+use Rattle.ixp_pfxset.proofs.Members.{first_in}
+use Rattle.ixp_pfxset.proofs.OneRow.{not_filled, one_item, row_added}
 use Rattle.ixp_pfxset.proofs.Covering.{covers_says}
 use Rattle.ixp_pfxset.proofs.Parting.{IsParted, a_within, b_within, both_full, full_first, full_second, all_added, none_full, own_row, no_items, some_item, none_added}
 use Rattle.ixp_pfxset.proofs.trie.+merge.Goals as goal
@@ -134,3 +140,22 @@ returns-clause-adds t c =
     all_added list a b c.args.l n first second parted c.args.high c.in_ok-low_full.low_full c.in_ok-upper_full.upper_full c.in_ok-low_full.ensures.full c.in_ok-upper_full.ensures.full
     c.args.out.now.items c.merge.new.out.items c.merge-2.new.out.items c.push_if.new.out.items c.push_if-2.new.out.items
     c.in_ok-low_full.ensures.adds c.in_ok-upper_full.ensures.adds c.in_ok-push_if.ensures c.in_ok-push_if-2.ensures
+
+pub returns-in-len1-clause-full : goal.returns-in-len1-clause-full
+returns-in-len1-clause-full t c =
+    let list : c.args.list.now ≡ c.only-item.result ∷ [] = one_item c.args.list.now c.only-item.result (omega arith) c.only-item.is in
+    let n : Prefix = c.args.n.now in
+    let longer : n.len < c.args.l = omega arith in (
+      (λ e. let h : ⊥ = cc in absurd h),
+      (λ fills. absurd (not_filled c.only-item.result n c.args.l longer c.requires.short (subst (λ xs. Fills xs c.args.l n) list fills))),
+    )
+
+pub returns-in-len1-clause-adds : goal.returns-in-len1-clause-adds
+returns-in-len1-clause-adds t c =
+    let row = c.only-item.result in
+    let list : c.args.list.now ≡ row ∷ [] = one_item c.args.list.now row (omega arith) c.only-item.is in
+    let n : Prefix = c.args.n.now in
+    let longer : n.len < c.args.l = omega arith in
+    let within = subst (λ xs. AllWithin xs c.args.l n) list c.requires.within row (first_in row []) in
+    subst (λ xs. (u : Pattern) → Contains c.push_row.new.out.items u ↔ (Contains c.args.out.now.items u ⊎ IsMergedBelow xs c.args.l c.args.high n u)) (sym list)
+    (row_added row n c.args.l c.args.high within.0 within.1 longer c.requires.short c.args.out.now.items c.push_row.new.out.items c.in_ok-push_row.ensures)

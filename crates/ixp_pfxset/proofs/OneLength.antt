@@ -1,9 +1,10 @@
 -- The rows of one family and one length: what is full among them is what is full among all.
-use Rattle.std.proofs.Common.{◌≡◌, ◌≤◌, ◌<◌, ◌+◌, ◌^◌, ℕ, Bool, true, ◌&&◌, ◌==◌, ◌↔◌, List, ◌⊎◌, inl, inr, refl, sym, ◌∙◌, subst, arith, eq-eqb}
+use Rattle.std.proofs.Common.{◌≡◌, ◌≢◌, ◌≤◌, ◌<◌, ◌+◌, ◌^◌, ℕ, Bool, true, false, if◌then◌else◌, ◌&&◌, ◌==◌, ◌↔◌, List, [], ◌⊎◌, inl, inr, refl, sym, ap, ◌∙◌, subst, arith, eq-eqb}
 use Rattle.std.specs.List.{Contains, filter}
 use Rattle.std.specs.List.Sorted.{IsPermutation}
-use Rattle.std.proofs.lemmas.Bool.{and_parts, and_from, eqb-true, cases_lt}
-use Rattle.std.proofs.lemmas.List.Sorted.{Contains-permutation, IsPermutation-sym}
+use Rattle.std.proofs.lemmas.Bool.{and_parts, and_from, cond-false, eqb-true, cases_lt}
+use Rattle.std.proofs.lemmas.Bool.Decides.{eqb_tells}
+use Rattle.std.proofs.lemmas.List.Sorted.{Contains-permutation, IsPermutation-refl, IsPermutation-sym}
 use Rattle.ixp_num.specs.Families.{same_family}
 use Rattle.ixp_num.specs.Prefixes.{covers}
 use Rattle.ixp_num.specs.declared.family.Family.{Family}
@@ -14,7 +15,7 @@ use Rattle.ixp_pfxset.specs.Plain.{Fills}
 use Rattle.ixp_pfxset.specs.Trie.{AllWithin, IsMerged, IsMergedBelow}
 use Rattle.ixp_pfxset.proofs.Covering.{one_family, families_meet, covers_says, covers_equal, same_bits, front_len, front_covers}
 use Rattle.ixp_pfxset.proofs.Filling.{number, number_small}
-use Rattle.ixp_pfxset.proofs.Members.{kept, stays}
+use Rattle.ixp_pfxset.proofs.Members.{filter_twice, kept, stays}
 use Rattle.ixp_pfxset.proofs.Orders.{one_pattern}
 
 -- the prefix of length 0 covers all of its family
@@ -57,6 +58,10 @@ module _ (list rows : List Prefix) (f : Family) (l : ℕ) (moved : IsPermutation
     top = (rows_fill t.prefix m.top.0, λ p parent fills. m.top.1 p parent (fill_rows p ((covers_says p t.prefix parent.1).family ∙ family) fills));
   }
 
+  -- of a length the rows alone count
+  pub as_of_rows : (most : ℕ) (t : Pattern) → ((t.prefix.family ≡ f) × IsMerged rows l most t) ↔ ((t.prefix.family ≡ f) × IsMerged list l most t)
+  as_of_rows most t = ((λ m. (m.0, from_rows most t m.0 m.1)), (λ m. (m.0, to_rows most t m.0 m.1)))
+
   module _ (w : Prefix) (family : w.family ≡ f) (none : w.len ≡ 0) where
     pub rows_within : AllWithin rows l w
     rows_within q there = let is = row_says q there in (is.2, whole_covers w q none (is.1 ∙ sym family))
@@ -94,3 +99,40 @@ module _ (list rows : List Prefix) (f : Family) (l : ℕ) (moved : IsPermutation
         back : Contains p t ⊎ ((t.prefix.family ≡ f) × IsMerged list l most t) → Contains s t
         back (inl first) = (two t).1 (inl ((one t).1 (inl first)))
         back (inr m) = at m.0 (to_rows most t m.0 m.1) (cases_lt 0 t.prefix.len)
+
+-- One length after the other.
+
+abbrev of_length : Family → ℕ → Prefix → Bool
+of_length f l r = same_family r.family f && r.len == l
+
+-- the rows are those of the list that have the family and the length
+pub length_of_list :
+    (list rows : List Prefix) (f : Family) (l most : ℕ) (mid new : List Pattern)
+    → rows ≡ filter (λ r. same_family r.family f && r.len == l) list
+    → ((t : Pattern) → Contains new t ↔ (Contains mid t ⊎ ((t.prefix.family ≡ f) × IsMerged rows l most t)))
+    → (t : Pattern) → Contains new t ↔ (Contains mid t ⊎ ((t.prefix.family ≡ f) × IsMerged list l most t))
+length_of_list list rows f l most mid new are step t = (λ here. to ((step t).0 here), λ there. (step t).1 (from there)) where
+  moved : IsPermutation (filter (of_length f l) list) rows
+  moved = subst (IsPermutation (filter (of_length f l) list)) (sym are) (IsPermutation-refl (filter (of_length f l) list))
+
+  to : Contains mid t ⊎ ((t.prefix.family ≡ f) × IsMerged rows l most t) → Contains mid t ⊎ ((t.prefix.family ≡ f) × IsMerged list l most t)
+  to (inl before) = inl before
+  to (inr m) = inr ((as_of_rows list rows f l moved most t).0 m)
+
+  from : Contains mid t ⊎ ((t.prefix.family ≡ f) × IsMerged list l most t) → Contains mid t ⊎ ((t.prefix.family ≡ f) × IsMerged rows l most t)
+  from (inl before) = inl before
+  from (inr m) = inr ((as_of_rows list rows f l moved most t).1 m)
+
+-- rows that a filter left pass it again
+pub still_alike : (list rows : List Prefix) (f : Family) (l : ℕ) → rows ≡ filter (λ r. same_family r.family f && r.len == l) list
+    → filter (λ r. same_family r.family f && r.len == l) rows ≡ rows
+still_alike list rows f l are = ap (filter (of_length f l)) are ∙ filter_twice (of_length f l) list ∙ sym are
+
+-- what is left of the lengths once the rows of one are taken out
+pub later_lengths : (old new wanted : ℕ → List Prefix) (l : ℕ)
+    → ((m : ℕ) → new m ≡ (if l == m then [] else old m)) → ((m : ℕ) → l ≤ m → old m ≡ wanted m)
+    → (m : ℕ) → l + 1 ≤ m → new m ≡ wanted m
+later_lengths old new wanted l taken are m more = taken m ∙ other (eqb_tells l m) ∙ are m (omega arith) where
+  other : (((l == m) ≡ true) × (l ≡ m)) ⊎ (((l == m) ≡ false) × (l ≢ m)) → (if l == m then [] else old m) ≡ old m
+  other (inl same) = absurd (let e : l ≡ m = same.1 in let h : ⊥ = omega arith in h)
+  other (inr apart) = cond-false (l == m) _ _ apart.0
