@@ -9,6 +9,7 @@ mod rows;
 mod words;
 
 pub use field::Field;
+pub use members::{put_number_member, put_text_member};
 pub use pointer::{CallFault, Pointer, put_pointer};
 pub use quoting::put_quoted;
 pub use rows::{put_contacts, put_member, put_rules};

@@ -16,23 +16,23 @@ fn put_name(out: &mut Vec<u8>, mark: &[u8], name: &[u8]) -> Result<(), AllocErro
     put(out, b":")
 }
 
-/// Adds a member that is a number.
+/// Adds a member that is a number, behind a mark: `{` or `,`. Where memory runs out, a first part of it may be there.
 #[tactic(auto, unfolding(crate::specs::Members::number_member))]
-pub(crate) fn put_number_member(
+pub fn put_number_member(
     out: &mut Vec<u8>,
     mark: &[u8],
     name: &[u8],
-    number: u32,
+    number: u64,
 ) -> Result<(), AllocError>
     ensures { OnOk result (out.new.items ≡ out.old.items ++ spec.number_member mark.now name.now number) }
 {
     put_name(out, mark, name)?;
-    put_number(out, u64::from(number))
+    put_number(out, number)
 }
 
 /// Adds a member that is a text.
 #[tactic(auto, unfolding(crate::specs::Members::text_member))]
-pub(crate) fn put_text_member(
+pub fn put_text_member(
     out: &mut Vec<u8>,
     mark: &[u8],
     name: &[u8],
@@ -62,7 +62,7 @@ pub(crate) fn put_asn_member(
     ensures { OnOk result (out.new.items ≡ out.old.items ++ spec.asn_member mark.now name.now asn) }
 {
     match asn {
-        Some(asn) => put_number_member(out, mark, name, asn.0),
+        Some(asn) => put_number_member(out, mark, name, u64::from(asn.0)),
         None => put_null_member(out, mark, name),
     }
 }

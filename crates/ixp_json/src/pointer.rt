@@ -32,9 +32,7 @@ pub enum CallFault {
     /// The path hasn't the method.
     NoMethod,
     /// The request isn't of its form.
-    BadBody {
-        pointer: Pointer,
-    },
+    BadBody { pointer: Pointer },
     NoMemory,
 }
 

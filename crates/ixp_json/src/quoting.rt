@@ -31,7 +31,11 @@ fn hex_digit(digit: u8) -> u8
     requires { digit < 16 }
     ensures { result ≡ digit_char digit }
 {
-    if digit < 10 { b'0' + digit } else { b'W' + digit }
+    if digit < 10 {
+        b'0' + digit
+    } else {
+        b'W' + digit
+    }
 }
 
 // What stands in quotes for a byte.
@@ -45,7 +49,14 @@ fn put_byte(out: &mut Vec<u8>, byte: u8) -> Result<(), AllocError>
     } else if byte < 32 {
         put(
             out,
-            &[b'\\', b'u', b'0', b'0', hex_digit(byte / 16), hex_digit(byte % 16)],
+            &[
+                b'\\',
+                b'u',
+                b'0',
+                b'0',
+                hex_digit(byte / 16),
+                hex_digit(byte % 16),
+            ],
         )
     } else {
         put(out, &[byte])

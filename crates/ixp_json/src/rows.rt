@@ -12,10 +12,10 @@ use std::alloc::AllocError;
 pub fn put_member(out: &mut Vec<u8>, member: &Member) -> Result<(), AllocError>
     ensures { OnOk result (out.new.items ≡ out.old.items ++ spec.member_json member.now) }
 {
-    put_number_member(out, b"{", b"asn", member.asn.0)?;
+    put_number_member(out, b"{", b"asn", u64::from(member.asn.0))?;
     put_text_member(out, b",", b"macro", member.as_macro.as_slice())?;
     put_text_member(out, b",", b"name", member.name.as_slice())?;
-    put_number_member(out, b",", b"number", member.number)?;
+    put_number_member(out, b",", b"number", u64::from(member.number))?;
     put_text_member(out, b",", b"status", status_word(member.status))?;
     put(out, b"}")
 }
@@ -29,9 +29,9 @@ impl Writes for ContactJson {
 
     fn write(item: &Contact, out: &mut Vec<u8>) -> Result<(), AllocError> {
         put_text_member(out, b"{", b"mail", item.mail.as_slice())?;
-        put_number_member(out, b",", b"member", item.member)?;
+        put_number_member(out, b",", b"member", u64::from(item.member))?;
         put_text_member(out, b",", b"name", item.name.as_slice())?;
-        put_number_member(out, b",", b"place", item.place)?;
+        put_number_member(out, b",", b"place", u64::from(item.place))?;
         put_text_member(out, b",", b"role", item.role.as_slice())?;
         put(out, b"}")
     }
@@ -55,7 +55,7 @@ fn put_action_member(
 fn put_rule_end(out: &mut Vec<u8>, rule: &MemberRule) -> Result<(), AllocError>
     ensures { OnOk result (out.new.items ≡ out.old.items ++ spec.rule_end rule.now) }
 {
-    put_number_member(out, b",", b"place", rule.place)?;
+    put_number_member(out, b",", b"place", u64::from(rule.place))?;
     put_prefix_member(out, b",", b"prefix", rule.prefix)?;
     put_text_member(out, b",", b"way", way_word(rule.way))?;
     put(out, b"}")
@@ -70,7 +70,7 @@ impl Writes for RuleJson {
 
     fn write(item: &MemberRule, out: &mut Vec<u8>) -> Result<(), AllocError> {
         put_action_member(out, b"{", b"action", item.action)?;
-        put_number_member(out, b",", b"member", item.member)?;
+        put_number_member(out, b",", b"member", u64::from(item.member))?;
         put_asn_member(out, b",", b"peer", item.peer)?;
         put_rule_end(out, item)
     }
