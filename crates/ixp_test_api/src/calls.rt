@@ -1,6 +1,6 @@
 //! One call of each kind.
 use crate::requests::calls;
-use std::alloc::AllocError;
+use std::alloc::Global;
 
 /// The head's fields of an edit with number 7.
 const HEAD: &str = "X-IXP-Manager-API-Key: s3\r\nX-Request-Number: 7\r\n";
@@ -120,31 +120,57 @@ const EDITS: &[(&str, &str, &str)] = &[
     ),
 ];
 
-#[test]
-fn each_edit_is_called(rt: HostRuntime) -> Result<(), AllocError> {
-    let alloc = rt.alloc();
-    for &(target, body, edit) in EDITS {
-        let want = format!(in alloc; "s3 7 {edit}")?;
-        assert!(rt; calls(alloc, target, HEAD, body, want.as_str()), "{target}");
+// Whether the edit is called for, with the number and the secret of the head.
+fn edits(alloc: Global, target: &str, body: &str, edit: &str) -> bool {
+    let want = format!(in alloc;
+        "Edit(Entry {{ secret: Items {{ items: [115, 51] }}, number: 7, edit: {edit} }})"
+    );
+    match want {
+        Ok(want) => calls(alloc, target, HEAD, body, want.as_str()),
+        Err(_) => false,
     }
-    Ok(())
+}
+
+#[test]
+fn each_edit_is_called(rt: HostRuntime) {
+    for &(target, body, edit) in EDITS {
+        assert!(rt; edits(rt.alloc(), target, body, edit), "{target}");
+    }
 }
 
 /// Method and target, and the call.
 const QUESTIONS: &[(&str, &str)] = &[
-    ("GET /members/1", "s3 Member(1)"),
-    ("GET /members/1?seen=x", "s3 Member(1)"),
+    (
+        "GET /members/1",
+        "Ask(Items { items: [115, 51] }, Member(1))",
+    ),
+    (
+        "GET /members/1?seen=x",
+        "Ask(Items { items: [115, 51] }, Member(1))",
+    ),
     (
         "GET /members/4294967295/contacts",
-        "s3 Contacts(4294967295)",
+        "Ask(Items { items: [115, 51] }, Contacts(4294967295))",
     ),
-    ("GET /members/0/rules", "s3 Rules(0)"),
-    ("GET /vlans/1/use/6", "s3 Use(1, V6)"),
-    ("GET /routers/rs1/config", "s3 rs1 None"),
-    ("GET /routers/rs1/config?seen=1", "s3 rs1 Some(1)"),
+    (
+        "GET /members/0/rules",
+        "Ask(Items { items: [115, 51] }, Rules(0))",
+    ),
+    (
+        "GET /vlans/1/use/6",
+        "Ask(Items { items: [115, 51] }, Use(1, V6))",
+    ),
+    (
+        "GET /routers/rs1/config",
+        "Published(Items { items: [115, 51] }, Name { bytes: Items { items: [114, 115, 49] } }, None)",
+    ),
+    (
+        "GET /routers/rs1/config?seen=1",
+        "Published(Items { items: [115, 51] }, Name { bytes: Items { items: [114, 115, 49] } }, Some(1))",
+    ),
     (
         "GET /routers/rs1/config?a=b&%73een=9999999999999999&seen=0",
-        "s3 rs1 Some(9999999999999999)",
+        "Published(Items { items: [115, 51] }, Name { bytes: Items { items: [114, 115, 49] } }, Some(9999999999999999))",
     ),
 ];
 

@@ -1,6 +1,6 @@
 //! Requests that are no calls.
 use crate::requests::calls;
-use std::alloc::{AllocError, Global};
+use std::alloc::Global;
 
 /// The head's fields of an edit with number 7.
 const HEAD: &str = "X-Request-Number: 7\r\n";
@@ -186,29 +186,30 @@ const FAULTS: &[(&str, &str, &str, &str, &str)] = &[
     ("GET /routers/rs1/config?seen", "", "400", "/seen", "body"),
 ];
 
-// Whether the request gets this reply.
+// Whether the request gets a reply with this status, detail and rule.
 fn refused(
     alloc: Global,
     target: &str,
     fields: &str,
     body: &str,
     want: (&str, &str, &str),
-) -> Result<bool, AllocError> {
+) -> bool {
     let (status, detail, rule) = want;
-    let text = format!(in alloc; "{status} {{\"detail\":\"{detail}\",\"rule\":\"{rule}\"}}")?;
-    Ok(calls(alloc, target, fields, body, text.as_str()))
+    match format!(in alloc; "{status} {{\"detail\":\"{detail}\",\"rule\":\"{rule}\"}}") {
+        Ok(text) => calls(alloc, target, fields, body, text.as_str()),
+        Err(_) => false,
+    }
 }
 
 #[test]
-fn each_fault_is_told(rt: HostRuntime) -> Result<(), AllocError> {
+fn each_fault_is_told(rt: HostRuntime) {
     for &(target, body, status, detail, rule) in FAULTS {
         let want = (status, detail, rule);
         assert!(rt;
-            refused(rt.alloc(), target, HEAD, body, want)?,
+            refused(rt.alloc(), target, HEAD, body, want),
             "{target} {body}"
         );
     }
-    Ok(())
 }
 
 /// The fields of the head, and the detail.
@@ -224,13 +225,12 @@ const NUMBERS: &[(&str, &str)] = &[
 
 /// The number is tested before the body, which here is none.
 #[test]
-fn the_number_comes_first(rt: HostRuntime) -> Result<(), AllocError> {
+fn the_number_comes_first(rt: HostRuntime) {
     for &(fields, detail) in NUMBERS {
         let want = ("400", detail, "body");
         assert!(rt;
-            refused(rt.alloc(), "POST /members", fields, "", want)?,
+            refused(rt.alloc(), "POST /members", fields, "", want),
             "{fields}"
         );
     }
-    Ok(())
 }

@@ -1,6 +1,6 @@
 //! The bytes of replies.
 use ixp_api::{Outcome, reply_of};
-use ixp_http::write_reply;
+use ixp_http::{HttpReply, write_reply};
 use ixp_io::{MemSink, Plan};
 use ixp_machine::Answer;
 use ixp_num::{Asn, Items};
@@ -8,21 +8,17 @@ use ixp_registry::{
     Action, Contact, EditKind, Kind, Limited, Member, MemberRule, Refusal, Right, RowKey, Status,
     Way,
 };
-use std::alloc::{AllocError, Global};
+use std::alloc::Global;
 
-// The bytes of an outcome's reply.
-fn bytes_of(alloc: Global, outcome: Outcome) -> Result<Vec<u8>, AllocError> {
-    let reply = reply_of(alloc, outcome)?;
+// Whether the reply is written with these bytes.
+fn is_written(alloc: Global, reply: &HttpReply, want: &str) -> bool {
     let mut link = MemSink::new(alloc, Plan::smooth(alloc));
-    if write_reply(&mut link, &reply).is_err() {
-        return Err(AllocError);
-    }
-    Vec::from_slice(alloc, link.written())
+    write_reply(&mut link, reply).is_ok() && link.written() == want.as_bytes()
 }
 
 fn has_bytes(alloc: Global, outcome: Outcome, want: &str) -> bool {
-    match bytes_of(alloc, outcome) {
-        Ok(have) => have.as_slice() == want.as_bytes(),
+    match reply_of(alloc, outcome) {
+        Ok(reply) => is_written(alloc, &reply, want),
         Err(_) => false,
     }
 }
@@ -41,13 +37,20 @@ fn memory_ran_out(rt: HostRuntime) {
     assert!(rt; has_bytes(rt.alloc(), Outcome::NoMemory, want));
 }
 
+// These bytes, or none where memory runs out.
+fn bytes(alloc: Global, text: &str) -> Items<u8> {
+    match Items::from_slice(alloc, text.as_bytes()) {
+        Ok(bytes) => bytes,
+        Err(_) => Items::new(alloc),
+    }
+}
+
 #[test]
-fn a_text_is_plain(rt: HostRuntime) -> Result<(), AllocError> {
-    let text = Items::from_slice(rt.alloc(), b"free none\n")?;
+fn a_text_is_plain(rt: HostRuntime) {
+    let outcome = Outcome::Text(bytes(rt.alloc(), "free none\n"));
     let want =
         "HTTP/1.1 200 OK\r\nContent-Type: text/plain\r\nContent-Length: 10\r\n\r\nfree none\n";
-    assert!(rt; has_bytes(rt.alloc(), Outcome::Text(text), want));
-    Ok(())
+    assert!(rt; has_bytes(rt.alloc(), outcome, want));
 }
 
 // Whether the reply has this status and this body, which is JSON.
@@ -192,47 +195,54 @@ fn other_ends_are_told(rt: HostRuntime) {
     );
 }
 
-fn a_member(alloc: Global) -> Result<Answer, AllocError> {
-    Ok(Answer::Member(Member {
+fn a_member(alloc: Global) -> Answer {
+    Answer::Member(Member {
         number: 1,
         asn: Asn(65001),
         status: Status::Connected,
-        as_macro: Items::from_slice(alloc, b"AS-A")?,
-        name: Items::from_slice(alloc, b"a \"b\"\\\n\x01")?,
-    }))
+        as_macro: bytes(alloc, "AS-A"),
+        name: bytes(alloc, "a \"b\"\\\n\u{1}"),
+    })
 }
 
-fn a_contact(alloc: Global) -> Result<Answer, AllocError> {
+fn contacts(alloc: Global) -> Answer {
     let mut contacts = Items::new(alloc);
-    contacts.push(Contact {
+    let contact = Contact {
         member: 1,
         place: 2,
-        role: Items::new(alloc),
-        mail: Items::from_slice(alloc, b"noc@a.example")?,
-        name: Items::from_slice(alloc, b"N")?,
-    })?;
-    Ok(Answer::Contacts(contacts))
+        role: bytes(alloc, ""),
+        mail: bytes(alloc, "noc@a.example"),
+        name: bytes(alloc, "N"),
+    };
+    let _ = contacts.push(contact);
+    Answer::Contacts(contacts)
 }
 
-fn some_rules(alloc: Global) -> Result<Answer, AllocError> {
-    let mut rules = Items::new(alloc);
-    rules.push(MemberRule {
+/// The rules of member 1: to whom, and what.
+const SAMPLE_RULES: [MemberRule; 2] = [
+    MemberRule {
         member: 1,
         place: 1,
         way: Way::Advertise,
         peer: Some(Asn(65002)),
         prefix: None,
         action: Action::Prepend(3),
-    })?;
-    rules.push(MemberRule {
+    },
+    MemberRule {
         member: 1,
         place: 2,
         way: Way::Receive,
         peer: None,
         prefix: None,
         action: Action::Stop,
-    })?;
-    Ok(Answer::Rules(rules))
+    },
+];
+
+fn rules(alloc: Global) -> Answer {
+    match Items::from_slice(alloc, &SAMPLE_RULES) {
+        Ok(rules) => Answer::Rules(rules),
+        Err(_) => Answer::Rules(Items::new(alloc)),
+    }
 }
 
 const MEMBER: &str =
@@ -245,10 +255,9 @@ const RULES: &str =
     "[{\"action\":\"prepend3\",\"member\":1,\"peer\":65002,\"place\":1,\"prefix\":null,\"way\":\"advertise\"},{\"action\":\"stop\",\"member\":1,\"peer\":null,\"place\":2,\"prefix\":null,\"way\":\"receive\"}]";
 
 #[test]
-fn rows_are_told(rt: HostRuntime) -> Result<(), AllocError> {
+fn rows_are_told(rt: HostRuntime) {
     let alloc = rt.alloc();
-    assert!(rt; is_json(alloc, Outcome::Answered(a_member(alloc)?), 200, MEMBER));
-    assert!(rt; is_json(alloc, Outcome::Answered(a_contact(alloc)?), 200, CONTACTS));
-    assert!(rt; is_json(alloc, Outcome::Answered(some_rules(alloc)?), 200, RULES));
-    Ok(())
+    assert!(rt; is_json(alloc, Outcome::Answered(a_member(alloc)), 200, MEMBER));
+    assert!(rt; is_json(alloc, Outcome::Answered(contacts(alloc)), 200, CONTACTS));
+    assert!(rt; is_json(alloc, Outcome::Answered(rules(alloc)), 200, RULES));
 }
