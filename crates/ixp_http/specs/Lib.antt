@@ -1,3 +1,4 @@
+pub mod Contents
 pub mod Heads
 pub mod Fields
 pub mod Messages

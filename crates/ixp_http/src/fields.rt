@@ -62,8 +62,8 @@ fn same_bytes(text: &[u8], other: &[u8]) -> bool
     other.is_empty()
 }
 
-// The value of the first field with the name.
-fn first_value<'a>(fields: &'a [Field], name: &[u8]) -> Option<&'a [u8]>
+/// The value of the first field with the name, case aside.
+pub fn first_value<'a>(fields: &'a [Field], name: &[u8]) -> Option<&'a [u8]>
     ensures { option_map (λ v. v.now) result ≡ slice_get (spec.values name.now fields.now) 0 }
 {
     for field in fields {

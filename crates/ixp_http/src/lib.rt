@@ -2,6 +2,7 @@
 #![tactic(auto)]
 
 mod buf;
+mod content;
 mod fields;
 mod head;
 mod next;
@@ -9,7 +10,8 @@ mod reply;
 mod request;
 
 pub use buf::Buf;
-pub use fields::{BODY_LIMIT, Field};
+pub use content::Content;
+pub use fields::{BODY_LIMIT, Field, first_value};
 pub use next::{HttpFault, Next, bytes_have_one_reading, next_request};
 pub use reply::{HttpReply, write_reply};
 pub use request::Request;

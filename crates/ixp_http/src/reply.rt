@@ -4,12 +4,12 @@ ghost use Rattle.ixp_io.specs.Faults.{Rose};
 ghost use Rattle.ixp_io.specs.Told.{Takes, TakesPart};
 ghost use Rattle.ixp_http.specs.Replies as spec;
 
+use crate::content::Content;
 use crate::next::HttpFault;
 use arrayvec::ArrayVec;
 use http::StatusCode;
 use itoa::Buffer;
 use ixp_io::{Failed, Sink, write_all};
-use ixp_lists::Items;
 
 /// A reply.
 #[derive(Debug, Drop)]
@@ -19,7 +19,7 @@ pub struct HttpReply {
     pub json: bool,
     /// The link ends with this reply.
     pub closes: bool,
-    pub body: Items<u8>,
+    pub body: Content,
 }
 
 /// How much of a reply is gathered for one write.

@@ -1,5 +1,5 @@
 //! Requests are read of a link in pieces, and replies are written.
-use ixp_http::{Buf, HttpFault, HttpReply, Next, Request, next_request, write_reply};
+use ixp_http::{Buf, Content, HttpFault, HttpReply, Next, Request, next_request, write_reply};
 use ixp_io::{MemSink, MemSource, Plan};
 use ixp_lists::Items;
 use ixp_text::{put, put_number};
@@ -157,7 +157,7 @@ fn replies(
         status,
         json: true,
         closes,
-        body: Items::from_slice(alloc, body)?,
+        body: Content::made(Items::from_slice(alloc, body)?),
     };
     let mut link = MemSink::new(alloc, Plan::smooth(alloc));
     let written = write_reply(&mut link, &reply) == Ok(());

@@ -1,0 +1,16 @@
+//! The calls of the HTTP interface: which call a request is, or why it is none, and the replies.
+//!
+//! [`route`] reads a request. `specs/Calls.antt` says which call a request is: its path is tested first, then its method, its
+//! number or what it has seen, and its body last.
+#![tactic(auto)]
+
+mod call;
+mod heads;
+mod routing;
+mod seen;
+
+pub use call::Call;
+pub use ixp_json::{CallFault, Field, Pointer};
+pub use ixp_paths::Paths;
+pub use ixp_replies::{Outcome, reply_of};
+pub use routing::route;

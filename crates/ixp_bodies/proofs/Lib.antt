@@ -1,0 +1,3 @@
+pub mod ReadValues
+pub mod Families
+pub mod Listed

@@ -1,0 +1,7 @@
+pub mod Answers
+pub mod Values
+pub mod Edits
+pub mod Rules
+pub mod Lists
+pub mod Bodies
+pub mod Lawful

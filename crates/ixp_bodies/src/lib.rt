@@ -1,0 +1,18 @@
+//! The bodies of requests: which edit a body says, or what is wrong with it.
+//!
+//! [`edit_of`] reads a body for a kind of edits. `specs/Edits.antt` says which fields each kind has, in which order they are
+//! tested, and what a body says; `specs/Values.antt` what a field's value says.
+#![tactic(auto)]
+
+mod edits;
+mod json;
+mod lists;
+mod members;
+mod network;
+mod routers;
+mod rules;
+mod texts;
+mod values;
+
+pub use edits::edit_of;
+pub use routers::router_of;

@@ -1,0 +1,4 @@
+pub mod Fields
+pub mod Members
+pub mod Rows
+pub mod Words

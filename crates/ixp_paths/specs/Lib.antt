@@ -1,0 +1,5 @@
+pub mod Numbers
+pub mod Paths
+pub mod Fits
+pub mod Serves
+pub mod Table
