@@ -1,4 +1,4 @@
-use Rattle.ixp_machine.proofs.Asking.{refusal_apart, answer_apart}
+use Rattle.ixp_machine.proofs.OwnQuestions.{refusal_apart, answer_apart}
 use Rattle.ixp_machine.proofs.laws.members_ask_of_their_own.Goals as goal
 
 pub returns-clause-refusal : goal.returns-clause-refusal
