@@ -24,7 +24,7 @@ fn number_or_name_at<'t>(cx: Context<'_>, tokens: &'t [Token]) -> Result<(u32, &
     };
     match &first.kind {
         Kind::Number(number) => Ok((*number, rest)),
-        Kind::Name(name) => match cx.env.number(name) {
+        Kind::Name(name) => match cx.env.number(name.get()) {
             Some(number) => Ok((number, rest)),
             None => Err(unknown(tokens)),
         },
@@ -104,7 +104,7 @@ pub(crate) fn pattern_at(tokens: &[Token]) -> Result<(Pattern, &[Token]), Fault>
         return Err(unexpected(tokens));
     };
     match &first.kind {
-        Kind::Prefix(prefix) => pattern_with(*prefix, rest),
+        Kind::Prefix(prefix) => pattern_with(*prefix.get(), rest),
         _ => Err(unexpected(tokens)),
     }
 }

@@ -107,7 +107,7 @@ fn is_front(kind: &Kind) -> bool
     match kind {
         Kind::Number(_) | Kind::Addr(_) | Kind::Prefix(_) => true,
         Kind::Mark(mark) => is_front_mark(*mark),
-        Kind::Word(word) => begins_operand(word.as_bytes()),
+        Kind::Word(word) => begins_operand(word.get().as_bytes()),
         _ => false,
     }
 }
@@ -273,6 +273,7 @@ fn called_at<'e, 't>(cx: Context<'e>, tokens: &'t [Token]) -> Option<Callee<'e, 
     let Kind::Name(name) = &first.kind else {
         return None;
     };
+    let name = name.get();
     let signature = called(cx, name)?;
     Some(Callee {
         name,

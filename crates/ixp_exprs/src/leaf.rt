@@ -147,7 +147,7 @@ fn part_at(attr: Attr, tokens: &[Token]) -> Result<(Attr, &[Token]), Fault>
     let Kind::Word(word) = &first.kind else {
         return Err(unexpected(tokens));
     };
-    match part_of(attr, word.as_bytes()) {
+    match part_of(attr, word.get().as_bytes()) {
         Some(part) => Ok((part, rest)),
         None => Err(unexpected(tokens)),
     }
@@ -206,12 +206,12 @@ fn literal_of(kind: &Kind) -> Option<Typed>
             let literal = Expr::Lit(Value::Int(*number));
             Some(Typed::closed(literal, ValueType::Int))
         }
-        Kind::Addr(addr) => Some(Typed::closed(Expr::Lit(Value::Ip(*addr)), ValueType::Ip)),
+        Kind::Addr(addr) => Some(Typed::closed(Expr::Lit(Value::Ip(*addr.get())), ValueType::Ip)),
         Kind::Prefix(prefix) => {
-            let literal = Expr::Lit(Value::Net(*prefix));
+            let literal = Expr::Lit(Value::Net(*prefix.get()));
             Some(Typed::closed(literal, ValueType::Prefix))
         }
-        Kind::Word(word) => literal_word(word.as_bytes()),
+        Kind::Word(word) => literal_word(word.get().as_bytes()),
         _ => None,
     }
 }
@@ -238,7 +238,7 @@ fn attribute_next<'t>(cx: Context<'_>, tokens: &'t [Token]) -> Option<(Attr, &'t
     let Kind::Word(word) = &first.kind else {
         return None;
     };
-    let attr = attribute_word(cx, word.as_bytes())?;
+    let attr = attribute_word(cx, word.get().as_bytes())?;
     Some((attr, rest))
 }
 
@@ -332,7 +332,7 @@ pub(crate) fn atom_at<'t>(
         return Err(unexpected(tokens));
     };
     match &first.kind {
-        Kind::Name(name) => name_leaf(cx, name, tokens, rest),
+        Kind::Name(name) => name_leaf(cx, name.get(), tokens, rest),
         _ => leaf_at(cx, depth, tokens),
     }
 }

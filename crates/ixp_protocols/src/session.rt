@@ -40,7 +40,7 @@ fn address_in(kind: &Kind) -> Option<Addr>
     ensures { result ≡ addr_in kind.now }
 {
     match kind {
-        Kind::Addr(addr) => Some(*addr),
+        Kind::Addr(addr) => Some(*addr.get()),
         _ => None,
     }
 }
@@ -101,7 +101,7 @@ fn text_at(alloc: Global, tokens: &[Token]) -> Result<(Items<u8>, &[Token]), Fau
     };
     match &first.kind {
         Kind::Text(text) => {
-            let text = text.copied(alloc)?;
+            let text = text.get().copied(alloc)?;
             Ok((text, rest))
         }
         _ => Err(unexpected(tokens)),

@@ -26,6 +26,7 @@ fn v4_addr_in(kind: &TokenKind) -> Option<Addr>
     let TokenKind::Addr(addr) = kind else {
         return None;
     };
+    let addr = addr.get();
     match addr.family {
         Family::V4 => Some(*addr),
         Family::V6 => None,

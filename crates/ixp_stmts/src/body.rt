@@ -165,9 +165,9 @@ pub(crate) fn no_branch(frame: Frame<'_>, tokens: &[Token]) -> Fault
     };
     match &first.kind {
         Kind::Mark(mark) if mark.is(Mark::BlockOpen) => deep(tokens),
-        Kind::Name(name) => no_call(frame, name, tokens.len()),
-        Kind::Word(word) if begins_statement(word.as_bytes()) => {
-            no_word(frame, word.as_bytes(), tokens.len())
+        Kind::Name(name) => no_call(frame, name.get(), tokens.len()),
+        Kind::Word(word) if begins_statement(word.get().as_bytes()) => {
+            no_word(frame, word.get().as_bytes(), tokens.len())
         }
         _ => unexpected(tokens),
     }

@@ -27,7 +27,7 @@ fn is_statement(tokens: &[Token]) -> bool
     match &first.kind {
         Kind::Mark(mark) => mark.is(Mark::BlockOpen),
         Kind::Name(_) => true,
-        Kind::Word(word) => begins_statement(word.as_bytes()),
+        Kind::Word(word) => begins_statement(word.get().as_bytes()),
         _ => false,
     }
 }

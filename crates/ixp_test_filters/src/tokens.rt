@@ -101,11 +101,11 @@ fn show_kind(kind: &Kind, out: &mut Vec<u8>) -> Result<(), AllocError> {
     match kind {
         Kind::Name(name) => {
             out.extend_from_slice(b"name ")?;
-            out.extend_from_slice(name.as_bytes())?;
+            out.extend_from_slice(name.get().as_bytes())?;
         }
         Kind::Word(word) => {
             out.extend_from_slice(b"word ")?;
-            out.extend_from_slice(word.as_bytes())?;
+            out.extend_from_slice(word.get().as_bytes())?;
         }
         Kind::Number(number) => {
             out.extend_from_slice(b"number ")?;
@@ -113,15 +113,15 @@ fn show_kind(kind: &Kind, out: &mut Vec<u8>) -> Result<(), AllocError> {
         }
         Kind::Addr(addr) => {
             out.extend_from_slice(b"address ")?;
-            print_addr(addr, out)?;
+            print_addr(addr.get(), out)?;
         }
         Kind::Prefix(prefix) => {
             out.extend_from_slice(b"prefix ")?;
-            print_prefix(prefix, out)?;
+            print_prefix(prefix.get(), out)?;
         }
         Kind::Text(text) => {
             out.extend_from_slice(b"text ")?;
-            out.extend_from_slice(text.as_slice())?;
+            out.extend_from_slice(text.get().as_slice())?;
         }
         Kind::Mark(_) => out.extend_from_slice(b"mark")?,
         Kind::BadByte => out.extend_from_slice(b"bad byte")?,

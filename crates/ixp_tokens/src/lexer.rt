@@ -6,7 +6,7 @@ ghost use Rattle.ixp_tokens.specs.Tokens.{word_kind, Says, Stands, Tokens};
 use crate::gap::behind_gap;
 use crate::shape::{Shape, piece_at, plain_behind};
 use crate::word::is_keyword;
-use crate::{Kind, Token};
+use crate::{Boxed, Kind, Token};
 use ixp_num::{Items, Name, read_addr, read_asn, read_prefix};
 use std::alloc::{AllocError, Global};
 
@@ -17,7 +17,7 @@ fn word_kind(alloc: Global, word: &[u8]) -> Result<Kind, AllocError>
     if !Name::is_name(word) {
         return Ok(Kind::BadByte);
     }
-    let name = Name::new(alloc, word)?;
+    let name = Boxed::new(alloc, Name::new(alloc, word)?)?;
     if is_keyword(word) {
         Ok(Kind::Word(name))
     } else {
@@ -31,11 +31,11 @@ fn kind_of(alloc: Global, shape: Shape, text: &[u8]) -> Result<Kind, AllocError>
 {
     match shape {
         Shape::Address => match read_addr(text) {
-            Ok(addr) => Ok(Kind::Addr(addr)),
+            Ok(addr) => Ok(Kind::Addr(Boxed::new(alloc, addr)?)),
             Err(_) => Ok(Kind::BadNumber),
         },
         Shape::Prefix => match read_prefix(text) {
-            Ok(prefix) => Ok(Kind::Prefix(prefix)),
+            Ok(prefix) => Ok(Kind::Prefix(Boxed::new(alloc, prefix)?)),
             Err(_) => Ok(Kind::BadNumber),
         },
         Shape::Number => match read_asn(text) {
@@ -45,7 +45,7 @@ fn kind_of(alloc: Global, shape: Shape, text: &[u8]) -> Result<Kind, AllocError>
         Shape::Word => word_kind(alloc, text),
         Shape::Text => {
             let text = Items::from_slice(alloc, text)?;
-            Ok(Kind::Text(text))
+            Ok(Kind::Text(Boxed::new(alloc, text)?))
         }
         Shape::Mark(mark) => Ok(Kind::Mark(mark)),
         Shape::Stray => Ok(Kind::BadByte),

@@ -9,6 +9,7 @@
 //! The readers of one token, from which all others are made, stand here too.
 #![tactic(auto)]
 
+mod boxed;
 mod fault;
 mod gap;
 mod lexer;
@@ -19,6 +20,7 @@ mod take;
 mod token;
 mod word;
 
+pub use boxed::Boxed;
 pub use fault::{Cause, Fault};
 pub use lexer::tokens_of;
 pub use lexer_laws::{one_list, written_tokens};

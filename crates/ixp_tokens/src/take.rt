@@ -57,7 +57,7 @@ pub fn after_word<'t>(word: &[u8], tokens: &'t [Token]) -> Option<&'t [Token]>
         return None;
     };
     match &first.kind {
-        Kind::Word(found) if is_same(found, word) => Some(rest),
+        Kind::Word(found) if is_same(found.get(), word) => Some(rest),
         _ => None,
     }
 }
@@ -82,7 +82,7 @@ pub fn name_at(tokens: &[Token]) -> Result<(&Name, &[Token]), Fault>
         return Err(unexpected(tokens));
     };
     match &first.kind {
-        Kind::Name(name) => Ok((name, rest)),
+        Kind::Name(name) => Ok((name.get(), rest)),
         _ => Err(unexpected(tokens)),
     }
 }
@@ -110,7 +110,7 @@ pub fn addr_at(tokens: &[Token]) -> Result<(Addr, &[Token]), Fault>
         return Err(unexpected(tokens));
     };
     match &first.kind {
-        Kind::Addr(addr) => Ok((*addr, rest)),
+        Kind::Addr(addr) => Ok((*addr.get(), rest)),
         _ => Err(unexpected(tokens)),
     }
 }
@@ -130,7 +130,7 @@ pub fn is_word(word: &[u8], token: &Token) -> bool
     ensures { result ≡ is_word word.now token.now.kind }
 {
     match &token.kind {
-        Kind::Word(found) => is_same(found, word),
+        Kind::Word(found) => is_same(found.get(), word),
         _ => false,
     }
 }

@@ -3,6 +3,7 @@ ghost use Rattle.std.specs.Prelude.{◌≡◌};
 ghost use Rattle.ixp_tokens.specs.Pieces.{rank, same_mark};
 ghost use Rattle.ixp_tokens.specs.Tokens.{is_last};
 
+use crate::Boxed;
 use ixp_num::{Addr, Items, Name, Prefix};
 
 /// A mark of one or two characters.
@@ -108,18 +109,18 @@ impl Mark {
     }
 }
 
-/// What a token is.
+/// What a token is. All that is larger than a word of memory stands on the heap, since most tokens are marks and numbers.
 #[derive(Drop)]
 pub enum Kind {
     /// A name that is no keyword.
-    Name(Name),
+    Name(Boxed<Name>),
     /// A keyword.
-    Word(Name),
+    Word(Boxed<Name>),
     Number(u32),
-    Addr(Addr),
-    Prefix(Prefix),
+    Addr(Boxed<Addr>),
+    Prefix(Boxed<Prefix>),
     /// What stands between two quotes.
-    Text(Items<u8>),
+    Text(Boxed<Items<u8>>),
     Mark(Mark),
     /// A byte that begins no token.
     BadByte,
