@@ -1,10 +1,8 @@
 -- The router's answer on rows whose parameters fill their segments' ends.
-use Rattle.std.proofs.Common.{◌≡◌, ◌≢◌, ◌⊎◌, inl, inr, ℕ, zero, suc, ◌+◌, ◌-◌, ◌<◌, ◌≤◌, List, [], ◌∷◌, length, drop, Option, Some, None, Bool, true, false, cond, refl, sym, ap, ◌∙◌, arith, nat_eq, ◌==◌, ◌||◌, ◌&&◌, ltb, subst}
+use Rattle.std.proofs.Common.{◌≡◌, ◌⊎◌, inl, inr, ℕ, zero, suc, ◌-◌, ◌<◌, List, [], ◌∷◌, length, drop, Option, Some, None, Bool, true, false, cond, refl, sym, ap, ◌∙◌, arith, nat_eq, ◌==◌, ◌||◌, ◌&&◌, ltb}
 use Rattle.std.proofs.lemmas.Bool.Decides.{nat_tests}
-use Rattle.std.specs.List.{ends_with}
-use Rattle.std.specs.Cmp.Lexicographic.{pointwise}
 use Rattle.matchit.specs.Rows.{RowsOf, param_token, catch_all_token}
-use Rattle.matchit.specs.Seek.{slash, own, step, or_else, seek, first, param_step, has_slash, segment, better, cuts, longest_from, longest_suffix, with_suffix, same_text}
+use Rattle.matchit.specs.Seek.{slash, own, step, or_else, seek, first, param_step, has_slash, segment, cuts, longest_from, longest_suffix, with_suffix}
 use Rattle.ixp_paths.specs.Fits.{is_empty, on_head, fits, ends_segment, plain, AllPlain, AllEnd, Tells, wander}
 
 head-plain : (x : ℕ) (t : List ℕ) → plain (x ∷ t) ≡ true → plain t ≡ true

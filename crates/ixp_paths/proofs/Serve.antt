@@ -1,5 +1,5 @@
 -- A router that serves a table answers as the table does.
-use Rattle.std.proofs.Common.{◌≡◌, ◌≢◌, ◌⊎◌, inl, inr, ℕ, zero, suc, ◌+◌, ◌-◌, ◌<◌, ◌≤◌, List, [], ◌∷◌, ◌++◌, length, get_or, Option, Some, None, Result, Ok, Err, Bool, true, false, cond, not, refl, sym, ap, subst, ◌∙◌, arith, nat_eq, ◌==◌, ◌||◌, ◌&&◌}
+use Rattle.std.proofs.Common.{◌≡◌, ◌≢◌, ◌⊎◌, inl, inr, ℕ, zero, suc, ◌+◌, ◌<◌, List, [], ◌∷◌, ◌++◌, length, get_or, Option, Some, None, Result, Ok, Err, Bool, true, false, cond, not, refl, sym, ap, subst, ◌∙◌, arith, ◌==◌, ◌||◌, ◌&&◌}
 use Rattle.std.proofs.lemmas.Bool.Decides.{nat_tests}
 use Rattle.std.proofs.lemmas.Option.{option_and_then_some}
 use Rattle.std.specs.Cmp.Lexicographic.{bytes_decides}

@@ -1,5 +1,5 @@
 -- Decimal numbers.
-use Rattle.std.specs.Prelude.{ℕ, ◌+◌, ◌-◌, ◌*◌, List, [], ◌∷◌, true, false, Option, Some, None, option_and_then, ◌==◌, ◌&&◌, nat_le, if◌then◌else◌}
+use Rattle.std.specs.Prelude.{ℕ, ◌+◌, ◌-◌, ◌*◌, List, [], ◌∷◌, Option, Some, None, option_and_then, ◌==◌, ◌&&◌, nat_le, if◌then◌else◌}
 use Rattle.std.specs.Char.{is_ascii_digit}
 
 -- the number with one more digit, where that is at most `most`

@@ -3,12 +3,12 @@ use Rattle.std.specs.Prelude.{◌≡◌, ◌⊎◌, ◌<◌, ℕ, List, [], ◌�
 use Rattle.matchit.specs.Rows.{RowsOf, param_token}
 use Rattle.matchit.specs.Seek.{slash}
 use Rattle.matchit.specs.Router.{RouteOf}
-use Rattle.matchit.specs.Route.{Scan, parse_route}
+use Rattle.matchit.specs.Route.{Scan}
 use Rattle.matchit.specs.declared.error.InsertError.{InsertError}
 use Rattle.ixp_paths.specs.declared.table.Part.{Part}
 use Rattle.ixp_paths.specs.declared.table.Part.TheVariants as part
 use Rattle.ixp_paths.specs.declared.table.Entry.{Entry}
-use Rattle.ixp_paths.specs.Paths.{word_text, is_end, find, on_read, read, no_args, behind_root}
+use Rattle.ixp_paths.specs.Paths.{word_text, is_end}
 use Rattle.ixp_paths.specs.Table.{no_entry}
 use Rattle.ixp_paths.specs.Fits.{plain, is_empty}
 

@@ -1,5 +1,5 @@
 -- The replies of outcomes.
-use Rattle.std.specs.Prelude.{ℕ, Bool, true, false, List, [], ◌++◌, decimal, codes}
+use Rattle.std.specs.Prelude.{ℕ, true, false, List, [], ◌++◌, decimal, codes}
 use Rattle.ixp_registry.specs.Codes.{refusal_code}
 use Rattle.ixp_registry.specs.declared.refusal.Refusal.{Refusal}
 use Rattle.ixp_http.specs.declared.reply.HttpReply.{HttpReply}

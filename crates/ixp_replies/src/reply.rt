@@ -170,7 +170,8 @@ fn bad_body(alloc: Global, pointer: Pointer) -> Result<HttpReply, AllocError>
 }
 
 fn called(alloc: Global, fault: CallFault) -> Result<HttpReply, AllocError>
-    ensures { IfOk result (λ r. r ≡ spec.called fault) }
+    ensures reply { IfOk result (λ r. r ≡ spec.called fault) }
+    ensures fixed { fault ≡ CallFault.NoMemory → IsOk result }
 {
     match fault {
         CallFault::NoPath => refused(alloc, 404, b"path", b""),
@@ -195,10 +196,11 @@ fn seat_count(alloc: Global, seat: u64, kept: u64) -> Result<HttpReply, AllocErr
     refused(alloc, 500, b"Y4", detail.as_slice())
 }
 
-/// The reply of an outcome. That of want of memory takes none.
+/// The reply of an outcome. That of want of memory, also of a request that was being read, takes none.
 pub fn reply_of(alloc: Global, outcome: Outcome) -> Result<HttpReply, AllocError>
     ensures reply { IfOk result (λ r. r ≡ spec.reply outcome) }
     ensures fixed { outcome ≡ Outcome.NoMemory → IsOk result }
+    ensures unread { outcome ≡ Outcome.Called CallFault.NoMemory → IsOk result }
 {
     match outcome {
         Outcome::Done(number) => done(alloc, number),

@@ -1,4 +1,4 @@
-use Rattle.std.proofs.Common.{◌≡◌, ◌++◌, take, drop}
+use Rattle.std.proofs.Common.{◌≡◌, ◌++◌, drop}
 use Rattle.json.specs.Print.{escape}
 use Rattle.ixp_json.proofs.quoting.put_escaped.Given as goal
 

@@ -1,5 +1,4 @@
-use Rattle.std.proofs.Common.{arith, Ok, ℕ}
-use Rattle.matchit.specs.Router.{InsertsRead}
+use Rattle.std.proofs.Common.{arith}
 use Rattle.ixp_paths.specs.declared.table.TheConstants.{TABLE}
 use Rattle.ixp_paths.proofs.Serve.{insert-keeps}
 use Rattle.ixp_paths.proofs.served.Paths.new.Goals as goal

@@ -1,4 +1,3 @@
-use Rattle.std.proofs.Common.{◌≡◌, ◌<◌, ℕ}
 use Rattle.ixp_paths.specs.declared.table.TheConstants.{TABLE}
 use Rattle.ixp_paths.specs.Serves.{OnlyTable, HasBelow}
 use Rattle.ixp_paths.proofs.served.Paths.new.Given as goal
