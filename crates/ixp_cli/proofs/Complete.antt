@@ -73,17 +73,17 @@ module _ (r : Registry) (left : List ℕ) (before after : Outside) (is : before.
   restored Done short (s, reads, fills, took) =
       (subst (λ x. Fills x before.store after.store) (same_dump s reads) fills, subst (λ x. Takes before.output.bytes after.output.bytes (Restores x)) (same_dump s reads) took)
   restored Usage short e = absurd e
-  restored (BadInput cause) short (why, same) = by_case why where
+  restored (BadInput cause) short (why, out, kept) = by_case why where
     by_case : IsRefused IsNoDump before.input after.input cause → ⊥
     by_case (inl (e, (long, some))) = too_long left before.input.bytes after.input.bytes is long short
     by_case (inr (text, (moves, done, fits), none)) =
         is_dump left r cause dump (subst (λ t. IsNoDump t cause) (read_whole left text before.input.bytes after.input.bytes is moves done) none)
-  restored ReadFault short (rose, some, same) = rose
+  restored ReadFault short (rose, some, out, kept) = rose
   restored WriteFault short (s, reads, fills, took, rose) = rose
-  restored KeeperFault short (s, reads, rose, same) = rose
+  restored KeeperFault short (s, reads, rose, out, kept) = rose
   restored NoMemory short e = tt
   restored (UnknownRouter router) short e = absurd e
-  restored NotEmpty short (s, reads, filled, same) = none_filled before.store.rows clear filled
+  restored NotEmpty short (s, reads, filled, out, kept) = none_filled before.store.rows clear filled
 
 pub restored_run :
     (r : Registry) (before after : Outside) (status : Option ℕ) (left : List ℕ) → before.input.bytes ≡ Some left → length left ≤ input_limit → IsDumpOf left r → before.store.rows ≡ Some empty

@@ -20,7 +20,7 @@ other_status : (n : ℕ) (c : Command) → (◌≡◌ {A = Option ℕ} (Some n) 
 other_status n c never = ((λ e. absurd (never e)), λ e. absurd cc)
 
 of_end : (o : Option Command) (before after : Outside) (end : End) → Ends o before after end → (◌≡◌ {A = Option ℕ} (Some (status_of end)) (Some 1)) ↔ (o ≡ None)
-of_end None before after end (is, input, output) = ((λ _. refl), λ _. ap (λ e. Some (status_of e)) is)
+of_end None before after end (is, input, output, store) = ((λ _. refl), λ _. ap (λ e. Some (status_of e)) is)
 of_end (Some c) before after Done e = other_status 0 c (λ h. cc)
 of_end (Some c) before after Usage e = absurd (not_usage c before after e)
 of_end (Some c) before after (BadInput cause) e = other_status 2 c (λ h. cc)

@@ -1,5 +1,5 @@
 -- An input that is longer than the limit.
-use Rattle.std.proofs.Common.{◌≡◌, ◌<◌, ◌≤◌, ℕ, List, [], ◌++◌, length, length-append, Option, Some, None, inl, inr, subst, ap, sym, ◌∙◌, arith}
+use Rattle.std.proofs.Common.{◌≡◌, ◌<◌, ◌≤◌, ℕ, List, [], ◌++◌, length, length-append, Option, Some, None, Ok, Err, inl, inr, subst, ap, sym, ◌∙◌, arith}
 use Rattle.ixp_causes.specs.declared.Cause.{Cause}
 use Rattle.ixp_cli.specs.declared.command.Command.{Command}
 use Rattle.ixp_cli.specs.declared.command.Command.TheVariants.{Ask, Restore}
@@ -46,16 +46,16 @@ module _ (left : List ℕ) (input input' output output' : Flow) (store store' : 
   long_restore : (end : End) → RestoreEnds input input' output output' store store' end → IsLongEnd end
   long_restore Done (r, reads, fills, took) = absurd (never_dump r reads)
   long_restore Usage e = absurd e
-  long_restore (BadInput cause) (why, same) = by_case why where
+  long_restore (BadInput cause) (why, out, kept) = by_case why where
     by_case : IsRefused IsNoDump input input' cause → cause ≡ too_long
     by_case (inl (is_long, more)) = is_long
     by_case (inr (read, (moves, done, short), answer)) = absurd (never_all left read input.bytes input'.bytes is long moves done short)
   long_restore ReadFault e = tt
   long_restore WriteFault (r, reads, fills, took, rose) = absurd (never_dump r reads)
-  long_restore KeeperFault (r, reads, rose, same) = absurd (never_dump r reads)
+  long_restore KeeperFault (r, reads, rose, out, kept) = absurd (never_dump r reads)
   long_restore NoMemory e = tt
   long_restore (UnknownRouter router) e = absurd e
-  long_restore NotEmpty (r, reads, filled, same) = absurd (never_dump r reads)
+  long_restore NotEmpty (r, reads, filled, out, kept) = absurd (never_dump r reads)
 
 of_command : (command : Command) (before after : Outside) (left : List ℕ) (end : End) → before.input.bytes ≡ Some left → input_limit < length left → Ends (Some command) before after end → IsLongEnd end
 of_command (Ask question) before after left end is long ends = long_end question left before.input after.input before.output after.output is long end ends.0

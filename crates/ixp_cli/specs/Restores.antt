@@ -9,6 +9,9 @@ use Rattle.ixp_registry.specs.Registries.{rows_of}
 use Rattle.ixp_rows.specs.Dumps.{RegistryAnswer, version_in}
 use Rattle.ixp_rows.specs.Texts.{rows_count}
 use Rattle.ixp_stored.specs.States.{tables}
+use Rattle.ixp_cli.specs.declared.restore.NoDump.{NoDump}
+use Rattle.ixp_cli.specs.declared.restore.NoDump.TheVariants as dump
+use Rattle.ixp_cli.specs.Checks.{IsNoDump}
 
 -- what the keeper tells at a moment: its rows, and how many calls failed
 pub record Store : Type 0 where
@@ -30,3 +33,9 @@ IsFilled before = WhereTold before.rows (λ rows. rows ≢ empty)
 -- what is written: `restored` and the number of lines
 abbrev pub Restores : Registry → List ℕ
 Restores r = codes "restored " ++ (decimal (rows_count (rows_of r)) ++ 10 ∷ [])
+
+-- why the text is the dump of no registry, or memory ran out
+abbrev pub IsUndumped : List ℕ → NoDump → Type 0
+IsUndumped t dump.ReadFault = ⊥
+IsUndumped t (dump.Bad cause) = IsNoDump t cause
+IsUndumped t dump.NoMemory = Unit {0}

@@ -11,6 +11,8 @@ use Rattle.ixp_registry.specs.declared.registry.Registry.{Registry}
 use Rattle.ixp_tables.specs.Tables.{same}
 use Rattle.ixp_cli.specs.declared.command.Command.{Command}
 use Rattle.ixp_cli.specs.declared.command.Command.TheVariants.{Ask, Restore}
+use Rattle.ixp_cli.specs.declared.restore.NoDump.{NoDump}
+use Rattle.ixp_cli.specs.declared.restore.NoDump.TheVariants as no
 use Rattle.ixp_cli.specs.declared.command.Question.{Question}
 use Rattle.ixp_cli.specs.declared.command.Question.TheVariants.{Check, Eval, Fate, Generate}
 use Rattle.ixp_cli.specs.declared.end.End.{End}
@@ -159,6 +161,12 @@ QuestionEnds question input input' output output' NoMemory = ReadsSome input inp
 QuestionEnds question input input' output output' (UnknownRouter router) =
     (read : List ℕ) × ReadsAll input input' read × AsksInVain question read router × (output' ≡ output)
 QuestionEnds question input input' output output' NotEmpty = ⊥
+
+-- why no dump was read: the input is refused, or a read failed, or memory ran out
+abbrev pub NotRead : Flow → Flow → NoDump → Type 0
+NotRead before after no.ReadFault = Rose before.faults after.faults × ReadsSome before after
+NotRead before after (no.Bad cause) = IsRefused IsNoDump before after cause
+NotRead before after no.NoMemory = ReadsSome before after
 
 -- How `restore` ends. It reads all of its input, a registry's dump, puts the rows of that registry into the keeper, which has to
 -- have none, and writes how many lines they are. Where it doesn't come to writing, keeper and output are as they were.

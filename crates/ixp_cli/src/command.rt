@@ -1,5 +1,5 @@
 //! The top calls: a command by its words, over the objects that the caller hands in.
-ghost use Rattle.std.specs.Prelude.{◌≡◌, ◌↔◌, ◌≤◌, List, ℕ, map, Some, None, Ok, Err, IsSome, IsTrue, IfOk, IfErr};
+ghost use Rattle.std.specs.Prelude.{◌≡◌, ◌↔◌, ◌≤◌, List, ℕ, map, Option, Some, None, Ok, Err, IsSome, IsTrue, IfOk, IfErr};
 ghost use Rattle.ixp_cli.specs.declared.command.Command.TheVariants.{Ask};
 ghost use Rattle.ixp_cli.specs.declared.command.Question.TheVariants.{Generate as AskFor};
 ghost use Rattle.ixp_cli.specs.Restores.{Store};

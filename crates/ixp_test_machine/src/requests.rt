@@ -17,15 +17,22 @@ const MEMBER: &str = "memberb000000002";
 #[derive(Clone, Copy)]
 struct Sends(&'static [Sent]);
 
+fn send_all(state: &mut State, run: &[Sent], out: &mut Vec<u8>) -> Result<(), AllocError>
+    requires { ValidState state.old }
+    ensures { ValidState state.new }
+{
+    let mut left = run;
+    'each: while let Some((sent, others)) = left.split_first() {
+        put_request(state, *sent, out)?;
+        put(out, b"\n")?;
+        left = others;
+    }
+    Ok(())
+}
+
 impl Plays for Sends {
     fn play(&self, state: &mut State, out: &mut Vec<u8>) -> Result<(), AllocError> {
-        let mut left = self.0;
-        'each: while let Some((sent, others)) = left.split_first() {
-            put_request(state, *sent, out)?;
-            put(out, b"\n")?;
-            left = others;
-        }
-        Ok(())
+        send_all(state, self.0, out)
     }
 }
 
