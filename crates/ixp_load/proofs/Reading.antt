@@ -29,7 +29,7 @@ behind t (x ∷ xs) rest e =
     let one : length (x ∷ xs) - 1 ≡ length xs = omega arith in
     let here : name_before (x ∷ xs) ≡ Some (at.last).name = ap (λ n. option_map (λ r. r.name) (slice_get (x ∷ xs) n)) one ∙ ap (λ o. option_map (λ r. r.name) o) at.got in
     let parted : entries t ≡ map row_entry at.front ++ row_entry at.last ∷ rest =
-        e ∙ (ap (λ l. map row_entry l ++ rest) at.is ∙ (ap (λ l. l ++ rest) (map-append row_entry at.front (at.last ∷ [])) ∙ append_assoc (map row_entry at.front) (row_entry at.last ∷ []) rest)) in
+    e ∙ (ap (λ l. map row_entry l ++ rest) at.is ∙ (ap (λ l. l ++ rest) (map-append row_entry at.front (at.last ∷ [])) ∙ append_assoc (map row_entry at.front) (row_entry at.last ∷ []) rest)) in
     ap (λ o. next_after o t) here ∙ rows_in_order t (map row_entry at.front) rest (row_entry at.last) parted
 
 no_first : (es : List Entry) → None ≡ slice_get es 0 → es ≡ []
@@ -51,9 +51,10 @@ none_left t rows rest front e =
 
 one_more : (t : Table) (rows : List Row) (rest : List Entry) (row : Row) → entries t ≡ map row_entry rows ++ rest → Some (row_entry row) ≡ next_after (name_before rows) t → IsFront t (rows ++ row ∷ [])
 one_more t rows rest row front e =
-    let some : rest ≡ row_entry row ∷ first_rest rest = a_first rest (row_entry row) (e ∙ behind t rows rest front) in
-    (first_rest rest,
-    front ∙ (ap (λ r. map row_entry rows ++ r) some ∙ (sym (append_assoc (map row_entry rows) (row_entry row ∷ []) (first_rest rest)) ∙ ap (λ l. l ++ first_rest rest) (sym (map-append row_entry rows (row ∷ []))))))
+    let some : rest ≡ row_entry row ∷ first_rest rest = a_first rest (row_entry row) (e ∙ behind t rows rest front) in (
+      first_rest rest,
+      front ∙ (ap (λ r. map row_entry rows ++ r) some ∙ (sym (append_assoc (map row_entry rows) (row_entry row ∷ []) (first_rest rest)) ∙ ap (λ l. l ++ first_rest rest) (sym (map-append row_entry rows (row ∷ []))))),
+    )
 
 comes : (t : Table) (rows : List Row) (o : Option Row) → option_map row_entry o ≡ next_after (name_before rows) t → ComesNext t rows o
 comes t rows None e = λ f. none_left t rows f.0 f.1 e

@@ -52,11 +52,12 @@ all_above k (e ∷ es) h = (first_of _ _ h, all_above k es (second_of _ _ h))
 -- in a list whose names rise each entry is found
 all_found : (es : List Entry) → T (is_sorted name_cmp es) → AllByRecursion (λ e. find name_cmp e.0 es ≡ Some e.1) es
 all_found [] h = tt
-all_found (e ∷ es) h =
-    (ap (λ b. cond b (Some e.1) (find name_cmp e.0 es)) (ties_itself e.0),
-    all_weaker (λ x. T (is_lt (name_cmp e.0 x.0)) × (find name_cmp x.0 es ≡ Some x.1)) (λ x. find name_cmp x.0 (e ∷ es) ≡ Some x.1)
-    (λ x both. ap (λ b. cond b (Some e.1) (find name_cmp x.0 es)) (apart e.0 x.0 both.0) ∙ both.1) es
-    (all_both (λ x. T (is_lt (name_cmp e.0 x.0))) (λ x. find name_cmp x.0 es ≡ Some x.1) es (all_above e.0 es (first_of _ _ h)) (all_found es (second_of _ _ h))))
+all_found (e ∷ es) h = (
+  ap (λ b. cond b (Some e.1) (find name_cmp e.0 es)) (ties_itself e.0),
+  all_weaker (λ x. T (is_lt (name_cmp e.0 x.0)) × (find name_cmp x.0 es ≡ Some x.1)) (λ x. find name_cmp x.0 (e ∷ es) ≡ Some x.1)
+      (λ x both. ap (λ b. cond b (Some e.1) (find name_cmp x.0 es)) (apart e.0 x.0 both.0) ∙ both.1) es
+      (all_both (λ x. T (is_lt (name_cmp e.0 x.0))) (λ x. find name_cmp x.0 es ≡ Some x.1) es (all_above e.0 es (first_of _ _ h)) (all_found es (second_of _ _ h))),
+)
 
 -- what holds of all entries holds of one that is found
 found_one : (P : RowName → Type 0) (es : List Entry) (q : RowName) (b : List ℕ) → AllByRecursion (λ e. P e.0) es → find name_cmp q es ≡ Some b → P q
@@ -111,10 +112,11 @@ stays_on t m (c ∷ cs) q all some = stays_on t (set m c.name c.body) cs q all.1
 -- each row that is set is there
 all_there : (t m : Table) (cs : List Change) → AllByRecursion (Sets t) cs → AllByRecursion (λ c. IsSome (get (changed m cs) c.name)) cs
 all_there t m [] all = tt
-all_there t m (c ∷ cs) all =
-    (stays_on t (set m c.name c.body) cs c.name all.1
-    (subst IsSome (sym (ap (λ x. get x c.name) (set_as m c (all.0).body (all.0).is_body) ∙ (get-insert name_total m c.name (all.0).body c.name ∙ ap (λ x. cond x (Some (all.0).body) (get m c.name)) (ties_itself c.name)))) refl),
-    all_there t (set m c.name c.body) cs all.1)
+all_there t m (c ∷ cs) all = (
+  stays_on t (set m c.name c.body) cs c.name all.1
+      (subst IsSome (sym (ap (λ x. get x c.name) (set_as m c (all.0).body (all.0).is_body) ∙ (get-insert name_total m c.name (all.0).body c.name ∙ ap (λ x. cond x (Some (all.0).body) (get m c.name)) (ties_itself c.name)))) refl),
+  all_there t (set m c.name c.body) cs all.1,
+)
 
 sets_mapped : (t : Table) (es : List Entry) → AllByRecursion (λ e. get t e.0 ≡ Some e.1) es → AllByRecursion (Sets t) (map set_row es)
 sets_mapped t [] all = tt

@@ -24,9 +24,7 @@ pub(crate) fn damaged(alloc: Global, name: &RowName) -> NoState {
 pub(crate) fn sets(change: &Change, row: &Row) -> bool
     ensures { IsTrue result → change.now ≡ set_row (row_entry row.now) }
 {
-    if change.name.kind != row.name.kind
-        || change.name.key.as_slice() != row.name.key.as_slice()
-    {
+    if change.name.kind != row.name.kind || change.name.key.as_slice() != row.name.key.as_slice() {
         return false;
     }
     match &change.body {

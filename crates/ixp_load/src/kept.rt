@@ -45,11 +45,7 @@ fn is_owner(alloc: Global, rows: &[Row], owner: Owner) -> Result<bool, AllocErro
 }
 
 /// The owner and the floor that a row says.
-fn floor_of(
-    alloc: Global,
-    row: &Row,
-    _accepted: u64,
-) -> Result<Option<KeptOwner>, AllocError>
+fn floor_of(alloc: Global, row: &Row, _accepted: u64) -> Result<Option<KeptOwner>, AllocError>
     ensures { IfOk result (λ o. IfSome o (ValidKept _accepted)) }
 {
     let Some(owner) = owner_of(row.name.key.as_slice()) else {
@@ -120,9 +116,11 @@ fn number_in(alloc: Global, owner: &Owner, row: &Row) -> Result<Option<KeptNumbe
     let (_, number) = last_word(row.name.key.as_slice());
     let (word, rest) = first_word(row.body.as_slice());
     let (subject, place) = last_word(rest);
-    let (Some(number), Some(kind), Some(place)) =
-        (number_of(number), kind_of(word), number_of(place))
-    else {
+    let (Some(number), Some(kind), Some(place)) = (
+        number_of(number),
+        kind_of(word),
+        number_of(place),
+    ) else {
         return Ok(None);
     };
     if number == 0 || number >= NUMBERS_END {

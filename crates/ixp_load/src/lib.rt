@@ -8,8 +8,8 @@
 mod checking;
 mod decode;
 mod fault;
-mod kept;
 mod keeper;
+mod kept;
 mod lines;
 mod opened;
 mod words;

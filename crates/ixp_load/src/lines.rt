@@ -248,7 +248,11 @@ pub(crate) fn registry_rows<'a>(
 /// How many lines of a dump a row is.
 fn lines_of(row: &Row) -> usize {
     if row.name.kind == place_of(Kind::Prefixes) || row.name.kind == place_of(Kind::Origins) {
-        row.body.as_slice().iter().filter(|byte| **byte == b'\n').count()
+        row.body
+            .as_slice()
+            .iter()
+            .filter(|byte| **byte == b'\n')
+            .count()
     } else {
         1
     }

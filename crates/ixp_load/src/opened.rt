@@ -103,7 +103,12 @@ fn registry_of(alloc: Global, rows: &[&Row]) -> Result<Registry, NoState>
     match read_dump(alloc, text.as_slice()) {
         Ok(registry) => Ok(registry),
         Err(DumpFault::NoMemory) => Err(NoState::NoMemory),
-        Err(DumpFault::Invalid { rule, line }) => Err(broken(alloc, rows, line, Damage::Rule(rule))),
+        Err(DumpFault::Invalid { rule, line }) => Err(broken(
+            alloc,
+            rows,
+            line,
+            Damage::Rule(rule),
+        )),
         Err(DumpFault::BadLine { line })
         | Err(DumpFault::Order { line })
         | Err(DumpFault::Twice { line }) => Err(broken(alloc, rows, line, Damage::Row)),
@@ -137,12 +142,7 @@ fn have_owners(members: &Table<Member>, kept: &Table<KeptOwner>) -> bool
 }
 
 /// The state of a registry and what is kept of requests, if that is kept for owners that are there.
-fn joined(
-    alloc: Global,
-    registry: Registry,
-    kept: Table<KeptOwner>,
-    accepted: u64,
-) -> Option<State>
+fn joined(alloc: Global, registry: Registry, kept: Table<KeptOwner>, accepted: u64) -> Option<State>
     requires registry { Valid registry }
     requires kept { AreKept accepted kept }
     ensures { IfSome result ValidState }

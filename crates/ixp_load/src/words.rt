@@ -1,7 +1,7 @@
 //! Words of names and bodies.
-use ixp_registry::{EditKind, Owner};
-use ixp_places::is_handle;
 use ixp_num::Name;
+use ixp_places::is_handle;
+use ixp_registry::{EditKind, Owner};
 use ixp_steps::{PublicKind, Subject};
 use std::alloc::{AllocError, Global};
 use std::str;

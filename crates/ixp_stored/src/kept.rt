@@ -61,11 +61,7 @@ fn kept_body(alloc: Global, kept: &KeptNumber) -> Result<Items<u8>, AllocError>
 }
 
 /// Puts a kept number into the store.
-pub fn set_kept(
-    alloc: Global,
-    owner: &Owner,
-    kept: &KeptNumber,
-) -> Result<Change, AllocError>
+pub fn set_kept(alloc: Global, owner: &Owner, kept: &KeptNumber) -> Result<Change, AllocError>
     ensures { IfOk result (λ change. change ≡ set_row (kept_row owner.now kept.now)) }
 {
     Ok(Change {
@@ -74,11 +70,7 @@ pub fn set_kept(
     })
 }
 
-fn set_numbers(
-    alloc: Global,
-    kept: &KeptOwner,
-    batch: &mut Vec<Change>,
-) -> Result<(), AllocError>
+fn set_numbers(alloc: Global, kept: &KeptOwner, batch: &mut Vec<Change>) -> Result<(), AllocError>
     ensures { OnOk result (batch.new.items ≡ batch.old.items ++ map set_row (kept_rows kept.now)) }
 {
     for number in kept.numbers.as_slice() {
@@ -129,11 +121,7 @@ pub fn set_floor(alloc: Global, kept: &KeptOwner) -> Result<Change, AllocError>
     })
 }
 
-fn set_floor_of(
-    alloc: Global,
-    kept: &KeptOwner,
-    batch: &mut Vec<Change>,
-) -> Result<(), AllocError>
+fn set_floor_of(alloc: Global, kept: &KeptOwner, batch: &mut Vec<Change>) -> Result<(), AllocError>
     ensures { OnOk result (batch.new.items ≡ batch.old.items ++ map set_row (floor_rows kept.now)) }
 {
     if kept.floor == 0 {

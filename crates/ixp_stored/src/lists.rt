@@ -14,7 +14,8 @@ use ixp_lines::{Kind, Lined, Version};
 use ixp_lists::Items;
 use ixp_num::Family;
 use ixp_registry::{
-    AddressRow, IfAddr, Interface, InterfaceRow, IrrList, MemberOrigin, MemberPrefix, OriginList, RuleList,
+    AddressRow, IfAddr, Interface, InterfaceRow, IrrList, MemberOrigin, MemberPrefix, OriginList,
+    RuleList,
 };
 use ixp_tables::Copied;
 use std::alloc::{AllocError, Global};

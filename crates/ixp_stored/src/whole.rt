@@ -12,11 +12,7 @@ use ixp_registry::{PublicLists, Registry};
 use ixp_steps::State;
 use std::alloc::{AllocError, Global};
 
-fn set_people(
-    alloc: Global,
-    registry: &Registry,
-    batch: &mut Vec<Change>,
-) -> Result<(), AllocError>
+fn set_people(alloc: Global, registry: &Registry, batch: &mut Vec<Change>) -> Result<(), AllocError>
     ensures { OnOk result (batch.new.items ≡ batch.old.items ++ map set_row (people_rows registry.now)) }
 {
     batch.push(set_row(alloc, &registry.site)?)?;
@@ -25,11 +21,7 @@ fn set_people(
     set_rows(alloc, registry.keys.as_slice(), batch)
 }
 
-fn set_ports(
-    alloc: Global,
-    registry: &Registry,
-    batch: &mut Vec<Change>,
-) -> Result<(), AllocError>
+fn set_ports(alloc: Global, registry: &Registry, batch: &mut Vec<Change>) -> Result<(), AllocError>
     ensures { OnOk result (batch.new.items ≡ batch.old.items ++ map set_row (port_rows registry.now)) }
 {
     set_rows(alloc, registry.switches.as_slice(), batch)?;
@@ -50,11 +42,7 @@ fn set_network(
     set_rows(alloc, registry.routers.as_slice(), batch)
 }
 
-fn set_lists(
-    alloc: Global,
-    registry: &Registry,
-    batch: &mut Vec<Change>,
-) -> Result<(), AllocError>
+fn set_lists(alloc: Global, registry: &Registry, batch: &mut Vec<Change>) -> Result<(), AllocError>
     ensures { OnOk result (batch.new.items ≡ batch.old.items ++ map set_row (list_rows registry.now)) }
 {
     set_all_irr(alloc, registry.irr.as_slice(), batch)?;

@@ -108,12 +108,7 @@ pub fn put_loaded(keeper: &mut MemKeeper, out: &mut Vec<u8>) -> Result<(), Alloc
     }
 }
 
-fn change_of(
-    alloc: Global,
-    kind: u8,
-    key: &str,
-    body: Option<&str>,
-) -> Result<Change, AllocError> {
+fn change_of(alloc: Global, kind: u8, key: &str, body: Option<&str>) -> Result<Change, AllocError> {
     Ok(Change {
         name: RowName {
             kind,

@@ -99,7 +99,11 @@ fn send_many(state: &mut State, count: u64, out: &mut Vec<u8>) -> Result<(), All
 {
     let mut said = Vec::new(*out.allocator());
     'each: for number in 0..count {
-        put_request(state, (STAFF, number + 1, Change::SetMacro(2, "AS2")), &mut said)?;
+        put_request(
+            state,
+            (STAFF, number + 1, Change::SetMacro(2, "AS2")),
+            &mut said,
+        )?;
         if said.as_slice() != b"ok".as_slice() {
             return put(out, b"refused ");
         }
@@ -128,5 +132,10 @@ fn numbers_that_were_used(rt: HostRuntime) {
 #[test]
 fn ten_thousand_requests(rt: HostRuntime) {
     let have = told(rt.alloc(), LINES.as_bytes(), &Many(10_000));
-    is_wanted(&rt, have, b"X3 8977 10000 10000 10000 none", "10,000 requests");
+    is_wanted(
+        &rt,
+        have,
+        b"X3 8977 10000 10000 10000 none",
+        "10,000 requests",
+    );
 }
