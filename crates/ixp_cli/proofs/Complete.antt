@@ -1,6 +1,5 @@
 -- A run on an input that its question answers, and one of `restore` on a dump.
-use Rattle.std.proofs.Common.{◌≡◌, ◌≢◌, ◌<◌, ◌≤◌, ℕ, List, [], ◌++◌, length, append-nil, Option, Some, None, Ok, Err, inl, inr, refl, sym, ap, ◌∙◌, subst, arith}
-use Rattle.ixp_causes.specs.declared.Cause.{Cause}
+use Rattle.std.proofs.Common.{◌≡◌, ◌≢◌, ◌<◌, ◌≤◌, ℕ, List, ◌++◌, length, append-nil, Option, Some, None, Ok, Err, inl, inr, sym, ap, ◌∙◌, subst, arith}
 use Rattle.ixp_io.specs.Told.{Moves, IsDone, Takes, Told, WhereTold}
 use Rattle.ixp_cli.specs.declared.command.Command.TheVariants.{Ask, Restore}
 use Rattle.ixp_cli.specs.declared.command.Question.{Question}

@@ -1,6 +1,5 @@
 -- An input that is longer than the limit.
-use Rattle.std.proofs.Common.{◌≡◌, ◌<◌, ◌≤◌, ℕ, List, [], ◌++◌, length, length-append, Option, Some, None, Ok, Err, inl, inr, subst, ap, sym, ◌∙◌, arith}
-use Rattle.ixp_causes.specs.declared.Cause.{Cause}
+use Rattle.std.proofs.Common.{◌≡◌, ◌<◌, ◌≤◌, ℕ, List, [], ◌++◌, length, length-append, Option, Some, None, Err, inl, inr, ap, sym, ◌∙◌, arith}
 use Rattle.ixp_cli.specs.declared.command.Command.{Command}
 use Rattle.ixp_cli.specs.declared.command.Command.TheVariants.{Ask, Restore}
 use Rattle.ixp_cli.specs.declared.command.Question.{Question}
@@ -57,7 +56,7 @@ module _ (left : List ℕ) (input input' output output' : Flow) (store store' : 
   long_restore (UnknownRouter router) e = absurd e
   long_restore NotEmpty (r, reads, filled, out, kept) = absurd (never_dump r reads)
 
-of_command : (command : Command) (before after : Outside) (left : List ℕ) (end : End) → before.input.bytes ≡ Some left → input_limit < length left → Ends (Some command) before after end → IsLongEnd end
+of_command : (command : Command) (before after : Outside) (left : List ℕ) (end : End) → before.input.bytes ≡ Some left → input_limit < length left → Ends (Some command) before.input after.input before.output after.output before.store after.store end → IsLongEnd end
 of_command (Ask question) before after left end is long ends = long_end question left before.input after.input before.output after.output is long end ends.0
 of_command Restore before after left end is long ends = long_restore left before.input after.input before.output after.output before.store after.store is long end ends
 

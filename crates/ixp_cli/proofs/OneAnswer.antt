@@ -1,7 +1,6 @@
 -- An input has one answer: one output, or it is refused.
-use Rattle.std.proofs.Common.{◌≡◌, ◌≢◌, ◌⊎◌, inl, inr, ◌++◌, ℕ, List, Option, Some, None, Result, Ok, Err, refl, sym, ap, ◌∙◌, subst}
+use Rattle.std.proofs.Common.{◌≡◌, ◌≢◌, inl, inr, ◌++◌, ℕ, List, Option, Some, None, Result, Ok, Err, sym, ap, ◌∙◌, subst}
 use Rattle.ixp_causes.specs.declared.Cause.{Cause}
-use Rattle.ixp_lang.specs.declared.item.Bgp.{Bgp}
 use Rattle.ixp_lang.specs.Texts.{fate_text}
 use Rattle.ixp_lang.specs.Trees.{ItemTree}
 use Rattle.ixp_policy.specs.Fates.{fate_of}
@@ -28,14 +27,13 @@ use Rattle.ixp_trial.specs.declared.fault.TrialFault.TheVariants as trial_fault
 use Rattle.ixp_trial.specs.declared.session_route.SessionRoute.{SessionRoute}
 use Rattle.ixp_trial.specs.declared.trial.Trial.{Trial}
 use Rattle.ixp_trial.specs.Causes as trial
-use Rattle.ixp_trial.specs.SessionRoutes.{SessionRouteAnswer}
 use Rattle.ixp_trial.specs.Trials.{TrialAnswer}
 use Rattle.ixp_trial.proofs.OneSessionRoute.{one_session_route}
 use Rattle.ixp_trial.proofs.OneTrial.{one_text, one_trial}
 use Rattle.ixp_cli.specs.declared.command.Question.{Question}
 use Rattle.ixp_cli.specs.declared.command.Question.TheVariants.{Check, Eval, Fate, Generate}
 use Rattle.ixp_cli.specs.Checks.{Checks, IsNoDump, ok_text}
-use Rattle.ixp_cli.specs.Evals.{Evaluates, IsConfiguration, IsNoEval, IsNoText, IsNoTrial, IsOfOtherFamily, IsRefused, IsTaken}
+use Rattle.ixp_cli.specs.Evals.{Evaluates, IsConfiguration, IsNoEval, IsNoTrial, IsRefused, IsTaken}
 use Rattle.ixp_cli.specs.Fates.{Fates, HasNoRouter, HasRoute, IsFate, IsNoFate, IsStray}
 use Rattle.ixp_cli.specs.Generates.{Generates, IsUnknown}
 use Rattle.ixp_cli.specs.Inputs.{dump_part}

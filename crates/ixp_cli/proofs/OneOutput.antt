@@ -1,9 +1,6 @@
 -- An input of `eval` has one output.
-use Rattle.std.proofs.Common.{◌≡◌, ◌≢◌, ℕ, List, Option, Some, Result, Ok, Err, sym, ap, ◌∙◌, subst}
-use Rattle.ixp_num.specs.declared.roa.Roa.{Roa}
-use Rattle.ixp_lang.specs.Meaning.{roas_named}
+use Rattle.std.proofs.Common.{◌≡◌, ◌≢◌, ℕ, List, Result, Ok, Err, sym, ap, ◌∙◌, subst}
 use Rattle.ixp_lang.specs.Trees.{ItemTree}
-use Rattle.ixp_lang.specs.Walks.{walk}
 use Rattle.ixp_lang.proofs.TableNames.{walk_same}
 use Rattle.ixp_read.specs.Answers.{SpellsText}
 use Rattle.ixp_read.proofs.AnswerLaws.{one_spelling}

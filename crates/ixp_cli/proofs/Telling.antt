@@ -1,8 +1,8 @@
 -- Texts that are written one after the other.
-use Rattle.std.proofs.Common.{◌≡◌, ◌≤◌, ℕ, zero, suc, Option, Some, None, List, [], ◌∷◌, ◌++◌, take, length, Result, Ok, Err, OnErr, refl, sym, ap, subst}
+use Rattle.std.proofs.Common.{◌≡◌, ◌≤◌, ℕ, zero, suc, Option, List, [], ◌∷◌, ◌++◌, take, Result, Ok, Err, OnErr, refl, sym, ap, subst}
 use Rattle.ixp_io.specs.Told.{Takes, TakesPart}
 use Rattle.ixp_io.specs.Faults.{Rose}
-use Rattle.ixp_io.proofs.Streams.{Takes-then, Takes-none, Rose-since, Rose-later}
+use Rattle.ixp_io.proofs.Streams.{Takes-then, Rose-since}
 
 pub takes_then : (a b c : Option (List ℕ)) (x y : List ℕ) → Takes a b x → Takes b c y → Takes a c (x ++ y)
 takes_then = Takes-then

@@ -1,5 +1,5 @@
 -- What `eval` makes of an input: a filter text, the line `%%`, lines of ROAs, and the line of a route.
-use Rattle.std.specs.Prelude.{◌≡◌, ◌≢◌, ◌⊎◌, ℕ, List, Option, Some, None, Result, Ok, Err, codes}
+use Rattle.std.specs.Prelude.{◌≡◌, ◌≢◌, ◌⊎◌, ℕ, List, Some, None, Result, Ok, Err, codes}
 use Rattle.ixp_causes.specs.declared.Cause.{Cause}
 use Rattle.ixp_num.specs.declared.roa.Roa.{Roa}
 use Rattle.ixp_lang.specs.declared.fate.Fate.{Fate}

@@ -189,10 +189,10 @@ RestoreEnds input input' output output' store store' NotEmpty =
     (r : Registry) × ReadsDump input input' r × IsFilled store × (output' ≡ output) × (store'.rows ≡ store.rows)
 
 -- How a run ends. Words that are no command end as usage, with nothing read or written. A question leaves the keeper alone.
-abbrev pub Ends : Option Command → Outside → Outside → End → Type 0
-Ends None before after end = (end ≡ Usage) × (after.input ≡ before.input) × (after.output ≡ before.output) × (after.store ≡ before.store)
-Ends (Some (Ask question)) before after end = QuestionEnds question before.input after.input before.output after.output end × (after.store ≡ before.store)
-Ends (Some Restore) before after end = RestoreEnds before.input after.input before.output after.output before.store after.store end
+abbrev pub Ends : Option Command → Flow → Flow → Flow → Flow → Store → Store → End → Type 0
+Ends None input input' output output' store store' end = (end ≡ Usage) × (input' ≡ input) × (output' ≡ output) × (store' ≡ store)
+Ends (Some (Ask question)) input input' output output' store store' end = QuestionEnds question input input' output output' end × (store' ≡ store)
+Ends (Some Restore) input input' output output' store store' end = RestoreEnds input input' output output' store store' end
 
 -- the errors took the line, or a first part of it, and a write failed
 abbrev pub Tells : Flow → Flow → List ℕ → Type 0
@@ -205,7 +205,7 @@ IsTold end before after status = (status ≡ Some (status_of end)) × Tells befo
 -- A run of a command: it ends in one way, which its status says, and of which a line on the errors tells. No command uses the clock.
 pub record Runs (command : Option Command) (before after : Outside) (status : Option ℕ) : Type 0 where
   pub end : End
-  pub ends : Ends command before after end
+  pub ends : Ends command before.input after.input before.output after.output before.store after.store end
   pub told : IsTold end before.errors after.errors status
   pub clock : after.second ≡ before.second
 

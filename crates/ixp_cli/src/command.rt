@@ -150,21 +150,12 @@ fn run_words<S: Source, K: Sink, P: Keeper>(
     output: &mut K,
     keeper: &mut P,
 ) -> End
-    ensures { (errors : Flow) (second : Option ℕ) → Ends (command_in (map (λ w. w.now) words.now))
-        (record {
-          input = record { bytes = S.left input.old; faults = S.read_faults input.old };
-          output = record { bytes = K.written output.old; faults = K.write_faults output.old };
-          errors = errors;
-          store = record { rows = P.table keeper.old; faults = P.faults keeper.old };
-          second = second;
-        })
-        (record {
-          input = record { bytes = S.left input.new; faults = S.read_faults input.new };
-          output = record { bytes = K.written output.new; faults = K.write_faults output.new };
-          errors = errors;
-          store = record { rows = P.table keeper.new; faults = P.faults keeper.new };
-          second = second;
-        }) result }
+    ensures { Ends (command_in (map (λ w. w.now) words.now)) (record { bytes = S.left input.old; faults = S.read_faults input.old })
+        (record { bytes = S.left input.new; faults = S.read_faults input.new })
+        (record { bytes = K.written output.old; faults = K.write_faults output.old })
+        (record { bytes = K.written output.new; faults = K.write_faults output.new })
+        (record { rows = P.table keeper.old; faults = P.faults keeper.old })
+        (record { rows = P.table keeper.new; faults = P.faults keeper.new }) result }
 {
     match command_in(alloc, words) {
         Ok(Some(Command::Ask { question })) => run_question(alloc, question, input, output),

@@ -1,4 +1,4 @@
-use Rattle.std.proofs.Common.{◌∙◌, sym}
+use Rattle.std.proofs.Common.{◌∙◌}
 use Rattle.ixp_lang.specs.Views.{config_view}
 use Rattle.ixp_cli.proofs.Fating.{a_spelling, told_fate, never_fails, walked_by}
 use Rattle.ixp_cli.proofs.fate.fate_by.Goals as goal

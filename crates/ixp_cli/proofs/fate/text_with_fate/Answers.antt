@@ -1,4 +1,4 @@
-use Rattle.std.proofs.Common.{◌∙◌, sym, subst}
+use Rattle.std.proofs.Common.{◌∙◌, subst}
 use Rattle.std.specs.Option.{option_map}
 use Rattle.ixp_cli.specs.Generates.{IsTextOf}
 use Rattle.ixp_cli.proofs.Fating.{a_fate, text_is}

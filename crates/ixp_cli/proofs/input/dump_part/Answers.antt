@@ -1,4 +1,4 @@
-use Rattle.std.proofs.Common.{rules, ◌≡◌, ◌+◌, ◌∷◌, Bool, true, false, ◌&&◌, take, drop, codes, arith, add-one, sym, ◌∙◌}
+use Rattle.std.proofs.Common.{rules, ◌≡◌, ◌∷◌, true, false, ◌&&◌, take, codes, arith, add-one, sym, ◌∙◌}
 use Rattle.ixp_tables.specs.Tables.{same}
 use Rattle.ixp_valid.proofs.Lists.{drop_next}
 use Rattle.ixp_cli.proofs.Inputs.{dump_ends, dump_goes_on}
