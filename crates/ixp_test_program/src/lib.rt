@@ -7,4 +7,6 @@
 #[cfg(test)]
 mod cases;
 #[cfg(test)]
+mod restoring;
+#[cfg(test)]
 mod runs;

@@ -43,7 +43,7 @@ fn put_lines(out: &mut Vec<u8>, text: &str) -> Result<(), AllocError> {
 }
 
 /// So many lines of a text, with one of them, or the one behind the last, written otherwise.
-fn input_of(
+pub fn input_of(
     alloc: Global,
     base: &str,
     lines: usize,
@@ -90,7 +90,7 @@ fn told(alloc: Global, status: u8, output: &[u8], errors: &[u8]) -> Result<Vec<u
     Ok(text)
 }
 
-/// What a run of a command over an input tells.
+/// What a run of a command over an input tells, where no call of the keeper fails.
 fn outcome(
     alloc: Global,
     words: &[&str],
@@ -98,10 +98,22 @@ fn outcome(
     reads: Plan,
     writes: Plan,
 ) -> Result<Vec<u8>, AllocError> {
+    let mut keeper = MemKeeper::new(alloc, Plan::smooth(alloc));
+    outcome_with(alloc, words, input, reads, writes, &mut keeper)
+}
+
+/// What a run of a command over an input and a keeper tells.
+pub fn outcome_with(
+    alloc: Global,
+    words: &[&str],
+    input: Vec<u8>,
+    reads: Plan,
+    writes: Plan,
+    keeper: &mut MemKeeper,
+) -> Result<Vec<u8>, AllocError> {
     let mut input = MemSource::new(Items::from_vec(input), reads);
     let mut output = MemSink::new(alloc, writes);
     let mut errors = MemSink::new(alloc, Plan::smooth(alloc));
-    let mut keeper = MemKeeper::new(alloc, Plan::smooth(alloc));
     let mut clock = SetClock::new(0);
     let mut door = MemDoor::new(VecDeque::new(alloc), Plan::smooth(alloc));
     let status = run(
@@ -111,7 +123,7 @@ fn outcome(
         &mut input,
         &mut output,
         &mut errors,
-        &mut keeper,
+        keeper,
         &mut clock,
         &mut door,
         &FreeGate,
@@ -284,7 +296,13 @@ fn long_lists_are_told(rt: HostRuntime) -> Result<(), Fail> {
 #[test]
 fn ends_have_their_status(rt: HostRuntime) -> Result<(), Fail> {
     let alloc = rt.alloc();
-    let wrong: [&[&str]; 4] = [&[], &["fate", "x"], &["generate"], &["--help", "fate"]];
+    let wrong: [&[&str]; 5] = [
+        &[],
+        &["fate", "x"],
+        &["generate"],
+        &["restore", "x"],
+        &["--help", "fate"],
+    ];
     for words in wrong {
         let input = input_of(alloc, REGISTRY, 18, 0, "")?;
         let found = outcome(
