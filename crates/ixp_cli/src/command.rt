@@ -167,8 +167,8 @@ fn run_words<S: Source, K: Sink, P: Keeper>(
 
 /// Runs the command that the words are, and tells its exit status: 0 where the work is done, 1 where the words are no
 /// command, 2 where the input isn't of the command's form or is longer than 268,435,456 bytes, 3 and 4 where a read
-/// or a write failed, 5 where the keeper failed, 8 where memory ran out, 9 where no router has the handle, 11 where the store that is to be filled has
-/// a row. A status other than 0 has a line on `errors`, as far as that takes it.
+/// or a write failed, 5 where the keeper failed, 8 where memory ran out, 9 where no router has the handle, 11 where the
+/// store that is to be filled has a row. A status other than 0 has a line on `errors`, as far as that takes it.
 /// None is kept for commands that wait, of which there is none yet.
 pub fn run_plain<S: Source, K: Sink, E: Sink, P: Keeper, C: Clock>(
     alloc: Global,

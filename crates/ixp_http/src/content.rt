@@ -9,7 +9,7 @@ enum Bytes {
     Made(Items<u8>),
 }
 
-/// The content of a reply. A fixed text takes no memory.
+/// The content of a reply. A fixed text does not allocate.
 #[derive(Debug, Drop)]
 pub struct Content {
     bytes: Bytes,

@@ -3,6 +3,9 @@
 //! [`load`] reads all rows of a keeper. It answers the valid state whose rows they are (`specs/States.antt` of ixp_stored), or why
 //! there is none: the first row, in the keeper's order, that is no row of a state, or the lowest rule of a registry that the
 //! rows break and the row that breaks it.
+//!
+//! Proved are the state that is answered, and that a keeper's fault is told only where one came. Which row is told, and that the rows
+//! of every valid state are loaded, no clause says: a `load` that always told damage would keep its contract. That is tested alone.
 #![tactic(auto)]
 
 mod checking;
