@@ -1,1 +1,5 @@
+pub mod Apart
 pub mod Empty
+pub mod KeyTexts
+pub mod NamesOnce
+pub mod RowsHeld
