@@ -1,9 +1,13 @@
-//! What edits of route servers, lists, rules and public lists do.
-ghost use Rattle.std.specs.Prelude.{◌≡◌, ◌<◌, ◌^◌, ◌-◌, ◌++◌, length, IfOk, IsTrue, OnOk, OnErr};
+//! What edits of route servers, lists and rules change.
+ghost use Rattle.std.specs.Prelude.{◌≡◌, ◌<◌, ◌^◌, ◌-◌, ◌++◌, [], ◌∷◌, length, IfOk, IsTrue};
+ghost use Rattle.ixp_num.specs.AddressForms.{version_of};
 ghost use Rattle.ixp_num.specs.Names.{is_name};
 ghost use Rattle.ixp_edits.specs.Lists.{with_prefixes, with_origins, placed, with_rules, with_public};
-ghost use Rattle.ixp_edits.specs.Routers.{new_router, with_router, with_settings, set_routers, without_router};
+ghost use Rattle.ixp_edits.specs.Routers.{new_router, with_settings, set_routers};
+ghost use Rattle.ixp_effects.specs.Changes.{changed_rows};
+ghost use Rattle.ixp_registry.specs.Keys.{router_key, irr_key, origins_key, rules_key};
 
+use crate::change::TableChange;
 use ixp_edits::{NewRule, PublicList, RouterSettings};
 use ixp_num::{Addr, Asn, Family, Items, Name, Prefix};
 use ixp_registry::{IrrList, MemberRule, OriginList, PublicLists, Router, RuleList};
@@ -11,21 +15,19 @@ use ixp_sorted::Sorted;
 use ixp_tables::{Copied, Table};
 use std::alloc::{AllocError, Global};
 
-pub(crate) fn add_router(
+pub(crate) fn new_router(
     alloc: Global,
-    routers: &mut Table<Router>,
     handle: &[u8],
     vlan: u32,
     family: Family,
     address: Addr,
     settings: RouterSettings,
-) -> Result<(), AllocError>
+) -> Result<Router, AllocError>
     requires { IsTrue (is_name handle.now) }
-    ensures ok { OnOk result (routers.new ≡ with_router (new_router handle.now vlan family address settings) routers.old) }
-    ensures err { OnErr result (routers.new ≡ routers.old) }
+    ensures { IfOk result (λ q. q ≡ new_router handle.now vlan family address settings) }
 {
     let handle = Name::new(alloc, handle)?;
-    routers.put(Router {
+    Ok(Router {
         handle,
         vlan,
         family,
@@ -56,40 +58,31 @@ fn with_settings(router: Router, settings: RouterSettings) -> Router
 
 pub(crate) fn set_router(
     alloc: Global,
-    routers: &mut Table<Router>,
+    routers: &Table<Router>,
     handle: &Name,
     settings: RouterSettings,
-) -> Result<(), AllocError>
-    ensures ok { OnOk result (routers.new ≡ set_routers handle.now settings routers.old) }
-    ensures err { OnErr result (routers.new ≡ routers.old) }
+) -> Result<TableChange<Router, Name>, AllocError>
+    ensures { IfOk result (λ c. changed_rows router_key (λ k. k) c routers.now ≡ set_routers handle.now settings routers.now) }
 {
     let Some(found) = routers.find(handle) else {
-        return Ok(());
+        return Ok(TableChange::Keep);
     };
     let row = found.copied(alloc)?;
-    routers.put(with_settings(row, settings))
-}
-
-pub(crate) fn drop_router(routers: &mut Table<Router>, handle: &Name)
-    ensures { routers.new ≡ without_router handle.now routers.old }
-{
-    routers.take_out(handle);
+    Ok(TableChange::Put(with_settings(row, settings)))
 }
 
 pub(crate) fn put_irr(
-    lists: &mut Table<IrrList>,
+    lists: &Table<IrrList>,
     member: u32,
     family: Family,
     prefixes: Sorted<Prefix>,
-) -> Result<(), AllocError>
-    ensures ok { OnOk result (lists.new ≡ with_prefixes member family prefixes lists.old) }
-    ensures err { OnErr result (lists.new ≡ lists.old) }
+) -> TableChange<IrrList, (u32, Family)>
+    ensures { changed_rows irr_key (λ k. k.0 ∷ version_of k.1 ∷ []) result lists.now ≡ with_prefixes member family prefixes lists.now }
 {
     if prefixes.as_slice().first().is_none() {
-        lists.take_out(&(member, family));
-        return Ok(());
+        return TableChange::Take((member, family));
     }
-    lists.put(IrrList {
+    TableChange::Put(IrrList {
         member,
         family,
         prefixes: Items::from_vec(prefixes.into_items()),
@@ -97,19 +90,17 @@ pub(crate) fn put_irr(
 }
 
 pub(crate) fn put_origins(
-    lists: &mut Table<OriginList>,
+    lists: &Table<OriginList>,
     member: u32,
     family: Family,
     asns: Sorted<Asn>,
-) -> Result<(), AllocError>
-    ensures ok { OnOk result (lists.new ≡ with_origins member family asns lists.old) }
-    ensures err { OnErr result (lists.new ≡ lists.old) }
+) -> TableChange<OriginList, (u32, Family)>
+    ensures { changed_rows origins_key (λ k. k.0 ∷ version_of k.1 ∷ []) result lists.now ≡ with_origins member family asns lists.now }
 {
     if asns.as_slice().first().is_none() {
-        lists.take_out(&(member, family));
-        return Ok(());
+        return TableChange::Take((member, family));
     }
-    lists.put(OriginList {
+    TableChange::Put(OriginList {
         member,
         family,
         asns: Items::from_vec(asns.into_items()),
@@ -140,20 +131,18 @@ fn placed(alloc: Global, member: u32, rules: &[NewRule]) -> Result<Items<MemberR
 
 pub(crate) fn set_rules(
     alloc: Global,
-    lists: &mut Table<RuleList>,
+    lists: &Table<RuleList>,
     member: u32,
     rules: &[NewRule],
-) -> Result<(), AllocError>
+) -> Result<TableChange<RuleList, u32>, AllocError>
     requires { length rules.now < 2 ^ 32 - 1 }
-    ensures ok { OnOk result (lists.new ≡ with_rules member rules.now lists.old) }
-    ensures err { OnErr result (lists.new ≡ lists.old) }
+    ensures { IfOk result (λ c. changed_rows rules_key (λ k. k ∷ []) c lists.now ≡ with_rules member rules.now lists.now) }
 {
     if rules.first().is_none() {
-        lists.take_out(&member);
-        return Ok(());
+        return Ok(TableChange::Take(member));
     }
     let rules = placed(alloc, member, rules)?;
-    lists.put(RuleList { member, rules })
+    Ok(TableChange::Put(RuleList { member, rules }))
 }
 
 pub(crate) fn put_public(public: &mut PublicLists, list: PublicList)

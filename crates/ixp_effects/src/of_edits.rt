@@ -1,40 +1,44 @@
-//! What an edit of any kind does.
-ghost use Rattle.std.specs.Prelude.{◌≡◌, OnOk, OnErr, true};
+//! What an edit of any kind changes.
+ghost use Rattle.std.specs.Prelude.{◌≡◌, IfOk, true};
 ghost use Rattle.ixp_edits.specs.Edits.{next};
 ghost use Rattle.ixp_edits.specs.Lists.{has_few_rules};
+ghost use Rattle.ixp_effects.specs.Changes.{with_change};
 ghost use Rattle.ixp_effects.specs.Names.{has_name};
 
-use crate::lists::{
-    add_router, drop_router, put_irr, put_origins, put_public, set_router, set_rules,
-};
-use crate::members::{
-    add_key, add_member, drop_contact, drop_key, move_status, put_contact, rename_member, set_macro,
-};
-use crate::network::{
-    add_interface, add_port, add_switch, add_vlan, assign_port, drop_interface, drop_port,
-    drop_switch, drop_vlan, free_port, set_address,
-};
+use crate::change::{RegistryChange, TableChange};
+use crate::lists::{new_router, put_irr, put_origins, set_router, set_rules};
+use crate::members::{move_status, new_contact, new_member, rename_member, set_macro};
+use crate::network::{assign_port, free_port, new_interface, new_port, set_address};
 use ixp_edits::Edit;
-use ixp_registry::Registry;
+use ixp_registry::{ApiKey, Registry, Switch, Vlan};
 use std::alloc::{AllocError, Global};
 
-/// Makes the edit. Where memory runs out, the registry is as before.
-pub fn make(alloc: Global, registry: &mut Registry, edit: Edit) -> Result<(), AllocError>
+/// The change that makes the edit.
+pub fn change_of(
+    alloc: Global,
+    registry: &Registry,
+    edit: Edit,
+) -> Result<RegistryChange, AllocError>
     requires name { has_name edit ≡ true }
     requires rules { has_few_rules edit ≡ true }
-    ensures ok { OnOk result (registry.new ≡ next registry.old edit) }
-    ensures err { OnErr result (registry.new ≡ registry.old) }
+    ensures { IfOk result (λ c. with_change registry.now c ≡ next registry.now edit) }
 {
     match edit {
         Edit::AddMember { number, asn, name } => {
-            add_member(alloc, &mut registry.members, number, asn, name)
+            let row = new_member(alloc, number, asn, name);
+            Ok(RegistryChange::Members(TableChange::Put(row)))
         }
         Edit::RenameMember { member, name } => {
-            rename_member(alloc, &mut registry.members, member, name)
+            let change = rename_member(alloc, &registry.members, member, name)?;
+            Ok(RegistryChange::Members(change))
         }
-        Edit::MoveStatus { member, to } => move_status(alloc, &mut registry.members, member, to),
+        Edit::MoveStatus { member, to } => {
+            let change = move_status(alloc, &registry.members, member, to)?;
+            Ok(RegistryChange::Members(change))
+        }
         Edit::SetMacro { member, as_macro } => {
-            set_macro(alloc, &mut registry.members, member, as_macro)
+            let change = set_macro(alloc, &registry.members, member, as_macro)?;
+            Ok(RegistryChange::Members(change))
         }
         Edit::PutContact {
             member,
@@ -42,64 +46,78 @@ pub fn make(alloc: Global, registry: &mut Registry, edit: Edit) -> Result<(), Al
             name,
             mail,
             role,
-        } => put_contact(&mut registry.contacts, member, place, name, mail, role),
-        Edit::DropContact { member, place } => {
-            drop_contact(&mut registry.contacts, member, place);
-            Ok(())
+        } => {
+            let row = new_contact(member, place, name, mail, role);
+            Ok(RegistryChange::Contacts(TableChange::Put(row)))
         }
+        Edit::DropContact { member, place } => Ok(RegistryChange::Contacts(TableChange::Take((
+            member, place,
+        )))),
         Edit::AddKey {
             number,
             secret,
             owner,
-        } => add_key(&mut registry.keys, number, secret, owner),
-        Edit::DropKey { key } => {
-            drop_key(&mut registry.keys, key);
-            Ok(())
-        }
-        Edit::AddSwitch { number, name } => add_switch(&mut registry.switches, number, name),
-        Edit::DropSwitch { switch } => {
-            drop_switch(&mut registry.switches, switch);
-            Ok(())
-        }
+        } => Ok(RegistryChange::Keys(TableChange::Put(ApiKey {
+            number,
+            owner,
+            secret,
+        }))),
+        Edit::DropKey { key } => Ok(RegistryChange::Keys(TableChange::Take(key))),
+        Edit::AddSwitch { number, name } => Ok(RegistryChange::Switches(TableChange::Put(
+            Switch { number, name },
+        ))),
+        Edit::DropSwitch { switch } => Ok(RegistryChange::Switches(TableChange::Take(switch))),
         Edit::AddPort {
             number,
             switch,
             name,
             speed,
-        } => add_port(&mut registry.ports, number, switch, name, speed),
+        } => {
+            let row = new_port(number, switch, name, speed);
+            Ok(RegistryChange::Ports(TableChange::Put(row)))
+        }
         Edit::AssignPort { port, member } => {
-            assign_port(alloc, &mut registry.ports, port, member)
+            let change = assign_port(alloc, &registry.ports, port, member)?;
+            Ok(RegistryChange::Ports(change))
         }
-        Edit::FreePort { port } => free_port(alloc, &mut registry.ports, port),
-        Edit::DropPort { port } => {
-            drop_port(&mut registry.ports, port);
-            Ok(())
+        Edit::FreePort { port } => {
+            let change = free_port(alloc, &registry.ports, port)?;
+            Ok(RegistryChange::Ports(change))
         }
+        Edit::DropPort { port } => Ok(RegistryChange::Ports(TableChange::Take(port))),
         Edit::AddVlan {
             number,
             name,
             tag,
             v4,
             v6,
-        } => add_vlan(&mut registry.vlans, number, name, tag, v4, v6),
-        Edit::DropVlan { vlan } => {
-            drop_vlan(&mut registry.vlans, vlan);
-            Ok(())
-        }
+        } => Ok(RegistryChange::Vlans(TableChange::Put(Vlan {
+            number,
+            tag,
+            v4,
+            v6,
+            name,
+        }))),
+        Edit::DropVlan { vlan } => Ok(RegistryChange::Vlans(TableChange::Take(vlan))),
         Edit::AddInterface {
             number,
             member,
             port,
             vlan,
-        } => add_interface(&mut registry.interfaces, number, member, port, vlan),
+        } => {
+            let row = new_interface(number, member, port, vlan);
+            Ok(RegistryChange::Interfaces(TableChange::Put(row)))
+        }
         Edit::SetAddress {
             interface,
             family,
             address,
-        } => set_address(alloc, &mut registry.interfaces, interface, family, address),
+        } => {
+            let change = set_address(alloc, &registry.interfaces, interface, family, address)?;
+            Ok(RegistryChange::Interfaces(change))
+        }
         Edit::DropInterface { interface } => {
-            drop_interface(&mut registry.interfaces, interface);
-            Ok(())
+            Ok(RegistryChange::Interfaces(TableChange::Take(interface)))
         }
         Edit::AddRouter {
             handle,
@@ -107,38 +125,39 @@ pub fn make(alloc: Global, registry: &mut Registry, edit: Edit) -> Result<(), Al
             family,
             address,
             settings,
-        } => add_router(
-            alloc,
-            &mut registry.routers,
-            handle.as_slice(),
-            vlan,
-            family,
-            address,
-            settings,
-        ),
+        } => {
+            let row = new_router(alloc, handle.as_slice(), vlan, family, address, settings)?;
+            Ok(RegistryChange::Routers(TableChange::Put(row)))
+        }
         Edit::SetRouter { handle, settings } => {
-            set_router(alloc, &mut registry.routers, &handle, settings)
+            let change = set_router(alloc, &registry.routers, &handle, settings)?;
+            Ok(RegistryChange::Routers(change))
         }
-        Edit::DropRouter { handle } => {
-            drop_router(&mut registry.routers, &handle);
-            Ok(())
-        }
+        Edit::DropRouter { handle } => Ok(RegistryChange::Routers(TableChange::Take(handle))),
         Edit::PutIrr {
             member,
             family,
             prefixes,
-        } => put_irr(&mut registry.irr, member, family, prefixes),
+        } => Ok(RegistryChange::Irr(put_irr(
+            &registry.irr,
+            member,
+            family,
+            prefixes,
+        ))),
         Edit::PutOrigins {
             member,
             family,
             asns,
-        } => put_origins(&mut registry.origins, member, family, asns),
+        } => Ok(RegistryChange::Origins(put_origins(
+            &registry.origins,
+            member,
+            family,
+            asns,
+        ))),
         Edit::SetRules { member, rules } => {
-            set_rules(alloc, &mut registry.rules, member, rules.as_slice())
+            let change = set_rules(alloc, &registry.rules, member, rules.as_slice())?;
+            Ok(RegistryChange::Rules(change))
         }
-        Edit::PutPublic { list } => {
-            put_public(&mut registry.public, list);
-            Ok(())
-        }
+        Edit::PutPublic { list } => Ok(RegistryChange::Public(list)),
     }
 }

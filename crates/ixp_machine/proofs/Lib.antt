@@ -1,2 +1,3 @@
 pub mod OwnQuestions
 pub mod Making
+pub mod InPlace

@@ -1,6 +1,6 @@
 -- An accepted request is made.
-use Rattle.std.proofs.Common.{◌≡◌, true, Some, None, refl, sym, ap, ◌∙◌}
-use Rattle.ixp_tables.specs.Tables.{if_there}
+use Rattle.std.proofs.Common.{◌≡◌, true, [], ◌∷◌, Some, None, refl, sym, ap, ◌∙◌}
+use Rattle.ixp_tables.specs.Tables.{find, if_there}
 use Rattle.ixp_registry.specs.Alphabets.{is_handle}
 use Rattle.ixp_registry.specs.declared.members.Owner.{Owner}
 use Rattle.ixp_registry.specs.declared.refusal.Refusal.TheVariants.{NoKey, BadText}
@@ -16,7 +16,7 @@ use Rattle.ixp_edits.proofs.Passing.{no_refusal, holds}
 use Rattle.ixp_effects.specs.Names.{has_name}
 use Rattle.ixp_steps.specs.declared.state.Entry.{Entry}
 use Rattle.ixp_steps.specs.declared.state.State.{State}
-use Rattle.ixp_steps.specs.Kept.{kept_of}
+use Rattle.ixp_steps.specs.Kept.{kept_key, kept_of}
 use Rattle.ixp_steps.specs.Steps.{Accepted, Refused, verdict, verdict_of}
 use Rattle.ixp_steps.proofs.Accepting.{accepted_parts}
 
@@ -37,3 +37,7 @@ owners s e owner found h = sym (ap (λ o. if_there o (Refused NoKey) (λ owner. 
 
 pub unrefused : (s : State) (e : Entry) (owner : Owner) → owner_of s.registry e.secret ≡ Some owner → verdict s e ≡ Accepted → refusal s.registry e.edit ≡ None
 unrefused s e owner found h = (accepted_parts s.registry (kept_of s.kept owner) owner e.number e.edit (owners s e owner found h)).lawful
+
+-- its number isn't kept
+pub fresh : (s : State) (e : Entry) (owner : Owner) → owner_of s.registry e.secret ≡ Some owner → verdict s e ≡ Accepted → find kept_key (e.number ∷ []) (kept_of s.kept owner).numbers ≡ None
+fresh s e owner found h = (accepted_parts s.registry (kept_of s.kept owner) owner e.number e.edit (owners s e owner found h)).new

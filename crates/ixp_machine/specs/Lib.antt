@@ -1,2 +1,4 @@
 pub mod Decisions
+pub mod Keeping
+pub mod Prepared
 pub mod Questions

@@ -1,28 +1,40 @@
 //! Accepted requests are made.
-ghost use Rattle.std.specs.Prelude.{◌≡◌, ◌<◌, ◌-◌, ◌^◌, IfOk, OnOk, OnErr, true};
+ghost use Rattle.std.specs.Prelude.{◌≡◌, ◌<◌, ◌-◌, ◌^◌, IfOk, OnOk, OnErr};
 ghost use Rattle.ixp_steps.specs.States.{ValidState};
-ghost use Rattle.ixp_steps.specs.Steps.{Accepted, verdict, kept_entry, step};
-ghost use Rattle.ixp_effects.specs.Names.{has_name};
+ghost use Rattle.ixp_steps.specs.Steps.{Accepted, verdict, step};
 
 use crate::decision::Reply;
-use crate::keeping::{commit, noted};
-use crate::kinds::kind_of;
-use crate::subjects::subject_of;
-use ixp_counts::{prefixes_after, weight_after};
-use ixp_members::rights;
-use ixp_steps::{Entry, KeptNumber, State};
+use crate::preparing::{carry_out, prepare};
+use ixp_io::{Change, KeepFault, Keeper, Row, RowName};
+use ixp_steps::{Entry, State};
 use std::alloc::{AllocError, Global};
 
-fn kept_entry(alloc: Global, entry: &Entry, place: u64) -> Result<KeptNumber, AllocError>
-    requires { has_name entry.now.edit ≡ true }
-    ensures { IfOk result (λ k. k ≡ kept_entry entry.now place) }
-{
-    Ok(KeptNumber {
-        number: entry.number,
-        kind: kind_of(&entry.edit),
-        subject: subject_of(alloc, &entry.edit)?,
-        place,
-    })
+/// Stores nothing, and never fails.
+#[derive(Drop)]
+struct NoStore;
+
+impl Keeper for NoStore {
+    ghost use Rattle.std.specs.Prelude.{None};
+
+    ghost table = { λ _. None };
+
+    ghost faults = { λ _. 0 };
+
+    fn commit(&mut self, _alloc: Global, _batch: &[Change]) -> Result<(), KeepFault> {
+        Ok(())
+    }
+
+    fn next_row(
+        &mut self,
+        _alloc: Global,
+        _after: Option<&RowName>,
+    ) -> Result<Option<Row>, KeepFault> {
+        Ok(None)
+    }
+
+    fn faults(&self) -> u64 {
+        0
+    }
 }
 
 /// Makes the edit of a request that is accepted, and keeps its number. Where memory runs out, the state is as before.
@@ -34,18 +46,9 @@ pub fn apply(alloc: Global, state: &mut State, entry: Entry) -> Result<Reply, Al
     ensures reply { IfOk result (λ r. r.number ≡ entry.number) }
     ensures err { OnErr result (state.new ≡ state.old) }
 {
-    let Some(owner) = rights(&state.registry, entry.secret.as_slice()) else {
-        unreachable!();
-    };
-    let weight = weight_after(alloc, &state.registry, state.weight, &entry.edit)?;
-    let prefixes = prefixes_after(&state.registry, state.prefixes, &entry.edit);
-    let place = state.accepted + 1;
-    let kept = kept_entry(alloc, &entry, place)?;
-    let row = noted(alloc, &state.kept, owner, kept)?;
-    let number = entry.number;
-    commit(alloc, &mut state.registry, &mut state.kept, row, entry.edit)?;
-    state.accepted = place;
-    state.weight = weight;
-    state.prefixes = prefixes;
-    Ok(Reply { number })
+    let prepared = prepare(alloc, state, entry)?;
+    match carry_out(alloc, state, prepared, &mut NoStore, &[]) {
+        Ok(reply) => Ok(reply),
+        Err(_) => Err(AllocError),
+    }
 }

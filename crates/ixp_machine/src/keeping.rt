@@ -1,103 +1,156 @@
-//! Numbers of requests are kept.
-ghost use Rattle.std.specs.Prelude.{◌≡◌, ◌<◌, ◌^◌, IfOk, OnOk, OnErr, true};
-ghost use Rattle.ixp_edits.specs.Edits.{next};
-ghost use Rattle.ixp_edits.specs.Lists.{has_few_rules};
+//! Numbers of requests are kept, and their edits made.
+ghost use Rattle.std.specs.Prelude.{◌≡◌, ◌≤◌, ◌<◌, ◌^◌, [], ◌∷◌, length, None, Ok, OnOk, OnErr, IfSome, IfNone};
+ghost use Rattle.ixp_effects.specs.Changes.{with_change};
+ghost use Rattle.ixp_effects.specs.Saving.{Saves};
+ghost use Rattle.ixp_machine.specs.Keeping.{trimmed};
 ghost use Rattle.ixp_registry.specs.Words.{owner_numbers};
-ghost use Rattle.ixp_tables.specs.Tables.{Ascends, find, put};
-ghost use Rattle.ixp_effects.specs.Names.{has_name};
-ghost use Rattle.ixp_steps.specs.Kept.{kept_of, kept_owner_key, noted};
+ghost use Rattle.ixp_steps.specs.Kept.{kept_key, kept_of, kept_owner_key, noted, noted_for};
+ghost use Rattle.ixp_tables.specs.Tables.{Ascends, find, place};
 
-use ixp_edits::Edit;
-use ixp_effects::make;
+use ixp_effects::{RegistryChange, make};
+use ixp_io::{Change, KeepFault, Keeper};
 use ixp_registry::{Owner, Registry};
 use ixp_steps::{KeptNumber, KeptOwner};
-use ixp_tables::{Copied, Table};
-use std::alloc::{AllocError, Global};
+use ixp_tables::{Row, Table};
+use std::alloc::Global;
+use std::cmp::Ordering;
+use std::mem;
 
-fn row_of(alloc: Global, kept: &Table<KeptOwner>, owner: Owner) -> Result<KeptOwner, AllocError>
-    ensures { IfOk result (λ row. row ≡ kept_of kept.now owner) }
+/// Where the owner's row stands.
+fn place_of(rows: &[KeptOwner], owner: Owner) -> Option<usize>
+    requires { Ascends kept_owner_key rows.now }
+    ensures place { IfSome result (λ i. place kept_owner_key (owner_numbers owner) rows.now ≡ Ok i) }
+    ensures within { IfSome result (λ i. i < length rows.now) }
+    ensures none { IfNone result (find kept_owner_key (owner_numbers owner) rows.now ≡ None) }
 {
-    match kept.find(&owner) {
-        Some(row) => row.copied(alloc),
-        None => Ok(KeptOwner {
-            owner,
-            floor: 0,
-            numbers: Table::new(alloc),
-        }),
-    }
-}
-
-fn note(kept: &mut KeptOwner, number: KeptNumber) -> Result<(), AllocError>
-    ensures { OnOk result (kept.new ≡ noted number kept.old) }
-{
-    kept.numbers.put(number)?;
-    if kept.numbers.len() > 1024 {
-        if let Some(least) = kept.numbers.as_slice().first() {
-            let number = least.number;
-            kept.numbers.take_out(&number);
-            kept.floor = number + 1;
+    let mut left = rows;
+    let mut before = 0;
+    'each: while let Some((row, others)) = left.split_first() {
+        match row.compare(&owner) {
+            Ordering::Less => {
+                before += 1;
+                left = others;
+            }
+            Ordering::Equal => return Some(before),
+            Ordering::Greater => return None,
         }
     }
-    Ok(())
+    None
 }
 
-/// What is kept for the owner, with one number more.
-pub(crate) fn noted(
-    alloc: Global,
-    kept: &Table<KeptOwner>,
-    owner: Owner,
-    number: KeptNumber,
-) -> Result<KeptOwner, AllocError>
-    ensures { IfOk result (λ row. row ≡ noted number (kept_of kept.now owner)) }
+/// Takes the least number out where there are more than 1,024.
+fn trim(row: &mut KeptOwner)
+    ensures { row.new ≡ trimmed row.old }
 {
-    let mut row = row_of(alloc, kept, owner)?;
-    note(&mut row, number)?;
-    Ok(row)
-}
-
-fn row_before(
-    alloc: Global,
-    kept: &Table<KeptOwner>,
-    owner: &Owner,
-) -> Result<Option<KeptOwner>, AllocError>
-    ensures { IfOk result (λ o. o ≡ find kept_owner_key (owner_numbers owner.now) kept.now) }
-{
-    match kept.find(owner) {
-        Some(row) => Ok(Some(row.copied(alloc)?)),
-        None => Ok(None),
+    if row.numbers.len() <= 1024 {
+        return;
+    }
+    if let Some(least) = row.numbers.as_slice().first() {
+        let number = least.number;
+        row.numbers.take_out(&number);
+        row.floor = number + 1;
     }
 }
 
-/// Puts the row in and makes the edit, or does neither.
-pub(crate) fn commit(
+/// Makes a change and keeps the number for an owner of whom something is kept, or does neither.
+fn carry_known<P: Keeper>(
+    alloc: Global,
+    registry: &mut Registry,
+    row: &mut KeptOwner,
+    number: KeptNumber,
+    change: RegistryChange,
+    keeper: &mut P,
+    batch: &[Change],
+) -> Result<(), KeepFault>
+    requires { find kept_key (kept_key number) row.old.numbers ≡ None }
+    ensures registry { OnOk result (registry.new ≡ with_change registry.old change) }
+    ensures row { OnOk result (row.new ≡ noted number row.old) }
+    ensures no_change { OnErr result (registry.new ≡ registry.old) }
+    ensures no_row { OnErr result (row.new ≡ row.old) }
+    ensures saved { Saves batch.now (P.table keeper.old) (P.table keeper.new) (P.faults keeper.old) (P.faults keeper.new) result }
+    ensures counts { P.faults keeper.old ≤ P.faults keeper.new }
+{
+    let key = number.number;
+    row.numbers.put(number)?;
+    match make(alloc, registry, change, keeper, batch) {
+        Ok(()) => {
+            trim(row);
+            Ok(())
+        }
+        Err(fault) => {
+            row.numbers.take_out(&key);
+            Err(fault)
+        }
+    }
+}
+
+/// Makes a change and keeps the number for an owner of whom nothing is kept yet, or does neither.
+fn carry_new<P: Keeper>(
     alloc: Global,
     registry: &mut Registry,
     kept: &mut Table<KeptOwner>,
-    row: KeptOwner,
-    edit: Edit,
-) -> Result<(), AllocError>
-    requires order { Ascends kept_owner_key kept.old }
-    requires name { has_name edit ≡ true }
-    requires rules { has_few_rules edit ≡ true }
-    ensures registry { OnOk result (registry.new ≡ next registry.old edit) }
-    ensures kept { OnOk result (kept.new ≡ put kept_owner_key row kept.old) }
-    ensures no_edit { OnErr result (registry.new ≡ registry.old) }
+    owner: Owner,
+    number: KeptNumber,
+    change: RegistryChange,
+    keeper: &mut P,
+    batch: &[Change],
+) -> Result<(), KeepFault>
+    requires { find kept_owner_key (owner_numbers owner) kept.old ≡ None }
+    ensures registry { OnOk result (registry.new ≡ with_change registry.old change) }
+    ensures kept { OnOk result (kept.new ≡ noted_for owner number kept.old) }
+    ensures no_change { OnErr result (registry.new ≡ registry.old) }
     ensures no_row { OnErr result (kept.new ≡ kept.old) }
+    ensures saved { Saves batch.now (P.table keeper.old) (P.table keeper.new) (P.faults keeper.old) (P.faults keeper.new) result }
+    ensures counts { P.faults keeper.old ≤ P.faults keeper.new }
 {
-    let owner = row.owner;
-    let before = row_before(alloc, kept, &owner)?;
-    kept.put(row)?;
-    match make(alloc, registry, edit) {
+    let mut numbers = Table::new(alloc);
+    numbers.put(number)?;
+    kept.put(KeptOwner {
+        owner,
+        floor: 0,
+        numbers,
+    })?;
+    match make(alloc, registry, change, keeper, batch) {
         Ok(()) => Ok(()),
-        Err(error) => match before {
-            Some(old) => {
-                kept.replace(old);
-                Err(error)
-            }
-            None => {
-                kept.take_out(&owner);
-                Err(error)
-            }
-        },
+        Err(fault) => {
+            kept.take_out(&owner);
+            Err(fault)
+        }
     }
+}
+
+/// Makes a change and keeps the number of its request, or does neither.
+pub(crate) fn carry<P: Keeper>(
+    alloc: Global,
+    registry: &mut Registry,
+    kept: &mut Table<KeptOwner>,
+    owner: Owner,
+    number: KeptNumber,
+    change: RegistryChange,
+    keeper: &mut P,
+    batch: &[Change],
+) -> Result<(), KeepFault>
+    requires { find kept_key (kept_key number) (kept_of kept.old owner).numbers ≡ None }
+    ensures registry { OnOk result (registry.new ≡ with_change registry.old change) }
+    ensures kept { OnOk result (kept.new ≡ noted_for owner number kept.old) }
+    ensures no_change { OnErr result (registry.new ≡ registry.old) }
+    ensures no_row { OnErr result (kept.new ≡ kept.old) }
+    ensures saved { Saves batch.now (P.table keeper.old) (P.table keeper.new) (P.faults keeper.old) (P.faults keeper.new) result }
+    ensures counts { P.faults keeper.old ≤ P.faults keeper.new }
+{
+    let Some(at) = place_of(kept.as_slice(), owner) else {
+        return carry_new(alloc, registry, kept, owner, number, change, keeper, batch);
+    };
+    let mut rows = mem::replace(kept, Table::new(alloc)).into_rows();
+    let outcome = carry_known(
+        alloc,
+        registry,
+        &mut rows[at],
+        number,
+        change,
+        keeper,
+        batch,
+    );
+    *kept = Table::from_ascending(rows);
+    outcome
 }

@@ -2,7 +2,8 @@
 //! one stands, and what questions are answered.
 //!
 //! `specs/Steps.antt` of ixp_steps says what is decided of a request and which state comes after it, `specs/Questions.antt` here
-//! what a question is answered. [`apply`] alone changes a state, in place.
+//! what a question is answered. [`apply`] changes a state in place. Where requests are stored, [`prepare`] and [`carry_out`] do so, with
+//! the store's batch between them: it is stored and the state changed, or neither.
 #![tactic(auto)]
 
 mod applying;
@@ -13,6 +14,7 @@ mod keeping;
 mod kept;
 mod kinds;
 mod laws;
+mod preparing;
 mod question;
 mod rights;
 mod subjects;
@@ -23,4 +25,5 @@ pub use deciding::decide;
 pub use decision::{Decision, Reply};
 pub use kept::place_of;
 pub use laws::members_ask_of_their_own;
+pub use preparing::{Prepared, carry_out, prepare};
 pub use question::{Answer, AskFault, Query};

@@ -1,7 +1,9 @@
-use Rattle.std.proofs.Common.{rules, ◌≡◌, Some}
+use Rattle.std.proofs.Common.{rules, ◌≡◌, ℕ, [], ◌∷◌, Some, None, sym, subst}
 use Rattle.ixp_members.specs.Owners.{owner_of}
-use Rattle.ixp_machine.proofs.Making.{named, unrefused}
-use Rattle.ixp_machine.proofs.applying.apply.Goals as goal
+use Rattle.ixp_tables.specs.Tables.{find}
+use Rattle.ixp_steps.specs.Kept.{kept_key, kept_of}
+use Rattle.ixp_machine.proofs.Making.{fresh, named, unrefused}
+use Rattle.ixp_machine.proofs.preparing.prepare.Goals as goal
 
 pub weight_after-requires-clause-unrefused : goal.weight_after-requires-clause-unrefused
 weight_after-requires-clause-unrefused c =
@@ -17,9 +19,17 @@ kept_entry-requires c =
     let found : owner_of s.registry e.secret ≡ Some c.in-Some.owner = search rules in
     named s.registry e.edit (unrefused s e c.in-Some.owner found c.requires.accepted)
 
-pub commit-requires-clause-name : goal.commit-requires-clause-name
-commit-requires-clause-name c =
+pub change_of-requires-clause-name : goal.change_of-requires-clause-name
+change_of-requires-clause-name c =
     let s = c.args.state.now in
     let e = c.args.entry in
     let found : owner_of s.registry e.secret ≡ Some c.in-Some.owner = search rules in
     named s.registry e.edit (unrefused s e c.in-Some.owner found c.requires.accepted)
+
+pub returns-clause-fresh : goal.returns-clause-fresh
+returns-clause-fresh c =
+    let s = c.args.state.now in
+    let e = c.args.entry in
+    let found : owner_of s.registry e.secret ≡ Some c.in-Some.owner = search rules in
+    let number : c.in_ok-kept.kept.number ≡ e.number = search rules in
+    subst (λ (n : ℕ). find kept_key (n ∷ []) (kept_of s.kept c.in-Some.owner).numbers ≡ None) (sym number) (fresh s e c.in-Some.owner found c.requires.accepted)
