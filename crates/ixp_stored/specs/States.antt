@@ -1,5 +1,5 @@
 -- The rows that a store holds of a state.
-use Rattle.std.specs.Prelude.{List, [], ◌∷◌, ◌++◌, Some, map, flat_map}
+use Rattle.std.specs.Prelude.{List, [], ◌∷◌, ◌++◌, None, Some, map, flat_map}
 use Rattle.std.specs.FinMap.{empty}
 use Rattle.ixp_io.specs.declared.keeper.Change.{Change}
 use Rattle.ixp_io.specs.Tables.{Table, changed}
@@ -53,6 +53,10 @@ stored_rows s = version_row ∷ (registry_rows s.registry ++ (flat_map floor_row
 -- a row is put in
 abbrev pub set_row : Entry → Change
 set_row e = record { name = e.0; body = Some e.1 }
+
+-- a row goes
+abbrev pub drop_row : Entry → Change
+drop_row e = record { name = e.0; body = None }
 
 -- what a store holds of a state: the finite map of its rows
 abbrev pub tables : State → Table

@@ -1,7 +1,7 @@
 //! Rows of what is kept of requests, and of the counts.
-ghost use Rattle.std.specs.Prelude.{◌≡◌, ◌++◌, OnOk, IfOk, map, flat_map, decimal};
+ghost use Rattle.std.specs.Prelude.{◌≡◌, ◌++◌, OnOk, IfOk, None, map, flat_map, decimal};
 ghost use Rattle.ixp_stored.specs.Names.{subject_text, kept_name, kept_body, kept_row, kept_rows, floor_name, floor_row, floor_rows, version_row, count_row};
-ghost use Rattle.ixp_stored.specs.States.{set_row};
+ghost use Rattle.ixp_stored.specs.States.{drop_row, set_row};
 
 use crate::keys::put_owner;
 use ixp_io::{Change, RowName};
@@ -115,10 +115,51 @@ fn decimal_of(alloc: Global, number: u64) -> Result<Items<u8>, AllocError>
 pub fn set_floor(alloc: Global, kept: &KeptOwner) -> Result<Change, AllocError>
     ensures { IfOk result (λ change. change ≡ set_row (floor_row kept.now)) }
 {
+    set_floor_at(alloc, &kept.owner, kept.floor)
+}
+
+/// Puts this floor of an owner into the store.
+pub fn set_floor_at(alloc: Global, owner: &Owner, floor: u64) -> Result<Change, AllocError>
+    ensures { IfOk result (λ change. change ≡ set_row (floor_name owner.now, decimal floor)) }
+{
     Ok(Change {
-        name: floor_name(alloc, &kept.owner)?,
-        body: Some(decimal_of(alloc, kept.floor)?),
+        name: floor_name(alloc, owner)?,
+        body: Some(decimal_of(alloc, floor)?),
     })
+}
+
+/// Takes an owner's floor out of the store.
+pub fn drop_floor(alloc: Global, owner: &Owner) -> Result<Change, AllocError>
+    ensures { IfOk result (λ change. change ≡ record { name = floor_name owner.now; body = None }) }
+{
+    Ok(Change {
+        name: floor_name(alloc, owner)?,
+        body: None,
+    })
+}
+
+/// Takes a kept number out of the store.
+pub fn drop_kept(alloc: Global, owner: &Owner, kept: &KeptNumber) -> Result<Change, AllocError>
+    ensures { IfOk result (λ change. change ≡ drop_row (kept_row owner.now kept.now)) }
+{
+    Ok(Change {
+        name: kept_name(alloc, owner, kept.number)?,
+        body: None,
+    })
+}
+
+/// Takes the count of accepted requests out of the store. It takes no memory.
+pub fn drop_count(alloc: Global, accepted: u64) -> Change
+    ensures { result ≡ drop_row (count_row accepted) }
+{
+    let _accepted = accepted;
+    Change {
+        name: RowName {
+            kind: COUNT,
+            key: Items::new(alloc),
+        },
+        body: None,
+    }
 }
 
 fn set_floor_of(alloc: Global, kept: &KeptOwner, batch: &mut Vec<Change>) -> Result<(), AllocError>

@@ -10,11 +10,16 @@ mod kept;
 mod keys;
 mod lists;
 mod rows;
+mod tables;
 mod whole;
 
 pub use filling::{FillFault, fill};
-pub use kept::{COUNT, FLOORS, KEPT, VERSION, set_count, set_floor, set_kept};
+pub use kept::{
+    COUNT, FLOORS, KEPT, VERSION, drop_count, drop_floor, drop_kept, set_count, set_floor,
+    set_floor_at, set_kept,
+};
 pub use keys::{Stored, place_of};
 pub use lists::list_name;
-pub use rows::set_row;
+pub use rows::{drop_row, drop_rows, set_row, set_rows};
+pub use tables::Rows;
 pub use whole::whole_batch;

@@ -21,7 +21,7 @@ use ixp_tables::Copied;
 use std::alloc::{AllocError, Global};
 
 /// An interface without its addresses.
-fn bare(interface: &Interface) -> InterfaceRow
+pub(crate) fn bare(interface: &Interface) -> InterfaceRow
     ensures { result ≡ bare interface.now }
 {
     InterfaceRow {
@@ -32,7 +32,7 @@ fn bare(interface: &Interface) -> InterfaceRow
     }
 }
 
-fn set_interface(alloc: Global, interface: &Interface) -> Result<Change, AllocError>
+pub(crate) fn set_interface(alloc: Global, interface: &Interface) -> Result<Change, AllocError>
     ensures { IfOk result (λ change. change ≡ set_row (line_row (interface_line (bare interface.now)))) }
 {
     set_row(alloc, &bare(interface))
@@ -96,7 +96,7 @@ fn set_column(
     Ok(())
 }
 
-fn set_addresses_of(
+pub(crate) fn set_addresses_of(
     alloc: Global,
     interface: &Interface,
     batch: &mut Vec<Change>,
@@ -193,7 +193,11 @@ pub(crate) fn set_all_origins(
     Ok(())
 }
 
-fn set_rules(alloc: Global, list: &RuleList, batch: &mut Vec<Change>) -> Result<(), AllocError>
+pub(crate) fn set_rules(
+    alloc: Global,
+    list: &RuleList,
+    batch: &mut Vec<Change>,
+) -> Result<(), AllocError>
     ensures { OnOk result (batch.new.items ≡ batch.old.items ++ map set_row (rule_rows list.now)) }
 {
     set_rows(alloc, list.rules.as_slice(), batch)

@@ -2,7 +2,7 @@
 ghost use Rattle.std.specs.Prelude.{◌≡◌, ◌++◌, OnOk, IfOk, map};
 ghost use Rattle.ixp_lines.specs.declared.version.Version.TheVariants.{Two};
 ghost use Rattle.ixp_stored.specs.Names.{fields_row, line_body, name_fields, name_of};
-ghost use Rattle.ixp_stored.specs.States.{set_row};
+ghost use Rattle.ixp_stored.specs.States.{drop_row, set_row};
 
 use crate::keys::{Stored, place_of};
 use ixp_io::{Change, RowName};
@@ -43,8 +43,33 @@ pub fn set_row<R: Stored>(alloc: Global, row: &R) -> Result<Change, AllocError>
     })
 }
 
+/// Takes a row out of the store.
+#[tactic(auto, unfolding(crate::specs::Names::fields_row))]
+pub fn drop_row<R: Stored>(alloc: Global, row: &R) -> Result<Change, AllocError>
+    ensures { IfOk result (λ change. change ≡ drop_row (fields_row R.Lined.row_kind (R.Lined.fields Two row.now))) }
+{
+    Ok(Change {
+        name: name_of(alloc, row)?,
+        body: None,
+    })
+}
+
+/// Adds that the rows are taken out of the store.
+pub fn drop_rows<R: Stored>(
+    alloc: Global,
+    rows: &[R],
+    batch: &mut Vec<Change>,
+) -> Result<(), AllocError>
+    ensures { OnOk result (batch.new.items ≡ batch.old.items ++ map drop_row (map (λ row. fields_row R.Lined.row_kind (R.Lined.fields Two row)) rows.now)) }
+{
+    for row in rows {
+        batch.push(drop_row(alloc, row)?)?;
+    }
+    Ok(())
+}
+
 /// Adds that the rows are put into the store.
-pub(crate) fn set_rows<R: Stored>(
+pub fn set_rows<R: Stored>(
     alloc: Global,
     rows: &[R],
     batch: &mut Vec<Change>,

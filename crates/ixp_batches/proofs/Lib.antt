@@ -1,0 +1,4 @@
+pub mod Registries
+pub mod Scripts
+pub mod States
+pub mod Tables

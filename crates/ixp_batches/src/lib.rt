@@ -1,0 +1,12 @@
+//! What a store has to change when a request is accepted.
+//!
+//! [`batch_of`] makes the batch that turns the rows of a state into those of the next one. Rows of what the request replaces or takes out
+//! are dropped, and rows of what it puts in are set (`specs/Batches.antt`): a batch has as many changes as the request touches rows,
+//! however many rows the store has.
+#![tactic(auto)]
+
+mod batch;
+mod kept;
+mod registry;
+
+pub use batch::batch_of;
