@@ -1,0 +1,4 @@
+pub mod Runs
+pub mod Endings
+pub mod Settled
+pub mod Keeps

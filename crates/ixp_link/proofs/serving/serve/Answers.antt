@@ -1,0 +1,11 @@
+use Rattle.ixp_io.specs.Faults.{Rose}
+use Rattle.ixp_link.proofs.Endings.{nothing_served}
+use Rattle.ixp_link.proofs.serving.serve.Goals as goal
+
+pub returns-clause-serves : goal.returns-clause-serves
+returns-clause-serves g c =
+    let told = g.L.Stream in
+    nothing_served g.D.Desk.turn c.args.desk.now (told.left c.args.link.now) (told.written c.args.link.now) (told.written c.tell_memory.new.link)
+    (Rose (told.read_faults c.args.link.now) (told.read_faults c.tell_memory.new.link))
+    (Rose (told.write_faults c.args.link.now) (told.write_faults c.tell_memory.new.link))
+    c.tell_memory.ensures.tried

@@ -1,0 +1,100 @@
+//! The loop of a link.
+ghost use Rattle.std.specs.Prelude.{◌≡◌, ◌≤◌, ◌<◌};
+ghost use Rattle.ixp_io.specs.Faults.{Rose};
+ghost use Rattle.ixp_io.specs.Told.{Takes};
+ghost use Rattle.ixp_link.specs.Links as links;
+ghost use Rattle.ixp_link.specs.Steps as spec;
+
+use crate::answering::settle;
+use crate::desk::Desk;
+use crate::ends::{LinkEnd, Served};
+use crate::telling::{refuse, tell_memory};
+use ixp_api::Paths;
+use ixp_http::{Buf, HttpFault, Next, next_request};
+use ixp_io::{Sink, Source};
+use std::alloc::Global;
+
+// Reads the next request of a link, before which so many were answered, and answers it. Where the link ends, says how.
+fn exchange<D: Desk, L: Source + Sink>(
+    alloc: Global,
+    paths: &Paths,
+    desk: &mut D,
+    link: &mut L,
+    buf: &mut Buf,
+    answered: u32,
+) -> Option<Served>
+    requires { answered < links.request_limit }
+    ensures steps { spec.Steps D.turn answered desk.old desk.new (L.left link.old) (L.left link.new) buf.old buf.new
+        (Takes (L.written link.old) (L.written link.new))
+        (Rose (L.read_faults link.old) (L.read_faults link.new)) (Rose (L.write_faults link.old) (L.write_faults link.new)) result }
+    ensures reads { L.read_faults link.old ≤ L.read_faults link.new }
+    ensures writes { L.write_faults link.old ≤ L.write_faults link.new }
+{
+    match next_request(alloc, link, buf) {
+        Ok(Next::Request(request)) => settle(alloc, paths, desk, link, &request, answered),
+        Ok(Next::End) => Some(Served {
+            end: LinkEnd::Closed,
+            requests: answered,
+        }),
+        Err(HttpFault::Bad(status)) => Some(Served {
+            end: refuse(alloc, link, status),
+            requests: answered,
+        }),
+        Err(HttpFault::Cut) => Some(Served {
+            end: LinkEnd::Cut,
+            requests: answered,
+        }),
+        Err(HttpFault::ReadFault) => Some(Served {
+            end: LinkEnd::ReadFault,
+            requests: answered,
+        }),
+        Err(_) => {
+            tell_memory(alloc, link);
+            Some(Served {
+                end: LinkEnd::NoMemory,
+                requests: answered,
+            })
+        }
+    }
+}
+
+fn serve_with<D: Desk, L: Source + Sink>(
+    alloc: Global,
+    paths: &Paths,
+    desk: &mut D,
+    link: &mut L,
+) -> Served
+    ensures serves { links.Serves D.turn desk.old desk.new (L.left link.old) (L.written link.old) (L.written link.new)
+        (Rose (L.read_faults link.old) (L.read_faults link.new)) (Rose (L.write_faults link.old) (L.write_faults link.new)) result }
+    ensures reads { L.read_faults link.old ≤ L.read_faults link.new }
+    ensures writes { L.write_faults link.old ≤ L.write_faults link.new }
+{
+    let mut buf = Buf::new(alloc);
+    let mut answered = 0;
+    loop {
+        match exchange(alloc, paths, desk, link, &mut buf, answered) {
+            Some(served) => return served,
+            None => answered += 1,
+        }
+    }
+}
+
+/// Serves one link to its end: reads its requests, has the desk answer those that are calls, and writes the replies in
+/// their order, one write for each that is short. A link has at most 100,000 requests.
+pub fn serve<D: Desk, L: Source + Sink>(alloc: Global, desk: &mut D, link: &mut L) -> Served
+    ensures serves { links.Serves D.turn desk.old desk.new (L.left link.old) (L.written link.old) (L.written link.new)
+        (Rose (L.read_faults link.old) (L.read_faults link.new)) (Rose (L.write_faults link.old) (L.write_faults link.new)) result }
+    ensures reads { L.read_faults link.old ≤ L.read_faults link.new }
+    ensures writes { L.write_faults link.old ≤ L.write_faults link.new }
+{
+    match Paths::new(alloc) {
+        Ok(paths) => serve_with(alloc, &paths, desk, link),
+        Err(_) => {
+            tell_memory(alloc, link);
+            Served {
+                end: LinkEnd::NoMemory,
+                requests: 0,
+            }
+        }
+    }
+}
