@@ -44,7 +44,7 @@ fn put_all_escaped(out: &mut Vec<u8>, text: &[u8]) -> Result<(), AllocError>
 
 /// Adds a free text, percent-encoded, or `-` for no bytes.
 #[tactic(auto, using(crate::proofs::FreeTexts::free_laws))]
-pub(crate) fn put_free(out: &mut Vec<u8>, text: &[u8]) -> Result<(), AllocError>
+pub fn put_free(out: &mut Vec<u8>, text: &[u8]) -> Result<(), AllocError>
     ensures { OnOk result (out.new.items ≡ out.old.items ++ free_text text.now) }
 {
     if text.is_empty() {

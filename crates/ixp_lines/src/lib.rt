@@ -20,7 +20,7 @@ mod version;
 mod words;
 
 pub use fault::Unread;
-pub use free::ESCAPED;
+pub use free::{ESCAPED, put_free};
 pub use ixp_registry::Kind;
 pub use lined::Lined;
 pub use network::print_address;
