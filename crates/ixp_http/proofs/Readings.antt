@@ -23,7 +23,7 @@ begins_unique bytes (Headed from n) x y (inl a) (inr b) = absurd (b.0 a.1.0 [] a
 begins_unique bytes (Headed from n) x y (inr a) (inl b) = absurd (a.0 b.1.0 [] b.1.1)
 begins_unique bytes (Headed from n) x y (inr a) (inr b) = a.1 ∙ sym b.1
 
-first_unique : (bytes : List ℕ) (x y : Reading) → First bytes x → First bytes y → x ≡ y
+pub first_unique : (bytes : List ℕ) (x y : Reading) → First bytes x → First bytes y → x ≡ y
 first_unique bytes x y p q = begins_unique bytes (start_of bytes) x y p q
 
 pub one_reading : OneReading

@@ -88,3 +88,37 @@ nothing_served turn d left written all A B tried =
     let few : 0 < request_limit = omega arith in
     run_ends turn d d d left left left [] [] written written all 0 A B A B (record { end = NoMemory; requests = 0 }) few
     (run_none turn d left written) (λ x. x) (λ x. x) (refl, inl refl, tried)
+
+rose_read : {D : Type 0} (turn : D → Call → Outcome → D → Type 0) (n : ℕ) (d e : D) (S : Reading → Type 0) (W : List ℕ → Type 0) (A B : Type 0)
+    (end : LinkEnd) (m : ℕ)
+    → Ends turn n d e S W A B end m → end ≡ ReadFault → A
+rose_read turn n d e S W A B ReadFault m p q = p.0
+rose_read turn n d e S W A B WriteFault m p q = absurd (cc (q))
+rose_read turn n d e S W A B NoMemory m p q = absurd (cc (q))
+rose_read turn n d e S W A B Closed m p q = absurd (cc (q))
+rose_read turn n d e S W A B (BadMessage status) m p q = absurd (cc (q))
+rose_read turn n d e S W A B Cut m p q = absurd (cc (q))
+rose_read turn n d e S W A B Spent m p q = absurd (cc (q))
+
+rose_written : {D : Type 0} (turn : D → Call → Outcome → D → Type 0) (n : ℕ) (d e : D) (S : Reading → Type 0) (W : List ℕ → Type 0) (A B : Type 0)
+    (end : LinkEnd) (m : ℕ)
+    → Ends turn n d e S W A B end m → end ≡ WriteFault → B
+rose_written turn n d e S W A B ReadFault m p q = absurd (cc (q))
+rose_written turn n d e S W A B WriteFault m p q = p.0
+rose_written turn n d e S W A B NoMemory m p q = absurd (cc (q))
+rose_written turn n d e S W A B Closed m p q = absurd (cc (q))
+rose_written turn n d e S W A B (BadMessage status) m p q = absurd (cc (q))
+rose_written turn n d e S W A B Cut m p q = absurd (cc (q))
+rose_written turn n d e S W A B Spent m p q = absurd (cc (q))
+
+-- a read failed where a link ended so
+pub served_read : {D : Type 0} (turn : D → Call → Outcome → D → Type 0) (d e : D) (left written now : Option (List ℕ)) (A B : Type 0) (served : Served)
+    → Serves turn d e left written now A B served → served.end ≡ ReadFault → A
+served_read turn d e left written now A B served p =
+    rose_read turn (length p.xs) p.mid e (Behind left p.xs) (Wrote written now p.xs) A B served.end served.requests p.ends
+
+-- a write failed where a link ended so
+pub served_written : {D : Type 0} (turn : D → Call → Outcome → D → Type 0) (d e : D) (left written now : Option (List ℕ)) (A B : Type 0) (served : Served)
+    → Serves turn d e left written now A B served → served.end ≡ WriteFault → B
+served_written turn d e left written now A B served p =
+    rose_written turn (length p.xs) p.mid e (Behind left p.xs) (Wrote written now p.xs) A B served.end served.requests p.ends

@@ -1,4 +1,6 @@
 pub mod Runs
 pub mod Endings
 pub mod Settled
+pub mod Wholes
+pub mod Completes
 pub mod Keeps

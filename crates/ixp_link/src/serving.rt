@@ -1,9 +1,10 @@
 //! The loop of a link.
 ghost use Rattle.std.specs.Prelude.{◌≡◌, ◌≤◌, ◌<◌};
 ghost use Rattle.ixp_io.specs.Faults.{Rose};
-ghost use Rattle.ixp_io.specs.Told.{Takes};
+ghost use Rattle.ixp_io.specs.Told.{Takes, WhereTold};
 ghost use Rattle.ixp_link.specs.Links as links;
 ghost use Rattle.ixp_link.specs.Steps as spec;
+ghost use Rattle.ixp_link.specs.Whole as whole;
 
 use crate::answering::settle;
 use crate::desk::Desk;
@@ -84,6 +85,11 @@ fn serve_with<D: Desk, L: Source + Sink>(
 pub fn serve<D: Desk, L: Source + Sink>(alloc: Global, desk: &mut D, link: &mut L) -> Served
     ensures serves { links.Serves D.turn desk.old desk.new (L.left link.old) (L.written link.old) (L.written link.new)
         (Rose (L.read_faults link.old) (L.read_faults link.new)) (Rose (L.write_faults link.old) (L.write_faults link.new)) result }
+    ensures exact { WhereTold (L.left link.old) (λ bytes. whole.IsExact D.turn desk.old desk.new bytes (L.written link.old) (L.written link.new) result) }
+    ensures complete { WhereTold (L.left link.old) (λ bytes. whole.IsComplete D.turn desk.old desk.new bytes (L.written link.old) (L.written link.new)
+        (Rose (L.read_faults link.old) (L.read_faults link.new)) (Rose (L.write_faults link.old) (L.write_faults link.new)) result) }
+    ensures read_fault { result.end ≡ LinkEnd.ReadFault → Rose (L.read_faults link.old) (L.read_faults link.new) }
+    ensures write_fault { result.end ≡ LinkEnd.WriteFault → Rose (L.write_faults link.old) (L.write_faults link.new) }
     ensures reads { L.read_faults link.old ≤ L.read_faults link.new }
     ensures writes { L.write_faults link.old ≤ L.write_faults link.new }
 {
