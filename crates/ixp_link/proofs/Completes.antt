@@ -1,8 +1,8 @@
 -- Whole requests are all answered, where nothing fails.
-use Rattle.std.proofs.Common.{◌≡◌, ◌+◌, ◌<◌, ◌⊎◌, ℕ, suc, Bool, true, false, ◌&&◌, ◌||◌, ◌==◌, not, if◌then◌else◌, Option, None, Some, List, [], ◌∷◌, ◌++◌, length, map, refl, sym, ap, ◌∙◌, subst, inl, inr, arith}
+use Rattle.std.proofs.Common.{◌≡◌, ◌+◌, ◌<◌, ℕ, suc, Bool, true, false, ◌&&◌, ◌||◌, ◌==◌, not, if◌then◌else◌, Option, None, Some, List, [], ◌∷◌, ◌++◌, length, refl, sym, ap, ◌∙◌, subst, inl, inr, arith}
 use Rattle.std.proofs.lemmas.List.{append-nil}
 use Rattle.ixp_io.specs.Told.{WhereTold, Takes}
-use Rattle.ixp_http.specs.Messages.{Reading, closed, Messages}
+use Rattle.ixp_http.specs.Messages.{closed}
 use Rattle.ixp_http.specs.declared.request.Request.{Request}
 use Rattle.ixp_replies.specs.declared.outcome.Outcome.{Outcome}
 use Rattle.ixp_api.specs.declared.call.Call.{Call}

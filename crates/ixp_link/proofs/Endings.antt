@@ -1,5 +1,5 @@
 -- How a link ends after what was done before.
-use Rattle.std.proofs.Common.{◌≡◌, ◌+◌, ◌<◌, ◌⊎◌, ℕ, Option, None, Some, List, [], ◌∷◌, ◌++◌, length, take, refl, sym, subst, inl, inr, arith}
+use Rattle.std.proofs.Common.{◌≡◌, ◌<◌, ℕ, Option, None, Some, List, [], ◌++◌, length, take, refl, sym, subst, inl, inr, arith}
 use Rattle.ixp_io.specs.Told.{Told, WhereTold, Takes}
 use Rattle.ixp_io.proofs.Streams.{Takes-then}
 use Rattle.ixp_http.specs.Messages.{Reading, message, closed, cut, bad, First}
@@ -10,7 +10,7 @@ use Rattle.ixp_api.specs.declared.call.Call.{Call}
 use Rattle.ixp_link.specs.declared.ends.LinkEnd.{LinkEnd}
 use Rattle.ixp_link.specs.declared.ends.LinkEnd.TheVariants.{Closed, BadMessage, Cut, Spent, ReadFault, WriteFault, NoMemory}
 use Rattle.ixp_link.specs.declared.ends.Served.{Served}
-use Rattle.ixp_link.specs.Turns.{Exchange, Goes, GoesOn}
+use Rattle.ixp_link.specs.Turns.{Exchange}
 use Rattle.ixp_link.specs.Links.{Reads, BeginsWith, Behind, Wrote, Tried, Stopped, EndsBy, Ends, Serves, replies, request_limit}
 use Rattle.ixp_link.specs.Steps.{Steps}
 use Rattle.ixp_link.proofs.Runs.{Run, run_none}

@@ -1,5 +1,5 @@
 -- What each turn of a desk keeps, a link keeps.
-use Rattle.std.proofs.Common.{◌≡◌, ◌+◌, ◌⊎◌, ℕ, Option, Result, Ok, Err, List, [], ◌∷◌, length, sym, subst, inl, inr}
+use Rattle.std.proofs.Common.{ℕ, Option, Result, Ok, Err, List, [], ◌∷◌, length, sym, subst, inl, inr}
 use Rattle.ixp_http.specs.Messages.{Reading, message, closed, cut, bad}
 use Rattle.ixp_http.specs.declared.request.Request.{Request}
 use Rattle.ixp_json.specs.declared.pointer.CallFault.{CallFault}

@@ -1,7 +1,7 @@
 -- A request that was answered.
-use Rattle.std.proofs.Common.{◌≡◌, ◌+◌, ◌⊎◌, ℕ, Bool, true, false, ◌||◌, if◌then◌else◌, Option, None, Some, Result, Ok, Err, List, [], ◌∷◌, ◌++◌, take, refl, sym, subst, inl, inr}
-use Rattle.ixp_io.specs.Told.{Told, WhereTold, Takes}
-use Rattle.ixp_http.specs.Messages.{Reading, message, closed, cut, bad, First}
+use Rattle.std.proofs.Common.{◌≡◌, ◌+◌, ℕ, Bool, true, false, ◌||◌, if◌then◌else◌, Option, None, Some, Ok, Err, List, [], ◌++◌, take, refl, sym, subst, inl, inr}
+use Rattle.ixp_io.specs.Told.{Told, WhereTold}
+use Rattle.ixp_http.specs.Messages.{Reading, message, cut, bad, First}
 use Rattle.ixp_http.specs.Replies.{reply_bytes}
 use Rattle.ixp_http.specs.declared.request.Request.{Request}
 use Rattle.ixp_replies.specs.Replies.{reply, no_memory}
@@ -11,8 +11,8 @@ use Rattle.ixp_api.specs.declared.call.Call.{Call}
 use Rattle.ixp_link.specs.declared.ends.LinkEnd.{LinkEnd}
 use Rattle.ixp_link.specs.declared.ends.LinkEnd.TheVariants.{Closed, BadMessage, Cut, Spent, ReadFault, WriteFault, NoMemory}
 use Rattle.ixp_link.specs.declared.ends.Served.{Served}
-use Rattle.ixp_link.specs.Turns.{Exchange, Answers, Goes, wants_memory}
-use Rattle.ixp_link.specs.Links.{ends_at, closing_if, Tried, Stopped, Replied, EndsBy, Ends}
+use Rattle.ixp_link.specs.Turns.{Answers, wants_memory}
+use Rattle.ixp_link.specs.Links.{ends_at, closing_if, Stopped, EndsBy, Ends}
 use Rattle.ixp_link.specs.Steps.{Becomes, Tells, Settles, Steps, Refuses}
 use Rattle.ixp_link.proofs.Endings.{ends_of}
 

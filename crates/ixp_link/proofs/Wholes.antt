@@ -1,5 +1,5 @@
 -- The bytes of a link say how it is served.
-use Rattle.std.proofs.Common.{◌≡◌, ◌+◌, ◌<◌, ◌⊎◌, ℕ, suc, Bool, true, false, ◌||◌, ◌==◌, if◌then◌else◌, Option, None, Some, List, [], ◌∷◌, ◌++◌, length, map, append_assoc, refl, sym, ap, ◌∙◌, subst, inl, inr, arith}
+use Rattle.std.proofs.Common.{◌≡◌, ◌+◌, ◌<◌, ℕ, Bool, true, false, ◌||◌, ◌==◌, if◌then◌else◌, Option, None, Some, List, [], ◌∷◌, ◌++◌, length, append_assoc, refl, sym, ap, ◌∙◌, subst, arith}
 use Rattle.std.proofs.lemmas.List.{append-nil}
 use Rattle.std.proofs.lemmas.Bool.Decides.{nat_tests}
 use Rattle.ixp_io.specs.Told.{WhereTold, Takes}
@@ -8,14 +8,13 @@ use Rattle.ixp_http.specs.Replies.{reply_bytes}
 use Rattle.ixp_http.specs.declared.request.Request.{Request}
 use Rattle.ixp_replies.specs.Replies.{reply}
 use Rattle.ixp_replies.specs.declared.outcome.Outcome.{Outcome}
-use Rattle.ixp_replies.specs.declared.outcome.Outcome.TheVariants.{Head}
 use Rattle.ixp_api.specs.declared.call.Call.{Call}
 use Rattle.ixp_link.specs.declared.ends.LinkEnd.{LinkEnd}
 use Rattle.ixp_link.specs.declared.ends.LinkEnd.TheVariants.{Closed, BadMessage, Cut, Spent, ReadFault, WriteFault, NoMemory}
 use Rattle.ixp_link.specs.declared.ends.Served.{Served}
-use Rattle.ixp_link.specs.Turns.{Exchange, Answers, Goes, GoesOn}
-use Rattle.ixp_link.specs.Links.{request_limit, ends_at, closing_if, replies, Reads, Behind, Wrote, Replied, EndsBy, Ends, Serves}
-use Rattle.ixp_link.specs.Whole.{end_of, ended_with, served_from, heeded, last_text, requests_of, AnswersAll, reply_texts, is_fault, IsExact}
+use Rattle.ixp_link.specs.Turns.{Exchange, Answers, GoesOn}
+use Rattle.ixp_link.specs.Links.{request_limit, ends_at, closing_if, replies, Reads, Behind, Wrote, EndsBy, Ends, Serves}
+use Rattle.ixp_link.specs.Whole.{ended_with, served_from, heeded, last_text, requests_of, AnswersAll, reply_texts, IsExact}
 use Rattle.ixp_http.proofs.Readings.{first_unique}
 
 pub if_true : {A : Type 0} (b : Bool) (x y : A) → b ≡ true → (if b then x else y) ≡ x

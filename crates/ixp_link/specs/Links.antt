@@ -1,5 +1,5 @@
 -- What is written on a link, and how it ends (RFC 9112 section 9.6).
-use Rattle.std.specs.Prelude.{◌≡◌, ◌⊎◌, ◌<◌, ◌+◌, ℕ, Bool, true, false, ◌||◌, ◌==◌, if◌then◌else◌, ⊤, Option, List, [], ◌∷◌, ◌++◌, length, take}
+use Rattle.std.specs.Prelude.{◌≡◌, ◌⊎◌, ◌<◌, ◌+◌, ℕ, Bool, true, false, ◌||◌, ◌==◌, if◌then◌else◌, Option, List, [], ◌∷◌, ◌++◌, length, take}
 use Rattle.ixp_io.specs.Told.{WhereTold, Takes}
 use Rattle.ixp_http.specs.Messages.{Reading, message, closed, cut, bad, First}
 use Rattle.ixp_http.specs.Replies.{reply_bytes}

@@ -1,7 +1,7 @@
 -- What is done for one request.
-use Rattle.std.specs.Prelude.{◌≡◌, ◌⊎◌, ℕ, Bool, true, false, Option, None, Some, Result, Ok, Err, List, [], ◌++◌, take}
+use Rattle.std.specs.Prelude.{◌≡◌, ◌⊎◌, ℕ, Bool, true, false, Option, None, Some, Result, Ok, Err, List, ◌++◌, take}
 use Rattle.ixp_io.specs.Told.{Told, WhereTold}
-use Rattle.ixp_http.specs.Messages.{Reading, message, First}
+use Rattle.ixp_http.specs.Messages.{message, First}
 use Rattle.ixp_http.specs.Replies.{reply_bytes}
 use Rattle.ixp_http.specs.declared.request.Request.{Request}
 use Rattle.ixp_replies.specs.Replies.{reply, no_memory}

@@ -1,5 +1,5 @@
 -- How requests are answered.
-use Rattle.std.specs.Prelude.{◌≡◌, ℕ, Bool, true, false, Result, Ok, Err, List, [], ◌∷◌}
+use Rattle.std.specs.Prelude.{◌≡◌, Bool, true, false, Result, Ok, Err, List, [], ◌∷◌}
 use Rattle.ixp_http.specs.declared.request.Request.{Request}
 use Rattle.ixp_json.specs.declared.pointer.CallFault.{CallFault}
 use Rattle.ixp_bodies.specs.Answers.{is_memory}

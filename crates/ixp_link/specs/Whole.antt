@@ -1,6 +1,6 @@
 -- How a link is served whose bytes are told.
 use Rattle.std.specs.Prelude.{◌≡◌, ◌⊎◌, ◌<◌, ◌+◌, ℕ, Bool, true, false, ◌&&◌, not, if◌then◌else◌, Option, List, [], ◌∷◌, ◌++◌, length, map}
-use Rattle.ixp_io.specs.Told.{WhereTold, Takes}
+use Rattle.ixp_io.specs.Told.{Takes}
 use Rattle.ixp_http.specs.Messages.{Reading, message, closed, cut, bad, Messages}
 use Rattle.ixp_http.specs.Replies.{reply_bytes}
 use Rattle.ixp_http.specs.declared.request.Request.{Request}

@@ -1,4 +1,3 @@
-use Rattle.std.proofs.Common.{List, ℕ}
 use Rattle.ixp_io.specs.Faults.{Rose}
 use Rattle.ixp_io.specs.Told.{Takes}
 use Rattle.ixp_link.proofs.Settled.{settled_err}

@@ -1,4 +1,4 @@
-use Rattle.std.proofs.Common.{◌≡◌, List, [], ℕ, Option, Result, Ok, Err, ◌++◌, sym, subst}
+use Rattle.std.proofs.Common.{List, [], ℕ, Option, Ok, Err, ◌++◌, sym, subst}
 use Rattle.ixp_io.specs.Faults.{Rose}
 use Rattle.ixp_io.specs.Told.{Told, Takes}
 use Rattle.ixp_io.proofs.Streams.{Takes-none}

@@ -1,4 +1,4 @@
-use Rattle.std.proofs.Common.{◌≤◌, ℕ, arith}
+use Rattle.std.proofs.Common.{arith}
 use Rattle.ixp_io.specs.Faults.{Rose}
 use Rattle.ixp_io.proofs.Streams.{Rose-since}
 use Rattle.ixp_link.proofs.Runs.{run_on, few_on}
