@@ -23,10 +23,10 @@ use Rattle.ixp_opening.specs.Openings.{first_state}
 use Rattle.ixp_steps.specs.declared.state.State.{State}
 use Rattle.ixp_load.specs.Answers.{IsStoreOf, empty_registry}
 
-ties_itself : (k : RowName) → eq_by_cmp name_cmp k k ≡ true
+pub ties_itself : (k : RowName) → eq_by_cmp name_cmp k k ≡ true
 ties_itself k = ap is_eq (tied_itself name_total k)
 
-first_of : (a b : Bool) → T (a && b) → T a
+pub first_of : (a b : Bool) → T (a && b) → T a
 first_of true b h = tt
 first_of false b h = absurd h
 
@@ -45,7 +45,7 @@ apart k q less = by_bool (eq_by_cmp name_cmp q k) refl
     by_bool true e = absurd (never (tells_apart name_same q k e))
     by_bool false e = e
 
-all_above : (k : RowName) (es : List Entry) → T (below_all name_cmp k es) → AllByRecursion (λ e. T (is_lt (name_cmp k e.0))) es
+pub all_above : (k : RowName) (es : List Entry) → T (below_all name_cmp k es) → AllByRecursion (λ e. T (is_lt (name_cmp k e.0))) es
 all_above k [] h = tt
 all_above k (e ∷ es) h = (first_of _ _ h, all_above k es (second_of _ _ h))
 
@@ -60,7 +60,7 @@ all_found (e ∷ es) h = (
 )
 
 -- what holds of all entries holds of one that is found
-found_one : (P : RowName → Type 0) (es : List Entry) (q : RowName) (b : List ℕ) → AllByRecursion (λ e. P e.0) es → find name_cmp q es ≡ Some b → P q
+pub found_one : (P : RowName → Type 0) (es : List Entry) (q : RowName) (b : List ℕ) → AllByRecursion (λ e. P e.0) es → find name_cmp q es ≡ Some b → P q
 found_one P [] q b all e = absurd (let bad : ◌≡◌ {A = Option (List ℕ)} None (Some b) = e in cc)
 found_one P (x ∷ xs) q b all e = by_bool (found_one P xs q b all.1) (eq_by_cmp name_cmp q x.0) refl
   where

@@ -1,11 +1,14 @@
 -- What a store is the store of.
-use Rattle.std.specs.Prelude.{◌≡◌, ◌⊎◌, []}
-use Rattle.std.specs.FinMap.{empty}
+use Rattle.std.specs.Prelude.{◌≡◌, ◌≢◌, ◌⊎◌, [], Some, codes, Result, Ok, Err}
+use Rattle.std.specs.FinMap.{empty, get}
 use Rattle.ixp_io.specs.Tables.{Table}
 use Rattle.ixp_registry.specs.declared.registry.Registry.{Registry}
 use Rattle.ixp_opening.specs.Openings.{first_state}
 use Rattle.ixp_steps.specs.declared.state.State.{State}
+use Rattle.ixp_stored.specs.Names.{version_name}
 use Rattle.ixp_stored.specs.States.{tables}
+use Rattle.ixp_load.specs.declared.fault.LoadFault.{LoadFault}
+use Rattle.ixp_load.specs.declared.fault.LoadFault.TheVariants.{KeeperFault, Damaged, OldVersion, NoMemory}
 
 -- the registry without rows; its site has the numbers 0 and no name
 abbrev pub empty_registry : Registry
@@ -28,3 +31,11 @@ empty_registry = record {
 -- a store has the rows of the state; one without rows is that of the first state of the registry without rows
 abbrev pub IsStoreOf : State → Table → Type 0
 IsStoreOf s rows = (rows ≡ tables s) ⊎ ((rows ≡ empty) × (s ≡ first_state empty_registry))
+
+-- a store of version 1 is told to be old, and no other one
+abbrev pub TellsVersion : Result State LoadFault → Table → Type 0
+TellsVersion (Ok s) rows = get rows version_name ≢ Some (codes "1")
+TellsVersion (Err KeeperFault) rows = Unit {0}
+TellsVersion (Err (Damaged name damage)) rows = get rows version_name ≢ Some (codes "1")
+TellsVersion (Err (OldVersion found)) rows = (found ≡ 1) × (get rows version_name ≡ Some (codes "1"))
+TellsVersion (Err NoMemory) rows = Unit {0}

@@ -1,4 +1,5 @@
 pub mod Answers
 pub mod Faults
 pub mod Keeping
+pub mod Opening
 pub mod Reading

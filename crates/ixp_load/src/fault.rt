@@ -27,7 +27,6 @@ pub enum LoadFault {
 #[derive(Debug, Drop)]
 pub(crate) enum NoState {
     Damaged { name: RowName, damage: Damage },
-    OldVersion { found: u64 },
     NoMemory,
 }
 

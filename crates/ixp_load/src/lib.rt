@@ -4,8 +4,9 @@
 //! there is none: the first row, in the keeper's order, that is no row of a state, or the lowest rule of a registry that the
 //! rows break and the row that breaks it.
 //!
-//! Proved are the state that is answered, and that a keeper's fault is told only where one came. Which row is told, and that the rows
-//! of every valid state are loaded, no clause says: a `load` that always told damage would keep its contract. That is tested alone.
+//! Proved are the state that is answered, that an older version is told exactly where the row of the version says so (but that the
+//! keeper may fail and memory run out), and that a keeper's fault is told only where one came. Which row is told, and that the rows of every valid state are loaded, no clause says: a
+//! `load` that always told damage of a store of this version would keep its contract. That is tested alone.
 #![tactic(auto)]
 
 mod checking;

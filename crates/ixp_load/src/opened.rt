@@ -1,5 +1,5 @@
 //! The state that a keeper's rows are those of.
-ghost use Rattle.std.specs.Prelude.{◌≡◌, ◌≤◌, IfOk, IfSome, IsErrOf, IsTrue, Some, true, map};
+ghost use Rattle.std.specs.Prelude.{◌≡◌, ◌≤◌, IfOk, IsOk, IfSome, IsErrOf, IsTrue, None, Some, true, map};
 ghost use Rattle.std.specs.List.Sorted.{IsPermutation};
 ghost use Rattle.std.specs.List.{AllByRecursion};
 ghost use Rattle.ixp_io.specs.Faults.{Rose};
@@ -11,8 +11,9 @@ ghost use Rattle.ixp_registry.specs.Valid.{Valid};
 ghost use Rattle.ixp_steps.specs.Kept.{kept_owner_key};
 ghost use Rattle.ixp_steps.specs.States.{ValidState};
 ghost use Rattle.ixp_tables.specs.Tables.{Ascends};
-ghost use Rattle.ixp_load.specs.Answers.{IsStoreOf, empty_registry};
+ghost use Rattle.ixp_load.specs.Answers.{IsStoreOf, TellsVersion, empty_registry};
 ghost use Rattle.ixp_load.specs.Keeping.{AreKept};
+ghost use Rattle.ixp_load.specs.Opening.{IsFirstOrOf, SaysVersion, is_old};
 ghost use Rattle.ixp_load.specs.declared.fault.LoadFault.TheVariants.{KeeperFault};
 
 use crate::checking::are_rows_of;
@@ -54,7 +55,6 @@ fn after_version(alloc: Global, rows: &[Row]) -> Result<Left<'_>, NoState> {
     }
     match row.body.as_slice() {
         b"2" => Ok(others),
-        b"1" => Err(NoState::OldVersion { found: 1 }),
         _ => Err(damaged(alloc, &row.name)),
     }
 }
@@ -221,22 +221,57 @@ fn state_of(alloc: Global, rows: &[Row]) -> Result<State, NoState>
     Err(missing(alloc, VERSION))
 }
 
+/// Whether the rows begin with that of the version before this one.
+fn is_old(rows: &[Row]) -> bool
+    ensures { result ≡ is_old rows.now }
+{
+    match rows.first() {
+        Some(row) => {
+            row.name.kind == VERSION
+                && row.name.key.is_empty()
+                && row.body.as_slice() == b"1".as_slice()
+        }
+        None => false,
+    }
+}
+
+/// The state whose rows these are. No row at all stands for the registry without rows.
+#[tactic(auto, using(ixp_rows::proofs::Gathered::no_rows))]
+fn opened(alloc: Global, rows: &[Row], beyond: Option<RowName>) -> Result<State, LoadFault>
+    ensures valid { IfOk result ValidState }
+    ensures state { IfOk result (λ s. IsFirstOrOf s rows.now) }
+    ensures whole { IsOk result → beyond ≡ None }
+    ensures version { SaysVersion result rows.now }
+    ensures cause { IsErrOf result KeeperFault → ⊥ }
+{
+    if is_old(rows) {
+        return Err(LoadFault::OldVersion { found: 1 });
+    }
+    if let Some(name) = beyond {
+        return Err(LoadFault::Damaged {
+            name,
+            damage: Damage::Row,
+        });
+    }
+    if rows.is_empty() {
+        return Ok(first_state(alloc, empty_registry(alloc)));
+    }
+    match state_of(alloc, rows) {
+        Ok(state) => Ok(state),
+        Err(NoState::Damaged { name, damage }) => Err(LoadFault::Damaged { name, damage }),
+        Err(NoState::NoMemory) => Err(LoadFault::NoMemory),
+    }
+}
+
 /// The valid state whose rows the keeper has. No row at all stands for the registry without rows.
 pub fn load<P: Keeper>(alloc: Global, keeper: &mut P) -> Result<State, LoadFault>
     ensures valid { IfOk result ValidState }
     ensures state { IfOk result (λ s. WhereTold (P.table keeper.old) (IsStoreOf s)) }
+    ensures version { WhereTold (P.table keeper.old) (TellsVersion result) }
     ensures kept { P.table keeper.new ≡ P.table keeper.old }
     ensures counts { P.faults keeper.old ≤ P.faults keeper.new }
     ensures cause { IsErrOf result KeeperFault → Rose (P.faults keeper.old) (P.faults keeper.new) }
 {
-    let rows = read_rows(alloc, keeper)?;
-    if rows.is_empty() {
-        return Ok(first_state(alloc, empty_registry(alloc)));
-    }
-    match state_of(alloc, rows.as_slice()) {
-        Ok(state) => Ok(state),
-        Err(NoState::Damaged { name, damage }) => Err(LoadFault::Damaged { name, damage }),
-        Err(NoState::OldVersion { found }) => Err(LoadFault::OldVersion { found }),
-        Err(NoState::NoMemory) => Err(LoadFault::NoMemory),
-    }
+    let (rows, beyond) = read_rows(alloc, keeper)?;
+    opened(alloc, rows.as_slice(), beyond)
 }
