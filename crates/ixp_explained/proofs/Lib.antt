@@ -1,0 +1,5 @@
+mod Numbers
+mod Reports
+mod Senders
+mod Shapes
+mod Wishes
