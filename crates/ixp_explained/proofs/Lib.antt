@@ -1,3 +1,4 @@
+mod Answering
 mod Numbers
 mod Reports
 mod Senders

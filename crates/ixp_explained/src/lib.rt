@@ -6,4 +6,7 @@
 
 mod laws;
 
-pub use laws::{generated_text_explains, own_text_explains};
+pub use laws::{
+    generated_text_explains, members_are_told_the_rules, own_text_explains,
+    staff_are_told_the_rules,
+};
