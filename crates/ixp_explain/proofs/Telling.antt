@@ -2,7 +2,7 @@
 use Rattle.std.specs.Prelude.{◌≡◌, List, ℕ, [], ◌∷◌, ◌++◌, Option, Some, None, Result, Ok, Err, refl}
 use Rattle.std.proofs.Common.{ap, append_assoc}
 use Rattle.ixp_lang.specs.declared.value.Value.{Value}
-use Rattle.ixp_lang.specs.Faults.{Fault, CallFault, failed, ended, pair_range, no_return, no_verdict, no_filter}
+use Rattle.ixp_lang.specs.Faults.{Fault, CallFault, failed}
 use Rattle.ixp_lang.specs.Trees.{ItemTree}
 use Rattle.ixp_eval.specs.declared.fault.CallFault.{CallFault as NoValue}
 use Rattle.ixp_eval.specs.declared.fault.CallFault.TheVariants as call

@@ -1,10 +1,9 @@
 -- What is answered of a text: what is said of it is exactly this, unless memory runs out.
 use Rattle.std.specs.Prelude.{◌≡◌, List, ℕ, Option, Some, None, Result, Ok, Err}
-use Rattle.ixp_lang.specs.Faults.{Fault, pair_range, no_return, no_verdict, no_filter, CallFault, failed, ended}
+use Rattle.ixp_lang.specs.Faults.{pair_range, no_return, no_verdict, no_filter, CallFault, failed, ended}
 use Rattle.ixp_lang.specs.Trees.{ItemTree}
 use Rattle.ixp_eval.specs.declared.fault.CallFault.{CallFault as NoValue}
 use Rattle.ixp_eval.specs.declared.fault.CallFault.TheVariants as call
-use Rattle.ixp_eval.specs.declared.fault.EvalFault.{EvalFault}
 use Rattle.ixp_eval.specs.declared.fault.EvalFault.TheVariants as fault
 use Rattle.ixp_read.specs.Answers.{SpellsText, ConfigAnswer, IsTold}
 use Rattle.ixp_explain.specs.declared.report.ExplainFault.{ExplainFault}

@@ -1,6 +1,6 @@
 -- Of which kind the values of expressions are, and what a function of a configuration takes and gives. In a text that is read, all that a
 -- function returns has one type, and each name is declared once.
-use Rattle.std.specs.Prelude.{Bool, true, false, ◌&&◌, List, [], ◌∷◌, ◌++◌, Option, Some, None, option_map, ℕ}
+use Rattle.std.specs.Prelude.{Bool, true, false, ◌&&◌, List, [], ◌∷◌, ◌++◌, Option, Some, None, ℕ}
 use Rattle.ixp_lang.specs.declared.expr.Attr.{Attr}
 use Rattle.ixp_lang.specs.declared.expr.Attr.TheVariants as attr
 use Rattle.ixp_lang.specs.declared.item.Ty.{Ty}
@@ -8,13 +8,11 @@ use Rattle.ixp_lang.specs.declared.item.Ty.TheVariants as ty
 use Rattle.ixp_lang.specs.declared.value.Value.{Value}
 use Rattle.ixp_lang.specs.declared.value.Value.TheVariants as value
 use Rattle.ixp_lang.specs.Meaning.{find_named}
-use Rattle.ixp_lang.specs.Trees.{ExprTree, literal, named, attribute, call, roa_check, pair, triple, set_literal, negation, conjunction, disjunction, comparison, StmtTree, block, if_then, case_of, return_value, accept, reject, call_statement, set_next_hop, prepend, add_pair, delete_pairs, add_triple, delete_triples, StmtTrees, stmts_end, stmts_more, ArmTrees, arms_end, arms_more, ItemTree, router_id_item, table_item, define_item, function_item, filter_item, device_item, pipe_item, bgp_item}
+use Rattle.ixp_lang.specs.Trees.{ExprTree, literal, named, attribute, call, roa_check, pair, triple, set_literal, negation, conjunction, disjunction, comparison, StmtTree, block, if_then, case_of, return_value, StmtTrees, stmts_end, stmts_more, ArmTrees, arms_end, arms_more, ItemTree, router_id_item, table_item, define_item, function_item, filter_item, device_item, pipe_item, bgp_item}
 use Rattle.ixp_explain.specs.declared.kinds.Kind.{Kind}
 use Rattle.ixp_explain.specs.declared.kinds.Kind.TheVariants.{Number, Truth, Other}
 use Rattle.ixp_explain.specs.declared.kinds.Sort.{Sort}
 use Rattle.ixp_explain.specs.declared.kinds.Sort.TheVariants.{Value as Defined, Function, Item as Else}
-use Rattle.ixp_lang.specs.declared.item.Pipe.{Pipe}
-use Rattle.ixp_lang.specs.declared.item.Bgp.{Bgp}
 
 abbrev pub kind_of_type : Ty → Kind
 kind_of_type ty.Int = Number

@@ -1,4 +1,4 @@
-use Rattle.std.proofs.Common.{◌≡◌, ◌+◌, drop}
+use Rattle.std.proofs.Common.{◌≡◌, drop}
 use Rattle.ixp_lang.specs.Trees.{stmts}
 use Rattle.ixp_lang.specs.Views.{stmt_view, stmts_view, arms_view}
 use Rattle.ixp_explain.specs.Kinds.{returned_in, returned_arms}
