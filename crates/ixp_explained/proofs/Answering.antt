@@ -1,11 +1,9 @@
 -- A text that spells a configuration is answered by it alone.
-use Rattle.std.proofs.Common.{◌≡◌, ℕ, List, Result, Ok, Err, subst}
+use Rattle.std.proofs.Common.{ℕ, List, Result, Ok, Err, subst}
 use Rattle.ixp_lang.specs.Trees.{ItemTree}
 use Rattle.ixp_read.specs.declared.fault.ReadFault.{ReadFault}
-use Rattle.ixp_read.specs.declared.fault.ReadFault.TheVariants as read
 use Rattle.ixp_read.specs.Answers.{IsTold, SpellsText}
 use Rattle.ixp_read.proofs.AnswerLaws.{one_spelling, spelt_is_answered}
-use Rattle.ixp_lang.specs.declared.item.Config.{Config}
 use Rattle.ixp_explain.specs.declared.report.ExplainFault.{ExplainFault}
 use Rattle.ixp_explain.specs.declared.report.ExplainFault.TheVariants as told
 use Rattle.ixp_explain.specs.Answers.{Answers, Spelt, Tells}

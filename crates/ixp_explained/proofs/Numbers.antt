@@ -1,5 +1,5 @@
 -- The number that a refused route's tag tells is that of the line by which it is refused.
-use Rattle.std.proofs.Common.{◌≡◌, ℕ, Bool, true, false, ◌&&◌, ◌||◌, ◌==◌, not, List, [], ◌∷◌, ◌++◌, filter, Option, Some, None, is_none, refl, sym, ap, ◌∙◌, true≢false, if◌then◌else◌}
+use Rattle.std.proofs.Common.{◌≡◌, ℕ, Bool, true, false, ◌&&◌, ◌||◌, ◌==◌, not, List, [], ◌∷◌, ◌++◌, filter, Option, Some, None, is_none, refl, ap, ◌∙◌, true≢false, if◌then◌else◌}
 use Rattle.std.specs.List.{AllByRecursion}
 use Rattle.ixp_lang.specs.declared.communities.TheConstants.{ORIGIN_STATE, FINDING, REFUSED}
 use Rattle.ixp_lang.specs.declared.route.Route.{Route}
@@ -9,7 +9,7 @@ use Rattle.ixp_registry.specs.declared.router.Router.{Router}
 use Rattle.ixp_registry.specs.Sessions.{Session}
 use Rattle.ixp_policy.specs.declared.line.Line.{Line}
 use Rattle.ixp_policy.specs.Fates.{passes}
-use Rattle.ixp_policy.specs.Import.{brought_triples, first_that_holds, import_table, is_report, refusal, refusal_number}
+use Rattle.ixp_policy.specs.Import.{first_that_holds, import_table, is_report, refusal, refusal_number}
 use Rattle.ixp_policy.specs.Reasons.{number_of}
 use Rattle.ixp_policy.specs.Tags.{chosen, findings, refusal_told, tagged}
 use Rattle.ixp_compile.proofs.Communities.{eq_refl}

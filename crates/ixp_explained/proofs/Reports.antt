@@ -1,5 +1,5 @@
 -- The reports by the texts are those by the rows.
-use Rattle.std.proofs.Common.{◌≡◌, ℕ, Bool, true, false, List, [], ◌∷◌, map, reverse, Option, Some, None, option_map, Result, Ok, Err, refl, sym, ap, ◌∙◌, subst, if◌then◌else◌}
+use Rattle.std.proofs.Common.{◌≡◌, ℕ, Bool, true, false, List, [], map, Option, Some, None, option_map, Result, Ok, refl, ap, ◌∙◌, if◌then◌else◌}
 use Rattle.ixp_num.specs.declared.asn.Asn.{Asn}
 use Rattle.ixp_num.specs.declared.family.Family.{Family}
 use Rattle.ixp_num.specs.declared.family.Family.TheVariants.{V4, V6}
@@ -25,13 +25,12 @@ use Rattle.ixp_policy.specs.Tags.{tagged}
 use Rattle.ixp_compile.specs.Fragment.{bgp_name}
 use Rattle.ixp_compile.specs.Generated.{generated, own_part, roa_tables}
 use Rattle.ixp_compile.specs.Rewriting.{rewritten}
-use Rattle.ixp_compile.specs.Whole.{own_fate}
 use Rattle.ixp_compile.proofs.Rights.{right, own_right, own_up, own_sends, own_counts}
 use Rattle.ixp_compile.proofs.SessionsKept.{session_lawful}
 use Rattle.ixp_compile.proofs.Walking.{bgp}
 use Rattle.ixp_readback.proofs.ReadBack.{whole_spelt, own_spelt}
 use Rattle.ixp_explain.specs.declared.report.OwnReport.{OwnReport}
-use Rattle.ixp_explain.specs.Explained.{Trouble, and_then, asks_told, env_of, explained, family_apart, number_told, other_family, own_explained, own_report_of, passed_told, report_of, run, session_in, shapes_told, unless_apart, wishes_by}
+use Rattle.ixp_explain.specs.Explained.{Trouble, and_then, asks_told, env_of, explained, family_apart, number_told, own_explained, own_report_of, passed_told, report_of, run, shapes_told, unless_apart, wishes_by}
 use Rattle.ixp_explained.specs.Rows.{ExplainsRows, TellsRows, own_report_by_rows, report_by_rows}
 use Rattle.ixp_explained.proofs.Numbers.{number_is}
 use Rattle.ixp_explained.proofs.Senders.{sender_in_own, sender_in_whole}

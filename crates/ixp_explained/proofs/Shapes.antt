@@ -1,5 +1,5 @@
 -- The functions that are asked have their forms in a session's own text.
-use Rattle.std.proofs.Common.{◌≡◌, ℕ, Bool, true, false, List, [], ◌∷◌, ◌++◌, append_assoc, append-nil, Option, Some, None, Result, Ok, Err, codes, refl, sym, ap, ◌∙◌, if◌then◌else◌}
+use Rattle.std.proofs.Common.{◌≡◌, ℕ, Bool, true, false, List, [], ◌∷◌, ◌++◌, append_assoc, append-nil, Option, Some, None, Ok, Err, codes, refl, ap, ◌∙◌, if◌then◌else◌}
 use Rattle.std.specs.List.{AllByRecursion}
 use Rattle.ixp_num.specs.declared.addr.Addr.{Addr}
 use Rattle.ixp_num.specs.declared.family.Family.{Family}
@@ -8,14 +8,14 @@ use Rattle.ixp_lang.specs.declared.item.Ty.TheVariants.{Int}
 use Rattle.ixp_lang.specs.declared.value.SetLit.{SetLit}
 use Rattle.ixp_lang.specs.declared.value.SetLit.TheVariants as set
 use Rattle.ixp_lang.specs.Meaning.{find_named, same_name}
-use Rattle.ixp_lang.specs.Trees.{ItemTree, function_item, filter_item, table_item, stmts}
+use Rattle.ixp_lang.specs.Trees.{ItemTree, function_item, filter_item, stmts}
 use Rattle.ixp_registry.specs.declared.registry.Registry.{Registry}
 use Rattle.ixp_registry.specs.declared.router.Router.{Router}
 use Rattle.ixp_registry.specs.Sessions.{Session}
 use Rattle.ixp_compile.specs.declared.inputs.HeaderInputs.{HeaderInputs}
 use Rattle.ixp_compile.specs.Generated.{header_inputs, inputs, session_part, footer, own_part}
-use Rattle.ixp_compile.specs.Header.{header, tables, public_sets, shared_functions, bogons_of, joined_ranges, blackhole_function, drop_body, net_body, bogon_as_body, transit_body, sends_body, count_body, pad_body, out_body}
-use Rattle.ixp_compile.specs.Pieces.{defined, numbers, master, roas, table_kind, roa_kind}
+use Rattle.ixp_compile.specs.Header.{header, tables, public_sets, bogons_of, joined_ranges, blackhole_function, drop_body, net_body, bogon_as_body, transit_body, sends_body, count_body, pad_body, out_body}
+use Rattle.ixp_compile.specs.Pieces.{defined, numbers, master, roas}
 use Rattle.ixp_compile.proofs.Laying.{all_append}
 use Rattle.ixp_explain.specs.declared.kinds.Kind.TheVariants.{Number, Truth}
 use Rattle.ixp_explain.specs.declared.kinds.Sort.{Sort}

@@ -1,8 +1,7 @@
 -- What the functions of a session's own text tell of a peer is the wish.
-use Rattle.std.proofs.Common.{◌≡◌, ℕ, ◌≤◌, Bool, true, false, ◌&&◌, nat_le, List, [], ◌∷◌, map, reverse, Option, Some, None, Result, Ok, Err, codes, refl, sym, ap, ◌∙◌, subst, arith, true≢false, if◌then◌else◌}
+use Rattle.std.proofs.Common.{◌≡◌, ℕ, ◌≤◌, Bool, true, false, nat_le, List, [], ◌∷◌, map, reverse, Option, Some, None, Ok, Err, refl, sym, ap, ◌∙◌, subst, arith, true≢false, if◌then◌else◌}
 use Rattle.std.specs.Option.{is_some}
 use Rattle.std.proofs.lemmas.Bool.{and_parts, leb-true, le-leb}
-use Rattle.std.proofs.lemmas.Bool.Decides.{nat_tests}
 use Rattle.ixp_num.specs.declared.asn.Asn.{Asn}
 use Rattle.ixp_num.specs.declared.prefix.Prefix.{Prefix}
 use Rattle.ixp_tables.specs.Tables.{if_there}
@@ -23,7 +22,7 @@ use Rattle.ixp_registry.specs.Words.{is_action_of}
 use Rattle.ixp_policy.specs.Export.{steered, times_of, wish}
 use Rattle.ixp_compile.specs.Rewriting.{AreLawful, IsLawful}
 use Rattle.ixp_compile.proofs.GoingDown.{prepends_small}
-use Rattle.ixp_explain.specs.Explained.{Trouble, and_then, called, count_name, count_told, sends_name, sends_told, times_told, wish_told, wishes_told, misshapen}
+use Rattle.ixp_explain.specs.Explained.{and_then, called, count_name, count_told, sends_name, times_told, wish_told, wishes_told, misshapen}
 
 small : (n k : ℕ) → n ≤ 255 → Some n ≡ Some k → nat_le k 255 ≡ true
 small n k low e = let same : n ≡ k = cc in subst (λ (m : ℕ). nat_le m 255 ≡ true) same (le-leb n 255 low)

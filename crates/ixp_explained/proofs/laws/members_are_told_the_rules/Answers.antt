@@ -1,4 +1,4 @@
-use Rattle.std.proofs.Common.{◌≡◌, List, subst}
+use Rattle.std.proofs.Common.{subst}
 use Rattle.ixp_explain.specs.Answers.{Tells}
 use Rattle.ixp_explain.specs.Explained.{own_explained}
 use Rattle.ixp_compile.specs.Generated.{roa_tables}
