@@ -1,0 +1,6 @@
+use Rattle.std.proofs.Common.{◌∙◌}
+use Rattle.ixp_eval.proofs.Naming.{same_bytes}
+use Rattle.ixp_explain.proofs.kinds.same_name.Goals as goal
+
+pub returns : goal.returns
+returns c = c.eq.ensures ∙ rw (c.as_bytes.ensures.bytes, c.as_bytes-2.ensures.bytes) (same_bytes c.args.a.now c.args.b.now)

@@ -1,0 +1,5 @@
+pub mod Answers
+pub mod Explained
+pub mod Kinds
+pub mod Texts
+pub mod Troubles

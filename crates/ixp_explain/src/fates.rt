@@ -1,0 +1,43 @@
+//! What becomes of a route by a text.
+ghost use Rattle.ixp_lang.specs.Views.{config_view};
+ghost use Rattle.ixp_explain.specs.Answers.{Answers, Tells};
+ghost use Rattle.ixp_explain.specs.Explained.{explained};
+
+use crate::report::{ExplainFault, Report};
+use crate::session::{config_of, fate_of, number_told, own_number};
+use ixp_lang::{Config, Route};
+use ixp_num::Name;
+use ixp_roa::RoaTable;
+use std::alloc::Global;
+
+#[tactic(auto, using(crate::proofs::Telling::telling))]
+fn explain_by(
+    alloc: Global,
+    config: &Config,
+    roas: &[(Name, RoaTable)],
+    interface: u32,
+    route: &Route,
+) -> Result<Report, ExplainFault>
+    ensures { Tells result (explained (config_view config.now) roas.now interface route.now) }
+{
+    let fate = fate_of(alloc, config, roas, interface, route)?;
+    let own = own_number(alloc, config, interface)?;
+    let number = number_told(own, &fate.table, fate.passed);
+    Ok(Report { fate, number })
+}
+
+/// What becomes of a route that the interface's session `b_<interface>` brings, by the configuration that the text spells, with these
+/// tables of ROAs by their names (`tables_of`). `Unread` comes first, then `Family`, then `Fault`.
+#[tactic(auto, using(crate::proofs::Telling::told_of, crate::proofs::Telling::unread_of))]
+pub fn explain(
+    alloc: Global,
+    text: &[u8],
+    roas: &[(Name, RoaTable)],
+    interface: u32,
+    route: &Route,
+) -> Result<Report, ExplainFault>
+    ensures { Answers text.now (λ items. explained items roas.now interface route.now) result }
+{
+    let config = config_of(alloc, text)?;
+    explain_by(alloc, &config, roas, interface, route)
+}

@@ -1,0 +1,22 @@
+//! What a configuration text says of a route: its fate, why it is stopped, and, for a member's own route, to which peers it is to be sent.
+//!
+//! [`explain`] and [`explain_member`] read the text and run it. What they answer is the outcome by the configuration that the text spells
+//! (`specs/Explained.antt`), so a text that was altered by hand is explained as it stands. [`print_own`] writes what a member is told.
+//! What the texts of a valid registry explain is said in `ixp_explained`.
+#![tactic(auto)]
+
+mod fates;
+mod kinds;
+mod member;
+mod peers;
+mod print;
+mod report;
+mod session;
+mod shapes;
+mod tables;
+
+pub use fates::explain;
+pub use member::explain_member;
+pub use print::print_own;
+pub use report::{ExplainFault, OwnReport, Report};
+pub use tables::tables_of;

@@ -1,0 +1,6 @@
+mod Answering
+mod Numbers
+mod Reports
+mod Senders
+mod Shapes
+mod Wishes

@@ -1,0 +1,4 @@
+pub mod Export
+pub mod Moments
+pub mod Texts
+pub mod Views
