@@ -63,9 +63,10 @@ pub fn change_of(
             secret,
         }))),
         Edit::DropKey { key } => Ok(RegistryChange::Keys(TableChange::Take(key))),
-        Edit::AddSwitch { number, name } => Ok(RegistryChange::Switches(TableChange::Put(
-            Switch { number, name },
-        ))),
+        Edit::AddSwitch { number, name } => Ok(RegistryChange::Switches(TableChange::Put(Switch {
+            number,
+            name,
+        }))),
         Edit::DropSwitch { switch } => Ok(RegistryChange::Switches(TableChange::Take(switch))),
         Edit::AddPort {
             number,
@@ -138,22 +139,12 @@ pub fn change_of(
             member,
             family,
             prefixes,
-        } => Ok(RegistryChange::Irr(put_irr(
-            &registry.irr,
-            member,
-            family,
-            prefixes,
-        ))),
+        } => Ok(RegistryChange::Irr(put_irr(&registry.irr, member, family, prefixes))),
         Edit::PutOrigins {
             member,
             family,
             asns,
-        } => Ok(RegistryChange::Origins(put_origins(
-            &registry.origins,
-            member,
-            family,
-            asns,
-        ))),
+        } => Ok(RegistryChange::Origins(put_origins(&registry.origins, member, family, asns))),
         Edit::SetRules { member, rules } => {
             let change = set_rules(alloc, &registry.rules, member, rules.as_slice())?;
             Ok(RegistryChange::Rules(change))

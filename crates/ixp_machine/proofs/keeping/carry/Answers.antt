@@ -31,7 +31,7 @@ from_ascending-requires g c =
     let is : row ≡ get_or ks c.in-Some.at row = c.index_mut.ensures.value ∙ ap (λ (xs : List KeptOwner). get_or xs c.in-Some.at row) same in
     let key = key_kept c.carry_known-outcome.result c.args.number row now c.carry_known-outcome.ensures.row c.carry_known-outcome.ensures.no_row in
     let made : set c.into_rows-rows.result.items c.in-Some.at now ≡ put kept_owner_key now ks =
-        ap (λ (xs : List KeptOwner). set xs c.in-Some.at now) same ∙ set_is_put ks owner c.in-Some.at row up stands within is now key in
+    ap (λ (xs : List KeptOwner). set xs c.in-Some.at now) same ∙ set_is_put ks owner c.in-Some.at row up stands within is now key in
     ascends_now ks (set c.into_rows-rows.result.items c.in-Some.at now) now up made
 
 pub returns-clause-kept : goal.returns-clause-kept
@@ -47,6 +47,6 @@ returns-clause-kept g c =
     let is : row ≡ get_or ks c.in-Some.at row = c.index_mut.ensures.value ∙ ap (λ (xs : List KeptOwner). get_or xs c.in-Some.at row) same in
     let key = key_kept c.carry_known-outcome.result c.args.number row now c.carry_known-outcome.ensures.row c.carry_known-outcome.ensures.no_row in
     let made : c.from_ascending.result ≡ put kept_owner_key now ks =
-        c.from_ascending.ensures
-        ∙ (ap (λ (xs : List KeptOwner). set xs c.in-Some.at now) same ∙ set_is_put ks owner c.in-Some.at row up stands within is now key) in
+    c.from_ascending.ensures
+    ∙ (ap (λ (xs : List KeptOwner). set xs c.in-Some.at now) same ∙ set_is_put ks owner c.in-Some.at row up stands within is now key) in
     noted_now c.carry_known-outcome.result ks c.from_ascending.result owner c.args.number row now c.carry_known-outcome.ensures.row (of_owner ks owner c.in-Some.at row up stands within is) made

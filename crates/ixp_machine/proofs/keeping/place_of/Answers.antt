@@ -17,7 +17,7 @@ returns-in-Greater-clause-none c =
     let rows = c.args.rows.now in
     let above : order (kept_owner_key c.in-Some.row.now) k ≡ Greater = search rules in
     let here : place kept_owner_key k c.each.left.now ≡ Err 0 =
-        ap (place kept_owner_key k) c.in-Some.ensures.cases.0 ∙ place_greater kept_owner_key k [] c.in-Some.row.now c.in-Some.others.now above in
+    ap (place kept_owner_key k) c.in-Some.ensures.cases.0 ∙ place_greater kept_owner_key k [] c.in-Some.row.now c.in-Some.others.now above in
     sym (find_gap kept_owner_key k rows (c.each.before + 0) c.requires (sym (c.each.invariant.goes_on ∙ ap (onward c.each.before) here)))
 
 pub returns-clause-none : goal.returns-clause-none
