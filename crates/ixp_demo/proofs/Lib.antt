@@ -1,0 +1,4 @@
+pub mod Numbering
+pub mod Texts
+pub mod Places
+pub mod Validity
