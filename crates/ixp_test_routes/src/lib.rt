@@ -1,4 +1,5 @@
-//! Tests of what becomes of routes: their texts, ROAs, filters that run, fates by the rows of a registry, merged sets.
+//! Tests of what becomes of routes: their texts, ROAs, filters that run, fates by the rows of a registry, merged sets
+//! and how many patterns they have.
 //!
 //! Filters and configurations are read from texts, registries from dumps (`samples.rt`). What is told is compared with cases
 //! worked out by hand from the standards and from the rules' sentences.
@@ -16,3 +17,5 @@ mod routes;
 mod samples;
 #[cfg(test)]
 mod sets;
+#[cfg(test)]
+mod sizes;
