@@ -1,4 +1,5 @@
 pub mod Registries
 pub mod Scripts
+pub mod Sizes
 pub mod States
 pub mod Tables

@@ -1,10 +1,12 @@
 -- Which rows a store has to drop and to set when a request is accepted.
-use Rattle.std.specs.Prelude.{◌+◌, ℕ, nat_lt, List, [], ◌∷◌, ◌++◌, length, map, decimal, Option, Some, None, if◌then◌else◌}
+use Rattle.std.specs.Prelude.{◌+◌, ◌≤◌, ℕ, nat_lt, List, [], ◌∷◌, ◌++◌, length, map, decimal, Option, Some, None, if◌then◌else◌}
+use Rattle.ixp_io.specs.declared.keeper.Change.{Change}
 use Rattle.ixp_num.specs.AddressForms.{version_of}
 use Rattle.ixp_tables.specs.Tables.{find, if_there}
 use Rattle.ixp_registry.specs.declared.lists.PublicLists.{PublicLists}
 use Rattle.ixp_registry.specs.declared.network.Interface.{Interface}
 use Rattle.ixp_registry.specs.declared.registry.Registry.{Registry}
+use Rattle.ixp_registry.specs.declared.rules.RuleList.{RuleList}
 use Rattle.ixp_registry.specs.Keys.{member_key, contact_key, api_key_key, switch_key, port_key, vlan_key, interface_key, router_key, irr_key, origins_key, rules_key}
 use Rattle.ixp_registry.specs.Registries.{bare}
 use Rattle.ixp_edits.specs.declared.edit.PublicList.{PublicList}
@@ -21,7 +23,7 @@ use Rattle.ixp_steps.specs.declared.state.State.{State}
 use Rattle.ixp_steps.specs.Kept.{kept_of}
 use Rattle.ixp_machine.specs.declared.preparing.Prepared.{Prepared}
 use Rattle.ixp_stored.specs.Names.{Entry, line_row, irr_row, origins_row, floor_name, floor_rows, kept_row, count_row}
-use Rattle.ixp_stored.specs.States.{address_rows, rule_rows}
+use Rattle.ixp_stored.specs.States.{address_rows, rule_rows, drop_row, set_row}
 
 -- the row that a change of a table replaces or takes out, and the one that it puts in
 abbrev pub old_row : {R K : Type 0} → (R → List ℕ) → (K → List ℕ) → TableChange R K → List R → Option R
@@ -120,3 +122,23 @@ abbrev pub new_rows : State → Prepared → List Entry
 new_rows s p =
     new_entries p.change ++ (new_floor p.kept (kept_of s.kept p.owner)
     ++ (map (kept_row p.owner) (added_numbers p.kept (kept_of s.kept p.owner)) ++ count_row (s.accepted + 1) ∷ []))
+
+-- the batch of a request, to the last change: what goes is dropped, and then what comes is set
+abbrev pub batch : State → Prepared → List Change
+batch s p = map drop_row (old_rows s p) ++ map set_row (new_rows s p)
+
+-- How many rows of a store a change of a registry is about, at most: those of the row that it replaces or takes out, and of the one that
+-- it puts in. An interface has three of them, with its addresses; a member's rules and a public list have one for each item; all else is one.
+abbrev pub rules_in : Option RuleList → ℕ
+rules_in o = if_there o 0 (λ l. length l.rules)
+
+abbrev pub rows_about : Registry → RegistryChange → ℕ
+rows_about r (of.Interfaces c) = 6
+rows_about r (of.Rules c) = rules_in (old_row rules_key (λ k. k ∷ []) c r.rules) + rules_in (new_row c)
+rows_about r (of.Public list) = length (old_public r.public list) + length (new_public list)
+rows_about r c = 2
+
+-- A batch has no more changes than those, whatever else the store holds, and six: the count is dropped and set, the number of the request
+-- is set and one that it puts out dropped, and the owner's floor is dropped and set.
+abbrev pub IsShort : State → Prepared → List Change → Type 0
+IsShort s p cs = length cs ≤ rows_about s.registry p.change + 6

@@ -1,6 +1,6 @@
 //! The batch of a request.
 ghost use Rattle.std.specs.Prelude.{◌≡◌, ◌++◌, ◌<◌, ◌-◌, ◌^◌, OnOk, IfOk, map};
-ghost use Rattle.ixp_batches.specs.Batches.{old_rows, new_rows};
+ghost use Rattle.ixp_batches.specs.Batches.{old_rows, new_rows, batch as batch_for, IsShort};
 ghost use Rattle.ixp_io.specs.Tables.{changed};
 ghost use Rattle.ixp_machine.specs.Prepared.{prepared as becomes, IsFresh};
 ghost use Rattle.ixp_steps.specs.States.{ValidState};
@@ -43,8 +43,9 @@ fn set_rows(
     Ok(())
 }
 
-/// The batch that turns the rows of a state into those of the state after a request that was made ready.
-#[tactic(auto, using(crate::proofs::States::batch_makes))]
+/// The batch that turns the rows of a state into those of the state after a request that was made ready. It has the rows that the
+/// request is about and no others, however many the store has.
+#[tactic(auto, using(crate::proofs::States::batch_makes, crate::proofs::Sizes::batch_is_short))]
 pub fn batch_of(
     alloc: Global,
     state: &State,
@@ -54,7 +55,9 @@ pub fn batch_of(
     requires next { ValidState (becomes state.now prepared.now) }
     requires fresh { IsFresh state.now prepared.now }
     requires room { state.now.accepted < 2 ^ 64 - 1 }
-    ensures { IfOk result (λ batch. changed (tables state.now) batch.items ≡ tables (becomes state.now prepared.now)) }
+    ensures makes { IfOk result (λ batch. changed (tables state.now) batch.items ≡ tables (becomes state.now prepared.now)) }
+    ensures changes { IfOk result (λ batch. batch.items ≡ batch_for state.now prepared.now) }
+    ensures short { IfOk result (λ batch. IsShort state.now prepared.now batch.items) }
 {
     let mut batch = Vec::new(alloc);
     clear_rows(alloc, state, prepared, &mut batch)?;

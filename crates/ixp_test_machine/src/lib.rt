@@ -11,6 +11,8 @@ mod changes;
 #[cfg(test)]
 mod details;
 #[cfg(test)]
+mod limits;
+#[cfg(test)]
 mod lists;
 #[cfg(test)]
 mod refused;
