@@ -1,13 +1,15 @@
 -- A run on an input that its question answers, and one of `restore` on a dump.
-use Rattle.std.proofs.Common.{◌≡◌, ◌≢◌, ◌<◌, ◌≤◌, ℕ, List, ◌++◌, length, append-nil, Option, Some, None, Ok, Err, inl, inr, sym, ap, ◌∙◌, subst, arith}
+use Rattle.std.proofs.Common.{◌≡◌, ◌≢◌, ◌<◌, ◌≤◌, ℕ, List, ◌++◌, length, append-nil, Option, Some, None, Ok, Err, inl, inr, refl, sym, ap, ◌∙◌, subst, arith}
 use Rattle.ixp_io.specs.Told.{Moves, IsDone, Takes, Told, WhereTold}
-use Rattle.ixp_cli.specs.declared.command.Command.TheVariants.{Ask, Restore}
+use Rattle.ixp_ixf.specs.Views.{ixf_text_of}
+use Rattle.ixp_cli.specs.declared.command.Command.TheVariants.{Ask, Ixf, Restore}
+use Rattle.ixp_cli.specs.declared.command.Question.TheVariants.{Export}
 use Rattle.ixp_cli.specs.declared.command.Question.{Question}
 use Rattle.ixp_cli.specs.declared.end.End.{End}
-use Rattle.ixp_cli.specs.declared.end.End.TheVariants.{Done, Usage, BadInput, ReadFault, WriteFault, KeeperFault, NoMemory, UnknownRouter, NotEmpty}
+use Rattle.ixp_cli.specs.declared.end.End.TheVariants.{Done, Usage, BadInput, ReadFault, WriteFault, KeeperFault, NoMemory, UnknownRouter, NotEmpty, Damaged, OldVersion}
 use Rattle.ixp_cli.specs.Checks.{IsNoDump}
 use Rattle.ixp_cli.specs.Restores.{Fills, IsDumpOf, Restores}
-use Rattle.ixp_cli.specs.Runs.{Flow, Outside, Answers, QuestionEnds, IsAnswered, AsksInVain, IsRefused, IsTold, IsRestored, ReadsAll, ReadsDump, RestoreEnds, Runs, input_limit}
+use Rattle.ixp_cli.specs.Runs.{Flow, Outside, Answers, ExportEnds, QuestionEnds, IsAnswered, AsksInVain, IsRefused, IsTold, IsRestored, ReadsAll, ReadsDump, RestoreEnds, Runs, input_limit}
 use Rattle.ixp_cli.proofs.OneAnswer.{one_written, not_refused, not_in_vain, same_registry, is_dump}
 use Rattle.ixp_registry.specs.declared.registry.Registry.{Registry}
 use Rattle.std.specs.FinMap.{empty}
@@ -51,6 +53,8 @@ module _ (question : Question) (left answer : List ℕ) (input input' output out
   answered KeeperFault e = absurd e
   answered NoMemory e = tt
   answered NotEmpty e = absurd e
+  answered (Damaged what) e = absurd e
+  answered (OldVersion found) e = absurd e
   answered (UnknownRouter router) (text, all, vain, same) = not_in_vain question left answer router answers (subst (λ t. AsksInVain question t router) (whole text all) vain)
 
 pub answered_run :
@@ -58,6 +62,23 @@ pub answered_run :
     → Runs (Some (Ask question)) before after status → (end : End) × IsAnswered answer before.input after.input before.output after.output end × IsTold end before.errors after.errors status
 answered_run question before after status left answer is short answers runs =
     (runs.end, answered question left answer before.input after.input before.output after.output is short answers runs.end runs.ends.0, runs.told)
+
+pub exported_run :
+    (r : Registry) (before after : Outside) (status : Option ℕ) (left : List ℕ) → before.input.bytes ≡ Some left → length left ≤ input_limit → IsDumpOf left r
+    → Runs (Some Ixf) before after status
+    → (end : End) × (second : ℕ) × Told before.second after.second (λ earlier last. last ≡ second) × IsAnswered (ixf_text_of r second) before.input after.input before.output after.output end
+    × IsTold end before.errors after.errors status
+exported_run r before after status left is short dump runs = by_end runs.ends.0 where
+  by_end : ExportEnds before.input after.input before.output after.output before.second after.second runs.end
+      → (end : End) × (second : ℕ) × Told before.second after.second (λ earlier last. last ≡ second) × IsAnswered (ixf_text_of r second) before.input after.input before.output after.output end
+      × IsTold end before.errors after.errors status
+  by_end (second, gave, ends) = (
+    runs.end,
+    second,
+    gave,
+    answered (Export second) left (ixf_text_of r second) before.input after.input before.output after.output is short (record { registry = r; is_dump = dump; is_output = refl }) runs.end ends,
+    runs.told,
+  )
 
 module _ (r : Registry) (left : List ℕ) (before after : Outside) (is : before.input.bytes ≡ Some left) (dump : IsDumpOf left r) (clear : before.store.rows ≡ Some empty) where
   same_dump : (s : Registry) → ReadsDump before.input after.input s → s ≡ r
@@ -83,9 +104,11 @@ module _ (r : Registry) (left : List ℕ) (before after : Outside) (is : before.
   restored NoMemory short e = tt
   restored (UnknownRouter router) short e = absurd e
   restored NotEmpty short (s, reads, filled, out, kept) = none_filled before.store.rows clear filled
+  restored (Damaged what) short e = absurd e
+  restored (OldVersion found) short e = absurd e
 
 pub restored_run :
     (r : Registry) (before after : Outside) (status : Option ℕ) (left : List ℕ) → before.input.bytes ≡ Some left → length left ≤ input_limit → IsDumpOf left r → before.store.rows ≡ Some empty
     → Runs (Some Restore) before after status → (end : End) × IsRestored r before after end × IsTold end before.errors after.errors status
 restored_run r before after status left is short dump clear runs =
-    (runs.end, restored r left before after is dump clear runs.end short runs.ends, runs.told)
+    (runs.end, restored r left before after is dump clear runs.end short runs.ends.0, runs.told)

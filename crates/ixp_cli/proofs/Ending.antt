@@ -1,40 +1,58 @@
 -- How a run ends, and its status.
-use Rattle.std.proofs.Common.{◌≡◌, ◌↔◌, ℕ, Option, Some, None, refl, sym, ap, subst}
+use Rattle.std.proofs.Common.{◌≡◌, ◌↔◌, inl, inr, ℕ, true, false, Option, Some, None, refl, sym, ap, ◌∙◌, subst}
+use Rattle.ixp_load.specs.declared.fault.LoadFault.{LoadFault}
+use Rattle.ixp_load.specs.declared.fault.LoadFault.TheVariants as load
+use Rattle.ixp_cli.specs.Unloaded.{Unloaded}
 use Rattle.ixp_cli.specs.declared.command.Command.{Command}
-use Rattle.ixp_cli.specs.declared.command.Command.TheVariants.{Ask, Restore}
+use Rattle.ixp_cli.specs.declared.command.Command.TheVariants.{Ask, Ixf, Restore, Dump}
 use Rattle.ixp_cli.specs.declared.end.End.{End}
-use Rattle.ixp_cli.specs.declared.end.End.TheVariants.{Done, Usage, BadInput, ReadFault, WriteFault, KeeperFault, NoMemory, UnknownRouter, NotEmpty}
+use Rattle.ixp_cli.specs.declared.end.End.TheVariants.{Done, Usage, BadInput, ReadFault, WriteFault, KeeperFault, NoMemory, UnknownRouter, NotEmpty, Damaged, OldVersion}
 use Rattle.ixp_cli.specs.Restores.{Store}
-use Rattle.ixp_cli.specs.Runs.{Flow, Outside, Ends, IsStatus, Runs, Tells, status_of, error_text}
+use Rattle.ixp_cli.specs.Runs.{Flow, Outside, Ends, NotLoaded, IsStatus, Runs, Tells, status_of, error_text}
 
-pub a_run : (command : Option Command) (before after : Outside) (end : End) (status : Option ℕ) → Ends command before.input after.input before.output after.output before.store after.store end
-    → status ≡ Some (status_of end) → Tells before.errors after.errors (error_text end) → after.second ≡ before.second
-    → Runs command before after status
-a_run command before after end status ends is line second = record { end = end; ends = ends; told = (is, line); clock = second }
+pub a_run : (command : Option Command) (before after : Outside) (end : End) (status : Option ℕ)
+    → Ends command before.input after.input before.output after.output before.store after.store before.second after.second end
+    → status ≡ Some (status_of end) → Tells before.errors after.errors (error_text end) → Runs command before after status
+a_run command before after end status ends is line = record { end = end; ends = ends; told = (is, line) }
+
+-- a store that can't be loaded is no usage
+never_usage : (fault : LoadFault) → Unloaded fault Usage → ⊥
+never_usage load.KeeperFault e = let bad : ⊥ = cc in bad
+never_usage (load.Damaged name damage) (inl e) = let bad : ⊥ = cc in bad
+never_usage (load.Damaged name damage) (inr e) = let bad : ⊥ = cc in bad
+never_usage (load.OldVersion found) e = let bad : ⊥ = cc in bad
+never_usage load.NoMemory e = let bad : ⊥ = cc in bad
 
 -- a command ends otherwise than as usage
-not_usage : (c : Command) (i j k l : Flow) (s u : Store) → Ends (Some c) i j k l s u Usage → ⊥
-not_usage (Ask question) i j k l s u e = e.0
-not_usage Restore i j k l s u e = e
+no_usage : (i j k l : Flow) (s u : Store) → NotLoaded i j k l s u Usage → ⊥
+no_usage i j k l s u (input, output, rows, (fault, is, cause)) = never_usage fault is
+
+not_usage : (c : Command) (i j k l : Flow) (s u : Store) (g h : Option ℕ) → Ends (Some c) i j k l s u g h Usage → ⊥
+not_usage (Ask question) i j k l s u g h (e, kept, clock) = e
+not_usage Ixf i j k l s u g h ((second, gave, e), kept) = e
+not_usage Restore i j k l s u g h (e, clock) = e
+not_usage Dump i j k l s u g h (e, clock) = no_usage i j k l s u e
 
 other_status : (n : ℕ) (c : Command) → (◌≡◌ {A = Option ℕ} (Some n) (Some 1) → ⊥) → (◌≡◌ {A = Option ℕ} (Some n) (Some 1)) ↔ (◌≡◌ {A = Option Command} (Some c) None)
 other_status n c never = ((λ e. absurd (never e)), λ e. absurd cc)
 
-of_end : (o : Option Command) (i j k l : Flow) (s u : Store) (end : End) → Ends o i j k l s u end → (◌≡◌ {A = Option ℕ} (Some (status_of end)) (Some 1)) ↔ (o ≡ None)
-of_end None i j k l s u end (is, input, output, store) = ((λ _. refl), λ _. ap (λ e. Some (status_of e)) is)
-of_end (Some c) i j k l s u Done e = other_status 0 c (λ h. cc)
-of_end (Some c) i j k l s u Usage e = absurd (not_usage c i j k l s u e)
-of_end (Some c) i j k l s u (BadInput cause) e = other_status 2 c (λ h. cc)
-of_end (Some c) i j k l s u ReadFault e = other_status 3 c (λ h. cc)
-of_end (Some c) i j k l s u WriteFault e = other_status 4 c (λ h. cc)
-of_end (Some c) i j k l s u KeeperFault e = other_status 5 c (λ h. cc)
-of_end (Some c) i j k l s u NoMemory e = other_status 8 c (λ h. cc)
-of_end (Some c) i j k l s u (UnknownRouter router) e = other_status 9 c (λ h. cc)
-of_end (Some c) i j k l s u NotEmpty e = other_status 11 c (λ h. cc)
+of_end : (o : Option Command) (i j k l : Flow) (s u : Store) (g h : Option ℕ) (end : End) → Ends o i j k l s u g h end → (◌≡◌ {A = Option ℕ} (Some (status_of end)) (Some 1)) ↔ (o ≡ None)
+of_end None i j k l s u g h end (is, input, output, store, clock) = ((λ _. refl), λ _. ap (λ e. Some (status_of e)) is)
+of_end (Some c) i j k l s u g h Done e = other_status 0 c (λ h. cc)
+of_end (Some c) i j k l s u g h Usage e = absurd (not_usage c i j k l s u g h e)
+of_end (Some c) i j k l s u g h (BadInput cause) e = other_status 2 c (λ h. cc)
+of_end (Some c) i j k l s u g h ReadFault e = other_status 3 c (λ h. cc)
+of_end (Some c) i j k l s u g h WriteFault e = other_status 4 c (λ h. cc)
+of_end (Some c) i j k l s u g h KeeperFault e = other_status 5 c (λ h. cc)
+of_end (Some c) i j k l s u g h NoMemory e = other_status 8 c (λ h. cc)
+of_end (Some c) i j k l s u g h (UnknownRouter router) e = other_status 9 c (λ h. cc)
+of_end (Some c) i j k l s u g h NotEmpty e = other_status 11 c (λ h. cc)
+of_end (Some c) i j k l s u g h (Damaged what) e = other_status 6 c (λ h. cc)
+of_end (Some c) i j k l s u g h (OldVersion found) e = other_status 10 c (λ h. cc)
 
 pub usage_is :
-    (o : Option Command) (i j k l : Flow) (s u : Store) (end : End) (status : Option ℕ) → Ends o i j k l s u end → status ≡ Some (status_of end) → (status ≡ Some 1) ↔ (o ≡ None)
-usage_is o i j k l s u end status e is = subst (λ (x : Option ℕ). (x ≡ Some 1) ↔ (o ≡ None)) (sym is) (of_end o i j k l s u end e)
+    (o : Option Command) (i j k l : Flow) (s u : Store) (g h : Option ℕ) (end : End) (status : Option ℕ) → Ends o i j k l s u g h end → status ≡ Some (status_of end) → (status ≡ Some 1) ↔ (o ≡ None)
+usage_is o i j k l s u g h end status e is = subst (λ (x : Option ℕ). (x ≡ Some 1) ↔ (o ≡ None)) (sym is) (of_end o i j k l s u g h end e)
 
 lawful : (end : End) → IsStatus (Some (status_of end))
 lawful Done = refl
@@ -46,6 +64,8 @@ lawful KeeperFault = refl
 lawful NoMemory = refl
 lawful (UnknownRouter router) = refl
 lawful NotEmpty = refl
+lawful (Damaged what) = refl
+lawful (OldVersion found) = refl
 
 pub is_status : (end : End) (status : Option ℕ) → status ≡ Some (status_of end) → IsStatus status
 is_status end status is = subst IsStatus (sym is) (lawful end)

@@ -32,7 +32,7 @@ use Rattle.ixp_cli.specs.declared.end.NoAnswer.{NoAnswer}
 use Rattle.ixp_cli.specs.declared.end.NoAnswer.TheVariants.{Bad, Unknown, NoMemory}
 use Rattle.ixp_cli.specs.Checks.{IsNoDump}
 use Rattle.ixp_cli.specs.Fates.{Fates, HasNoRouter, HasRegistry, HasRoute, IsAstray, IsFate, IsNoFate, IsNoRoute, IsOfSession, HasFate}
-use Rattle.ixp_cli.specs.Generates.{IsTextOf}
+use Rattle.ixp_texts.specs.Texts.{IsTextOf}
 use Rattle.ixp_cli.specs.Inputs.{dump_part}
 use Rattle.ixp_cli.specs.Runs.{Refused, RefusedOr, no_answer}
 

@@ -9,3 +9,4 @@ pub mod OneAnswer
 pub mod OneOutput
 pub mod Refusals
 pub mod Telling
+pub mod Loading

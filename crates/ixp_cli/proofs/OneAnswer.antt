@@ -1,6 +1,7 @@
 -- An input has one answer: one output, or it is refused.
 use Rattle.std.proofs.Common.{◌≡◌, ◌≢◌, inl, inr, ◌++◌, ℕ, List, Option, Some, None, Result, Ok, Err, sym, ap, ◌∙◌, subst}
 use Rattle.ixp_causes.specs.declared.Cause.{Cause}
+use Rattle.ixp_ixf.specs.Views.{ixf_text_of}
 use Rattle.ixp_lang.specs.Texts.{fate_text}
 use Rattle.ixp_lang.specs.Trees.{ItemTree}
 use Rattle.ixp_policy.specs.Fates.{fate_of}
@@ -31,9 +32,10 @@ use Rattle.ixp_trial.specs.Trials.{TrialAnswer}
 use Rattle.ixp_trial.proofs.OneSessionRoute.{one_session_route}
 use Rattle.ixp_trial.proofs.OneTrial.{one_text, one_trial}
 use Rattle.ixp_cli.specs.declared.command.Question.{Question}
-use Rattle.ixp_cli.specs.declared.command.Question.TheVariants.{Check, Eval, Fate, Generate}
+use Rattle.ixp_cli.specs.declared.command.Question.TheVariants.{Check, Eval, Fate, Generate, Export}
 use Rattle.ixp_cli.specs.Checks.{Checks, IsNoDump, ok_text}
 use Rattle.ixp_cli.specs.Evals.{Evaluates, IsConfiguration, IsNoEval, IsNoTrial, IsRefused, IsTaken}
+use Rattle.ixp_cli.specs.Exports.{Exports}
 use Rattle.ixp_cli.specs.Fates.{Fates, HasNoRouter, HasRoute, IsFate, IsNoFate, IsStray}
 use Rattle.ixp_cli.specs.Generates.{Generates, IsUnknown}
 use Rattle.ixp_cli.specs.Inputs.{dump_part}
@@ -77,6 +79,9 @@ is_router r handle q here away = let both : ◌≡◌ {A = Option Router} (Some 
 
 one_check : (t x y : List ℕ) → Checks t x → Checks t y → x ≡ y
 one_check t x y a b = a.is_output ∙ ap (λ r. ok_text (rows_count (rows_of r))) (same_registry t a.registry b.registry a.is_dump b.is_dump) ∙ sym b.is_output
+
+one_export : (n : ℕ) (t x y : List ℕ) → Exports n t x → Exports n t y → x ≡ y
+one_export n t x y a b = a.is_output ∙ ap (λ r. ixf_text_of r n) (same_registry t a.registry b.registry a.is_dump b.is_dump) ∙ sym b.is_output
 
 -- texts of routers
 
@@ -175,15 +180,18 @@ one_written Check input x y a b = one_check input x y a b
 one_written Eval input x y a b = one_output input x y a b
 one_written Fate input x y a b = one_told input x y a b
 one_written (Generate handle) input x y a b = one_generated handle input x y a b
+one_written (Export second) input x y a b = one_export second input x y a b
 
 pub not_refused : (question : Question) (input x : List ℕ) (c : Cause) → Answers question input (Ok x) → ¬ (Answers question input (Err c))
 not_refused Check input x c a none = is_dump input a.registry c a.is_dump none
 not_refused Eval input x c a none = is_evaluated input x c a none
 not_refused Fate input x c a none = is_fated input x c a none
 not_refused (Generate handle) input x c a none = is_dump input a.registry c a.is_dump none
+not_refused (Export second) input x c a none = is_dump input a.registry c a.is_dump none
 
 pub not_in_vain : (question : Question) (input x handle : List ℕ) → Answers question input (Ok x) → ¬ (AsksInVain question input handle)
 not_in_vain Check input x handle a vain = vain
 not_in_vain Eval input x handle a vain = vain
 not_in_vain Fate input x handle a vain = has_router input x handle a vain
 not_in_vain (Generate router) input x handle a vain = is_generated router input x a vain.1
+not_in_vain (Export second) input x handle a vain = vain

@@ -1,5 +1,5 @@
 -- What `generate` makes of an input.
-use Rattle.std.specs.Prelude.{◌≡◌, ℕ, List, Option, None, Some, Ok}
+use Rattle.std.specs.Prelude.{◌≡◌, ℕ, List, None, Some, Ok}
 use Rattle.ixp_tables.specs.Tables.{find}
 use Rattle.ixp_registry.specs.declared.registry.Registry.{Registry}
 use Rattle.ixp_registry.specs.declared.router.Router.{Router}
@@ -22,8 +22,3 @@ pub record IsUnknown (handle input : List ℕ) : Type 0 where
   pub registry : Registry
   pub is_dump : RegistryAnswer (version_in input) input (Ok registry)
   pub is_away : find router_key handle registry.routers ≡ None
-
--- the text of the router with the handle, or nothing where there is no such router
-abbrev pub IsTextOf : Registry → List ℕ → Option (List ℕ) → Type 0
-IsTextOf registry handle (Some text) = (router : Router) × (find router_key handle registry.routers ≡ Some router) × (text ≡ Gen registry router)
-IsTextOf registry handle None = find router_key handle registry.routers ≡ None

@@ -1,7 +1,9 @@
 pub mod Checks
 pub mod Evals
+pub mod Exports
 pub mod Fates
 pub mod Generates
 pub mod Inputs
 pub mod Restores
 pub mod Runs
+pub mod Unloaded

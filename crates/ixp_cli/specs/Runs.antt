@@ -1,35 +1,46 @@
 -- What a run of the program does.
-use Rattle.std.specs.Prelude.{◌≡◌, ◌<◌, ◌≤◌, ◌⊎◌, ◌+◌, ℕ, ◌==◌, ◌&&◌, ◌||◌, List, [], ◌∷◌, ◌++◌, length, Option, Some, None, Result, Ok, Err, codes, IsTrue, if◌then◌else◌}
+use Rattle.std.specs.Prelude.{◌≡◌, ◌<◌, ◌≤◌, ◌⊎◌, ◌+◌, ℕ, ◌==◌, ◌&&◌, ◌||◌, Bool, true, false, List, [], ◌∷◌, ◌++◌, length, Option, Some, None, Result, Ok, Err, codes, decimal, IsTrue, if◌then◌else◌}
 use Rattle.ixp_causes.specs.declared.Cause.{Cause}
 use Rattle.ixp_causes.specs.declared.Code.TheVariants.{U5}
 use Rattle.ixp_causes.specs.declared.Place.TheVariants.{Byte}
 use Rattle.ixp_causes.specs.Causes.{cause_text}
 use Rattle.ixp_io.specs.Faults.{Rose}
-use Rattle.ixp_io.specs.Told.{Told, Moves, MovesUpTo, IsDone, Takes, TakesPart}
+use Rattle.ixp_io.specs.Told.{Told, WhereTold, Moves, MovesUpTo, IsDone, Takes, TakesPart}
 use Rattle.ixp_registry.specs.Alphabets.{is_handle}
 use Rattle.ixp_registry.specs.declared.registry.Registry.{Registry}
 use Rattle.ixp_tables.specs.Tables.{same}
 use Rattle.ixp_cli.specs.declared.command.Command.{Command}
-use Rattle.ixp_cli.specs.declared.command.Command.TheVariants.{Ask, Restore}
+use Rattle.ixp_cli.specs.declared.command.Command.TheVariants.{Ask, Ixf, Restore, Dump}
 use Rattle.ixp_cli.specs.declared.restore.NoDump.{NoDump}
 use Rattle.ixp_cli.specs.declared.restore.NoDump.TheVariants as no
 use Rattle.ixp_cli.specs.declared.command.Question.{Question}
-use Rattle.ixp_cli.specs.declared.command.Question.TheVariants.{Check, Eval, Fate, Generate}
+use Rattle.ixp_cli.specs.declared.command.Question.TheVariants.{Check, Eval, Fate, Generate, Export}
 use Rattle.ixp_cli.specs.declared.end.End.{End}
-use Rattle.ixp_cli.specs.declared.end.End.TheVariants.{Done, Usage, BadInput, ReadFault, WriteFault, KeeperFault, NoMemory, UnknownRouter, NotEmpty}
+use Rattle.ixp_cli.specs.declared.end.End.TheVariants.{Done, Usage, BadInput, ReadFault, WriteFault, KeeperFault, NoMemory, UnknownRouter, NotEmpty, Damaged, OldVersion}
 use Rattle.ixp_cli.specs.declared.end.NoAnswer.{NoAnswer}
 use Rattle.ixp_cli.specs.declared.end.NoAnswer.TheVariants as answer
 use Rattle.ixp_cli.specs.Checks.{Checks, IsNoDump}
 use Rattle.ixp_cli.specs.Evals.{Evaluates, IsNoEval}
+use Rattle.ixp_cli.specs.Exports.{Exports}
 use Rattle.ixp_cli.specs.Fates.{Fates, HasNoRouter, IsNoFate}
 use Rattle.ixp_cli.specs.Generates.{Generates, IsUnknown}
+use Rattle.ixp_lines.specs.declared.version.Version.TheVariants.{Two}
+use Rattle.ixp_load.specs.Answers.{IsStoreOf}
+use Rattle.ixp_load.specs.declared.fault.LoadFault.{LoadFault}
+use Rattle.ixp_load.specs.declared.fault.LoadFault.TheVariants.{KeeperFault as StoreFault}
+use Rattle.ixp_registry.specs.Registries.{rows_of}
+use Rattle.ixp_rows.specs.Texts.{dump_text}
+use Rattle.ixp_steps.specs.declared.state.State.{State}
+use Rattle.ixp_steps.specs.States.{ValidState}
 use Rattle.ixp_cli.specs.Restores.{Store, IsDumpOf, Fills, IsFilled, Restores}
+use Rattle.ixp_cli.specs.Unloaded.{Unloaded}
 
 -- the command that a word is
 abbrev pub command_by : List ℕ → Option Command
 command_by word =
     if same word (codes "check") then Some (Ask Check) else if same word (codes "eval") then Some (Ask Eval) else if same word (codes "fate") then Some (Ask Fate)
-    else if same word (codes "restore") then Some Restore else None
+    else if same word (codes "ixf") then Some Ixf else if same word (codes "restore") then Some Restore else if same word (codes "dump") then Some Dump
+    else None
 
 -- the command that a word and a handle are
 abbrev pub command_with : List ℕ → List ℕ → Option Command
@@ -42,6 +53,11 @@ command_in (word ∷ []) = command_by word
 command_in (word ∷ handle ∷ []) = command_with word handle
 command_in (word ∷ other ∷ third ∷ words) = None
 
+-- the command asks a question
+abbrev pub IsQuestion : Option Command → Type 0
+IsQuestion (Some (Ask question)) = Unit {0}
+IsQuestion command = ⊥
+
 -- what a question answers of an input: what it writes, or why it refuses it
 abbrev pub Answers : Question → List ℕ → Result (List ℕ) Cause → Type 0
 Answers Check input (Ok output) = Checks input output
@@ -52,6 +68,8 @@ Answers Fate input (Ok output) = Fates input output
 Answers Fate input (Err cause) = IsNoFate input cause
 Answers (Generate handle) input (Ok output) = Generates handle input output
 Answers (Generate handle) input (Err cause) = IsNoDump input cause
+Answers (Export second) input (Ok output) = Exports second input output
+Answers (Export second) input (Err cause) = IsNoDump input cause
 
 -- a question asks for the router with this handle, and the input's registry has none
 abbrev pub AsksInVain : Question → List ℕ → List ℕ → Type 0
@@ -59,6 +77,7 @@ AsksInVain (Generate handle) input router = (router ≡ handle) × IsUnknown han
 AsksInVain Check input router = ⊥
 AsksInVain Eval input router = ⊥
 AsksInVain Fate input router = HasNoRouter input router
+AsksInVain (Export second) input router = ⊥
 
 -- there is such a cause, or memory ran out
 abbrev pub Refused : (Cause → Type 0) → NoAnswer → Type 0
@@ -88,6 +107,8 @@ status_of KeeperFault = 5
 status_of NoMemory = 8
 status_of (UnknownRouter router) = 9
 status_of NotEmpty = 11
+status_of (Damaged what) = 6
+status_of (OldVersion found) = 10
 
 -- the line that tells of a run that ends so
 abbrev pub error_text : End → List ℕ
@@ -100,6 +121,8 @@ error_text KeeperFault = codes "ixpm: keeper fault\n"
 error_text NoMemory = codes "ixpm: no memory\n"
 error_text (UnknownRouter router) = codes "ixpm: unknown router " ++ (router ++ 10 ∷ [])
 error_text NotEmpty = codes "ixpm: store not empty\n"
+error_text (Damaged what) = codes "ixpm: damaged " ++ (what ++ 10 ∷ [])
+error_text (OldVersion found) = codes "ixpm: old store " ++ (decimal found ++ 10 ∷ [])
 
 -- what a source or a sink tells at a moment: the bytes that are left, or those that were written, and how many calls failed
 pub record Flow : Type 0 where
@@ -161,6 +184,8 @@ QuestionEnds question input input' output output' NoMemory = ReadsSome input inp
 QuestionEnds question input input' output output' (UnknownRouter router) =
     (read : List ℕ) × ReadsAll input input' read × AsksInVain question read router × (output' ≡ output)
 QuestionEnds question input input' output output' NotEmpty = ⊥
+QuestionEnds question input input' output output' (Damaged what) = ⊥
+QuestionEnds question input input' output output' (OldVersion found) = ⊥
 
 -- why no dump was read: the input is refused, or a read failed, or memory ran out
 abbrev pub NotRead : Flow → Flow → NoDump → Type 0
@@ -187,12 +212,44 @@ RestoreEnds input input' output output' store store' NoMemory = ReadsSome input 
 RestoreEnds input input' output output' store store' (UnknownRouter router) = ⊥
 RestoreEnds input input' output output' store store' NotEmpty =
     (r : Registry) × ReadsDump input input' r × IsFilled store × (output' ≡ output) × (store'.rows ≡ store.rows)
+RestoreEnds input input' output output' store store' (Damaged what) = ⊥
+RestoreEnds input input' output output' store store' (OldVersion found) = ⊥
 
--- How a run ends. Words that are no command end as usage, with nothing read or written. A question leaves the keeper alone.
-abbrev pub Ends : Option Command → Flow → Flow → Flow → Flow → Store → Store → End → Type 0
-Ends None input input' output output' store store' end = (end ≡ Usage) × (input' ≡ input) × (output' ≡ output) × (store' ≡ store)
-Ends (Some (Ask question)) input input' output output' store store' end = QuestionEnds question input input' output output' end × (store' ≡ store)
-Ends (Some Restore) input input' output output' store store' end = RestoreEnds input input' output output' store store' end
+-- The store couldn't be loaded: nothing was read or written, and its rows are as they were. A fault of the store came in this run.
+abbrev pub NotLoaded : Flow → Flow → Flow → Flow → Store → Store → End → Type 0
+NotLoaded input input' output output' store store' end =
+    (input' ≡ input) × (output' ≡ output) × (store'.rows ≡ store.rows)
+    × ((fault : LoadFault) × Unloaded fault end × (fault ≡ StoreFault → Rose store.faults store'.faults))
+
+-- the store has the rows of this valid state
+abbrev pub Holds : Store → State → Type 0
+Holds store s = ValidState s × WhereTold store.rows (IsStoreOf s)
+
+-- How `dump` ends: it writes the dump of the store's registry, and reads nothing.
+abbrev pub DumpEnds : Flow → Flow → Flow → Flow → Store → Store → End → Type 0
+DumpEnds input input' output output' store store' Done =
+    (s : State) × Holds store s × (input' ≡ input) × (store'.rows ≡ store.rows) × Takes output.bytes output'.bytes (dump_text Two (rows_of s.registry))
+DumpEnds input input' output output' store store' WriteFault =
+    (s : State) × Holds store s × (input' ≡ input) × (store'.rows ≡ store.rows)
+    × TakesPart output.bytes output'.bytes (dump_text Two (rows_of s.registry)) × Rose output.faults output'.faults
+DumpEnds input input' output output' store store' NoMemory = (input' ≡ input) × (output' ≡ output) × (store'.rows ≡ store.rows)
+DumpEnds input input' output output' store store' end = NotLoaded input input' output output' store store' end
+
+-- How `ixf` ends: it asks the clock, and then the question for the export at the second that the clock gave.
+abbrev pub ExportEnds : Flow → Flow → Flow → Flow → Option ℕ → Option ℕ → End → Type 0
+ExportEnds input input' output output' given given' end =
+    (second : ℕ) × Told given given' (λ before last. last ≡ second) × QuestionEnds (Export second) input input' output output' end
+
+-- How a run ends. Words that are no command end as usage, with nothing read or written. A question leaves the keeper alone, and `ixf` alone
+-- asks the clock, of which it is said what it gave last.
+abbrev pub Ends : Option Command → Flow → Flow → Flow → Flow → Store → Store → Option ℕ → Option ℕ → End → Type 0
+Ends None input input' output output' store store' given given' end =
+    (end ≡ Usage) × (input' ≡ input) × (output' ≡ output) × (store' ≡ store) × (given' ≡ given)
+Ends (Some (Ask question)) input input' output output' store store' given given' end =
+    QuestionEnds question input input' output output' end × (store' ≡ store) × (given' ≡ given)
+Ends (Some Ixf) input input' output output' store store' given given' end = ExportEnds input input' output output' given given' end × (store' ≡ store)
+Ends (Some Restore) input input' output output' store store' given given' end = RestoreEnds input input' output output' store store' end × (given' ≡ given)
+Ends (Some Dump) input input' output output' store store' given given' end = DumpEnds input input' output output' store store' end × (given' ≡ given)
 
 -- the errors took the line, or a first part of it, and a write failed
 abbrev pub Tells : Flow → Flow → List ℕ → Type 0
@@ -202,17 +259,23 @@ Tells before after line = Takes before.bytes after.bytes line ⊎ (TakesPart bef
 abbrev pub IsTold : End → Flow → Flow → Option ℕ → Type 0
 IsTold end before after status = (status ≡ Some (status_of end)) × Tells before after (error_text end)
 
--- A run of a command: it ends in one way, which its status says, and of which a line on the errors tells. No command uses the clock.
+-- A run of a command: it ends in one way, which its status says, and of which a line on the errors tells.
 pub record Runs (command : Option Command) (before after : Outside) (status : Option ℕ) : Type 0 where
   pub end : End
-  pub ends : Ends command before.input after.input before.output after.output before.store after.store end
+  pub ends : Ends command before.input after.input before.output after.output before.store after.store before.second after.second end
   pub told : IsTold end before.errors after.errors status
-  pub clock : after.second ≡ before.second
 
 -- the statuses that a run may have
 abbrev pub IsStatus : Option ℕ → Type 0
 IsStatus None = ⊥
-IsStatus (Some n) = IsTrue (n == 0 || n == 1 || n == 2 || n == 3 || n == 4 || n == 5 || n == 8 || n == 9 || n == 11)
+IsStatus (Some n) = IsTrue (n == 0 || n == 1 || n == 2 || n == 3 || n == 4 || n == 5 || n == 6 || n == 8 || n == 9 || n == 10 || n == 11)
+
+-- the command reads its input to its end before it answers
+abbrev pub reads_whole : Command → Bool
+reads_whole (Ask question) = true
+reads_whole Ixf = true
+reads_whole Restore = true
+reads_whole Dump = false
 
 -- how a run ends whose input is longer than the limit: it is refused as such, or a read failed, or memory ran out
 abbrev pub IsLongEnd : End → Type 0

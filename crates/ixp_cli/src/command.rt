@@ -3,11 +3,13 @@ ghost use Rattle.std.specs.Prelude.{◌≡◌, ◌↔◌, ◌≤◌, List, ℕ, 
 ghost use Rattle.ixp_cli.specs.declared.command.Command.TheVariants.{Ask};
 ghost use Rattle.ixp_cli.specs.declared.command.Question.TheVariants.{Generate as AskFor};
 ghost use Rattle.ixp_cli.specs.Restores.{Store};
-ghost use Rattle.ixp_cli.specs.Runs.{Answers, AsksInVain, Ends, Flow, IsStatus, Outside, QuestionEnds, RefusedOr, Runs, command_by, command_in, command_with, too_long};
+ghost use Rattle.ixp_cli.specs.Runs.{Answers, AsksInVain, Ends, Flow, IsQuestion, IsStatus, Outside, QuestionEnds, RefusedOr, Runs, command_by, command_in, command_with, too_long};
 
 use crate::check::check;
+use crate::dump::run_dump;
 use crate::end::{End, NoAnswer, report};
 use crate::eval::eval;
+use crate::export::export;
 use crate::fate::fate;
 use crate::generation::router_text;
 use crate::restore::run_restore;
@@ -28,14 +30,20 @@ pub enum Question {
     Fate,
     /// The text of the router with the handle.
     Generate { router: Name },
+    /// The member export, at a second since 1970.
+    Export { second: u64 },
 }
 
 /// A command of the program.
 #[derive(Debug, Drop)]
 pub enum Command {
     Ask { question: Question },
+    /// Asks for the member export at the clock's second.
+    Ixf,
     /// Puts the registry whose dump is read into the store, which has to be empty.
     Restore,
+    /// Writes the dump of the store's registry.
+    Dump,
 }
 
 fn ask(question: Question) -> Command
@@ -54,8 +62,12 @@ fn command_by(word: &[u8]) -> Option<Command>
         Some(ask(Question::Eval))
     } else if word == b"fate".as_slice() {
         Some(ask(Question::Fate))
+    } else if word == b"ixf".as_slice() {
+        Some(Command::Ixf)
     } else if word == b"restore".as_slice() {
         Some(Command::Restore)
+    } else if word == b"dump".as_slice() {
+        Some(Command::Dump)
     } else {
         None
     }
@@ -77,7 +89,7 @@ fn command_with(alloc: Global, word: &[u8], handle: &[u8]) -> Result<Option<Comm
 /// The command that words are.
 fn command_in(alloc: Global, words: &[&str]) -> Result<Option<Command>, AllocError>
     ensures ok { IfOk result (λ c. c ≡ command_in (map (λ w. w.now) words.now)) }
-    ensures err { IfErr result (λ e. IsSome (command_in (map (λ w. w.now) words.now))) }
+    ensures err { IfErr result (λ e. IsQuestion (command_in (map (λ w. w.now) words.now))) }
 {
     match words {
         [word] => Ok(command_by(word.as_bytes())),
@@ -97,6 +109,7 @@ fn answer(alloc: Global, question: Question, input: &[u8]) -> Result<Vec<u8>, No
         Question::Eval => eval(alloc, input),
         Question::Fate => fate(alloc, input),
         Question::Generate { router } => router_text(alloc, router, input),
+        Question::Export { second } => export(alloc, second, input),
     }
 }
 
@@ -143,23 +156,29 @@ fn run_question<S: Source, K: Sink>(
 }
 
 /// Runs the command that the words are, if they are one.
-fn run_words<S: Source, K: Sink, P: Keeper>(
+fn run_words<S: Source, K: Sink, P: Keeper, C: Clock>(
     alloc: Global,
     words: &[&str],
     input: &mut S,
     output: &mut K,
     keeper: &mut P,
+    clock: &mut C,
 ) -> End
     ensures { Ends (command_in (map (λ w. w.now) words.now)) (record { bytes = S.left input.old; faults = S.read_faults input.old })
         (record { bytes = S.left input.new; faults = S.read_faults input.new })
         (record { bytes = K.written output.old; faults = K.write_faults output.old })
         (record { bytes = K.written output.new; faults = K.write_faults output.new })
         (record { rows = P.table keeper.old; faults = P.faults keeper.old })
-        (record { rows = P.table keeper.new; faults = P.faults keeper.new }) result }
+        (record { rows = P.table keeper.new; faults = P.faults keeper.new }) (C.given clock.old) (C.given clock.new) result }
 {
     match command_in(alloc, words) {
         Ok(Some(Command::Ask { question })) => run_question(alloc, question, input, output),
+        Ok(Some(Command::Ixf)) => {
+            let second = clock.now();
+            run_question(alloc, Question::Export { second }, input, output)
+        }
         Ok(Some(Command::Restore)) => run_restore(alloc, input, output, keeper),
+        Ok(Some(Command::Dump)) => run_dump(alloc, input, output, keeper),
         Ok(None) => End::Usage,
         Err(_) => End::NoMemory,
     }
@@ -168,8 +187,8 @@ fn run_words<S: Source, K: Sink, P: Keeper>(
 /// Runs the command that the words are, and tells its exit status: 0 where the work is done, 1 where the words are no
 /// command, 2 where the input isn't of the command's form or is longer than 268,435,456 bytes, 3 and 4 where a read
 /// or a write failed, 5 where the keeper failed, 8 where memory ran out, 9 where no router has the handle, 11 where the
-/// store that is to be filled has a row. A status other than 0 has a line on `errors`, as far as that takes it.
-/// None is kept for commands that wait, of which there is none yet.
+/// store that is to be filled has a row, 6 where the store's rows are no registry's, 10 where the store has the form of an older
+/// version. A status other than 0 has a line on `errors`, as far as that takes it. None is kept for commands that wait, of which there is none yet.
 pub fn run_plain<S: Source, K: Sink, E: Sink, P: Keeper, C: Clock>(
     alloc: Global,
     words: &[&str],
@@ -202,7 +221,7 @@ pub fn run_plain<S: Source, K: Sink, E: Sink, P: Keeper, C: Clock>(
     ensures usage { (result ≡ Some 1) ↔ (command_in (map (λ w. w.now) words.now) ≡ None) }
     ensures statuses { IsStatus result }
 {
-    let end = run_words(alloc, words, input, output, keeper);
+    let end = run_words(alloc, words, input, output, keeper, clock);
     let status = end.status();
     report(errors, end);
     Some(status)

@@ -8,7 +8,7 @@ ghost use Rattle.ixp_cli.specs.Runs.{Flow, Tells, error_text};
 use itoa::Buffer;
 use ixp_causes::{Cause, Place, code_text};
 use ixp_io::{Failed, Sink, write_all};
-use ixp_num::Name;
+use ixp_num::{Items, Name};
 use std::alloc::{AllocError, AllocFailed};
 
 /// How a run ends: what was asked for is done, or the first cause that it met.
@@ -27,6 +27,10 @@ pub enum End {
     UnknownRouter { router: Name },
     /// The store that is to be filled has a row.
     NotEmpty,
+    /// The store's rows are no registry's: the row's kind and key, and the rule that it breaks.
+    Damaged { what: Items<u8> },
+    /// The store has the form of an older version, with this number.
+    OldVersion { found: u64 },
 }
 
 /// Why a command has nothing to write for an input.
@@ -79,6 +83,8 @@ impl End {
             End::NoMemory => 8,
             End::UnknownRouter { .. } => 9,
             End::NotEmpty => 11,
+            End::Damaged { .. } => 6,
+            End::OldVersion { .. } => 10,
         }
     }
 }
@@ -199,6 +205,32 @@ fn write_named<E: Sink>(errors: &mut E, before: &[u8], name: &[u8]) -> Result<()
     Ok(())
 }
 
+/// Writes a number and the line's end.
+#[tactic(auto, using(crate::proofs::Telling::telling))]
+fn write_number_line<E: Sink>(errors: &mut E, number: u64) -> Result<(), Failed>
+    ensures ok { OnOk result (Takes (E.written errors.old) (E.written errors.new) (decimal number ++ 10 ∷ [])) }
+    ensures err { OnErr result (TakesPart (E.written errors.old) (E.written errors.new) (decimal number ++ 10 ∷ [])) }
+    ensures counts { E.write_faults errors.old ≤ E.write_faults errors.new }
+    ensures cause { OnErr result (Rose (E.write_faults errors.old) (E.write_faults errors.new)) }
+{
+    write_number(errors, number)?;
+    write_all(errors, b"\n")?;
+    Ok(())
+}
+
+/// Writes a text, a number and the line's end.
+#[tactic(auto, using(crate::proofs::Telling::telling))]
+fn write_counted<E: Sink>(errors: &mut E, before: &[u8], number: u64) -> Result<(), Failed>
+    ensures ok { OnOk result (Takes (E.written errors.old) (E.written errors.new) (before.now ++ (decimal number ++ 10 ∷ []))) }
+    ensures err { OnErr result (TakesPart (E.written errors.old) (E.written errors.new) (before.now ++ (decimal number ++ 10 ∷ []))) }
+    ensures counts { E.write_faults errors.old ≤ E.write_faults errors.new }
+    ensures cause { OnErr result (Rose (E.write_faults errors.old) (E.write_faults errors.new)) }
+{
+    write_all(errors, before)?;
+    write_number_line(errors, number)?;
+    Ok(())
+}
+
 /// Writes the line that tells how a run ended, if there is one to write.
 fn write_end<E: Sink>(errors: &mut E, end: End) -> Result<(), Failed>
     ensures ok { OnOk result (Takes (E.written errors.old) (E.written errors.new) (error_text end)) }
@@ -217,6 +249,8 @@ fn write_end<E: Sink>(errors: &mut E, end: End) -> Result<(), Failed>
             write_named(errors, b"ixpm: unknown router ", router.as_bytes())
         }
         End::NotEmpty => write_all(errors, b"ixpm: store not empty\n"),
+        End::Damaged { what } => write_named(errors, b"ixpm: damaged ", what.as_slice()),
+        End::OldVersion { found } => write_counted(errors, b"ixpm: old store ", found),
     }
 }
 

@@ -17,7 +17,6 @@ ghost use Rattle.ixp_cli.specs.Runs.{Refused, RefusedOr};
 use crate::check::registry_of;
 use crate::end::NoAnswer;
 use crate::eval::refused;
-use crate::generation::text_of;
 use crate::input::dump_part;
 use ixp_causes::{Cause, Code, Place};
 use ixp_eval::{EvalFault, walk};
@@ -28,6 +27,7 @@ use ixp_read::{ReadFault, read_config};
 use ixp_registry::Router;
 use ixp_roa::RoaTable;
 use ixp_rows::Registry;
+use ixp_texts::text_of;
 use ixp_trial::{SessionRoute, read_session_route};
 use std::alloc::{AllocError, Global};
 

@@ -1,34 +1,14 @@
 //! The command `generate`: the text of a router.
 ghost use Rattle.std.specs.Prelude.{◌≡◌, IfOk, IfErr};
-ghost use Rattle.std.specs.Option.{option_map};
-ghost use Rattle.ixp_registry.specs.Valid.{Valid};
 ghost use Rattle.ixp_cli.specs.Checks.{IsNoDump};
-ghost use Rattle.ixp_cli.specs.Generates.{Generates, IsTextOf, IsUnknown};
+ghost use Rattle.ixp_cli.specs.Generates.{Generates, IsUnknown};
 ghost use Rattle.ixp_cli.specs.Runs.{RefusedOr};
 
 use crate::check::registry_of;
 use crate::end::NoAnswer;
-use ixp_generate::{GenFault, generate};
 use ixp_num::Name;
-use ixp_rows::Registry;
-use std::alloc::{AllocError, Global};
-
-/// The text of the router with the handle, None where there is no such router.
-#[tactic(auto, using(crate::proofs::Generating::generating))]
-pub(crate) fn text_of(
-    alloc: Global,
-    registry: &Registry,
-    router: &Name,
-) -> Result<Option<Vec<u8>>, AllocError>
-    requires { Valid registry.now }
-    ensures { IfOk result (λ out. IsTextOf registry.now router.now (option_map (λ v. v.items) out)) }
-{
-    match generate(alloc, registry, router) {
-        Ok(text) => Ok(Some(text)),
-        Err(GenFault::NoRouter) => Ok(None),
-        Err(_) => Err(AllocError),
-    }
-}
+use ixp_texts::text_of;
+use std::alloc::Global;
 
 /// What `generate` writes for an input: the text of the router with the handle, where the input is the dump of a valid registry.
 #[tactic(auto, using(crate::proofs::Generating::generating, crate::proofs::Refusals::no_router_asked))]

@@ -1,24 +1,26 @@
 //! Laws of runs. The functions do nothing: each is called for what it ensures.
-ghost use Rattle.std.specs.Prelude.{◌≡◌, ◌<◌, ◌≤◌, ℕ, List, Option, Some, Ok, Err, length};
+ghost use Rattle.std.specs.Prelude.{◌≡◌, ◌<◌, ◌≤◌, true, ℕ, List, Option, Some, Ok, Err, length};
 ghost use Rattle.ixp_causes.specs.declared.Cause.{Cause};
 ghost use Rattle.std.specs.FinMap.{empty};
+ghost use Rattle.ixp_io.specs.Told.{Told};
+ghost use Rattle.ixp_ixf.specs.Views.{ixf_text_of};
 ghost use Rattle.ixp_registry.specs.declared.registry.Registry.{Registry};
 ghost use Rattle.ixp_cli.specs.declared.command.Command.{Command};
-ghost use Rattle.ixp_cli.specs.declared.command.Command.TheVariants.{Ask, Restore};
+ghost use Rattle.ixp_cli.specs.declared.command.Command.TheVariants.{Ask, Ixf, Restore};
 ghost use Rattle.ixp_cli.specs.declared.command.Question.{Question};
 ghost use Rattle.ixp_cli.specs.declared.end.End.{End};
 ghost use Rattle.ixp_cli.specs.Evals.{Evaluates};
 ghost use Rattle.ixp_cli.specs.Restores.{IsDumpOf};
-ghost use Rattle.ixp_cli.specs.Runs.{Answers, AsksInVain, IsAnswered, IsLongEnd, IsRestored, IsTold, Outside, Runs, input_limit};
+ghost use Rattle.ixp_cli.specs.Runs.{Answers, AsksInVain, IsAnswered, IsLongEnd, IsRestored, IsTold, Outside, Runs, input_limit, reads_whole};
 
 /// An input of `eval` has one output.
 pub fn one_output()
     ensures { (input x y : List ℕ) → Evaluates input x → Evaluates input y → x ≡ y }
 {}
 
-/// An input that is longer than the limit is refused as U5 by every command, but that a read may fail or memory run out.
+/// An input that is longer than the limit is refused as U5 by every command that reads it whole, but that a read may fail or memory run out.
 pub fn long_inputs_are_refused()
-    ensures { (command : Command) (before after : Outside) (status : Option ℕ) (left : List ℕ) → before.input.bytes ≡ Some left →
+    ensures { (command : Command) (before after : Outside) (status : Option ℕ) (left : List ℕ) → reads_whole command ≡ true → before.input.bytes ≡ Some left →
         input_limit < length left → Runs (Some command) before after status →
         (end : End) × IsLongEnd end × IsTold end before.errors after.errors status }
 {}
@@ -32,6 +34,14 @@ pub fn inputs_are_answered()
     ensures run { (question : Question) (before after : Outside) (status : Option ℕ) (input output : List ℕ) → before.input.bytes ≡ Some input →
         length input ≤ input_limit → Answers question input (Ok output) → Runs (Some (Ask question)) before after status →
         (end : End) × IsAnswered output before.input after.input before.output after.output end × IsTold end before.errors after.errors status }
+{}
+
+/// The member export of a registry whose dump is read is written, at a second that the clock gave, but that a read or a write may fail or memory run out.
+pub fn dumps_are_exported()
+    ensures { (r : Registry) (before after : Outside) (status : Option ℕ) (input : List ℕ) → before.input.bytes ≡ Some input →
+        length input ≤ input_limit → IsDumpOf input r → Runs (Some Ixf) before after status →
+        (end : End) × (second : ℕ) × Told before.second after.second (λ earlier last. last ≡ second)
+        × IsAnswered (ixf_text_of r second) before.input after.input before.output after.output end × IsTold end before.errors after.errors status }
 {}
 
 /// A registry's dump is restored into a keeper that tells that it has no row, but that a read, a write or the keeper may fail or memory run

@@ -3,13 +3,16 @@
 
 mod check;
 mod command;
+mod dump;
 mod end;
 mod eval;
+mod export;
 mod fate;
 mod generation;
 mod input;
 pub mod laws;
 mod restore;
+mod unloaded;
 
 pub use command::{Command, INPUT_LIMIT, Question, run, run_plain};
 pub use end::End;

@@ -63,6 +63,12 @@ registry@17@12@address 1 ::1 0 1 1 0 -^@2@@ixpm: bad input U4 Q6 12^
 registry@17@4@member 1 65002 connected - m2^@2@@ixpm: bad input U3 4^
 registry@17@4@contact 1 1 - - x^@2@@ixpm: bad input U4 Q2 7^";
 
+/// Dumps, and their member exports at the first second of 1970.
+pub const EXPORTS: &str =
+    "registry@2@3@end 1^@0@{\"ixp_list\":[{\"ixf_id\":0,\"ixp_id\":1,\"shortname\":\"DEMO\",\"switch\":[],\"vlan\":[]}],\"member_list\":[],\"timestamp\":\"1970-01-01T00:00:00Z\",\"version\":\"1.0\"}@
+registry@16@0@@2@@ixpm: bad input U1 17^
+registry@17@12@address 1 ::1 0 1 1 0 -^@2@@ixpm: bad input U4 Q6 12^";
+
 /// An exchange with four members; the first one has an address without a session.
 pub const EXCHANGE: &str = "ixp-registry 2
 site 1 0 DEMO

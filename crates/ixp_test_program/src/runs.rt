@@ -1,7 +1,7 @@
 //! Runs over objects in memory.
 use crate::cases::{
-    DUMPS, EXCHANGE, EXCHANGE_FATES, FATES, FILTERS, IMPORT, NO_FATES, REGISTRY, ROUTERS, SESSIONS,
-    SIX_FATES, TRIALS,
+    DUMPS, EXCHANGE, EXCHANGE_FATES, EXPORTS, FATES, FILTERS, IMPORT, NO_FATES, REGISTRY, ROUTERS,
+    SESSIONS, SIX_FATES, TRIALS,
 };
 use ixp_cli::run;
 use ixp_io::{FreeGate, MemDoor, MemKeeper, MemSink, MemSource, Plan, SetClock};
@@ -242,6 +242,7 @@ fn paths_have_64_numbers_at_most(rt: HostRuntime) -> Result<(), Fail> {
 fn commands_answer(rt: HostRuntime) -> Result<(), Fail> {
     let tables = [
         ("check", DUMPS),
+        ("ixf", EXPORTS),
         ("fate", FATES),
         ("eval", TRIALS),
         ("eval", FILTERS),

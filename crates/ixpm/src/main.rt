@@ -2,8 +2,9 @@
 #![tactic(auto)]
 
 use ixp_cli::run;
-use ixp_io::{FreeGate, MemDoor, Plan, ReadSource, SetClock, WriteSink};
+use ixp_io::{FreeGate, MemDoor, Plan, ReadSource, WriteSink};
 use ixp_keeper_sql::FileKeeper;
+use ixp_net::SystemClock;
 use std::collections::VecDeque;
 use std::process::ExitCode;
 use std::{env, io};
@@ -18,13 +19,16 @@ const HELP: &str = "ixpm: the registry of an internet exchange, and its route se
   ixpm fate        reads the dump of a registry on standard input, and after it a line route R INTERFACE ROUTE, and writes
                    the configuration of the route server with the handle R, and the fate of the route that the interface's
                    session brings
+  ixpm ixf         reads the dump of a registry on standard input, and writes the exchange's member export (IX-F Member
+                   Export 1.0) at the present second
   ixpm restore     reads the dump of a registry on standard input, and puts it into the store, the file ixpm.db of the
                    current folder, which has to be empty
+  ixpm dump        writes the dump of the registry in the store
   ixpm --help      writes this
   ixpm --version   writes the version
 
-Status: 0 done, 1 usage, 2 bad input, 3 read fault, 4 write fault, 5 keeper fault, 8 no memory, 9 unknown router,
-11 store not empty. A line on standard error says why.
+Status: 0 done, 1 usage, 2 bad input, 3 read fault, 4 write fault, 5 keeper fault, 6 damaged store, 8 no memory,
+9 unknown router, 10 old store, 11 store not empty. A line on standard error says why.
 ";
 
 /// The file of the store, in the current folder. It is opened by the commands that use it.
@@ -58,7 +62,7 @@ fn command(rt: &HostRuntime, words: &[&str]) -> u8 {
     let Ok(mut keeper) = FileKeeper::new(rt, STORE) else {
         return 8;
     };
-    let mut clock = SetClock::new(0);
+    let mut clock = SystemClock::new(rt);
     let mut door = MemDoor::new(VecDeque::new(alloc), Plan::smooth(alloc));
     let status = run(
         rt,

@@ -51,3 +51,23 @@ returns-in-NotEmpty-clause-ok g c =
 pub returns-in-NotEmpty-clause-err : goal.returns-in-NotEmpty-clause-err
 returns-in-NotEmpty-clause-err g c =
     subst (λ (e : End). OnErr c.write_all-in-NotEmpty.result (TakesPart (g.E.Stream.written c.args.errors.now) (g.E.Stream.written c.write_all-in-NotEmpty.new.sink) (error_text e))) (sym c.in-NotEmpty.is) c.write_all-in-NotEmpty.ensures.err
+
+pub returns-in-Damaged-clause-ok : goal.returns-in-Damaged-clause-ok
+returns-in-Damaged-clause-ok g c =
+    subst (λ (e : End). OnOk c.write_named-in-Damaged.result (Takes (g.E.Stream.written c.args.errors.now) (g.E.Stream.written c.write_named-in-Damaged.new.errors) (error_text e))) (sym c.in-Damaged.is)
+    (subst (λ (n : List ℕ). OnOk c.write_named-in-Damaged.result (Takes (g.E.Stream.written c.args.errors.now) (g.E.Stream.written c.write_named-in-Damaged.new.errors) (codes "ixpm: damaged " ++ (n ++ 10 ∷ []))))
+    c.as_slice.ensures c.write_named-in-Damaged.ensures.ok)
+
+pub returns-in-Damaged-clause-err : goal.returns-in-Damaged-clause-err
+returns-in-Damaged-clause-err g c =
+    subst (λ (e : End). OnErr c.write_named-in-Damaged.result (TakesPart (g.E.Stream.written c.args.errors.now) (g.E.Stream.written c.write_named-in-Damaged.new.errors) (error_text e))) (sym c.in-Damaged.is)
+    (subst (λ (n : List ℕ). OnErr c.write_named-in-Damaged.result (TakesPart (g.E.Stream.written c.args.errors.now) (g.E.Stream.written c.write_named-in-Damaged.new.errors) (codes "ixpm: damaged " ++ (n ++ 10 ∷ []))))
+    c.as_slice.ensures c.write_named-in-Damaged.ensures.err)
+
+pub returns-in-OldVersion-clause-ok : goal.returns-in-OldVersion-clause-ok
+returns-in-OldVersion-clause-ok g c =
+    subst (λ (e : End). OnOk c.write_counted.result (Takes (g.E.Stream.written c.args.errors.now) (g.E.Stream.written c.write_counted.new.errors) (error_text e))) (sym c.in-OldVersion.is) c.write_counted.ensures.ok
+
+pub returns-in-OldVersion-clause-err : goal.returns-in-OldVersion-clause-err
+returns-in-OldVersion-clause-err g c =
+    subst (λ (e : End). OnErr c.write_counted.result (TakesPart (g.E.Stream.written c.args.errors.now) (g.E.Stream.written c.write_counted.new.errors) (error_text e))) (sym c.in-OldVersion.is) c.write_counted.ensures.err

@@ -1,0 +1,45 @@
+-- How runs end that load the store.
+use Rattle.std.proofs.Common.{◌≡◌, inl, inr, Result, Err, IsErrOf, refl, ap, ◌∙◌}
+use Rattle.ixp_io.specs.Faults.{Rose}
+use Rattle.ixp_load.specs.declared.fault.LoadFault.{LoadFault}
+use Rattle.ixp_load.specs.declared.fault.LoadFault.TheVariants as load
+use Rattle.ixp_steps.specs.declared.state.State.{State}
+use Rattle.ixp_cli.specs.declared.end.End.{End}
+use Rattle.ixp_cli.specs.declared.end.End.TheVariants.{Done, Usage, BadInput, ReadFault, WriteFault, KeeperFault, NoMemory, UnknownRouter, NotEmpty, Damaged, OldVersion}
+use Rattle.ixp_cli.specs.Restores.{Store}
+use Rattle.ixp_cli.specs.Runs.{Flow, NotLoaded, DumpEnds}
+use Rattle.ixp_cli.specs.Unloaded.{Unloaded}
+
+pub not_loaded :
+    {A : Type 0} (i o : Flow) (s u : Store) (fault : LoadFault) (end : End) (result : Result A LoadFault) → result ≡ Err fault
+    → (IsErrOf result load.KeeperFault → Rose s.faults u.faults) → u.rows ≡ s.rows → Unloaded fault end → NotLoaded i i o o s u end
+not_loaded i o s u fault end result is cause rows un = (refl, refl, rows, (fault, un, λ e. cause (is ∙ ap Err e)))
+
+never_done : (fault : LoadFault) → Unloaded fault Done → ⊥
+never_done load.KeeperFault e = let bad : ⊥ = cc in bad
+never_done (load.Damaged name damage) (inl e) = let bad : ⊥ = cc in bad
+never_done (load.Damaged name damage) (inr e) = let bad : ⊥ = cc in bad
+never_done (load.OldVersion found) e = let bad : ⊥ = cc in bad
+never_done load.NoMemory e = let bad : ⊥ = cc in bad
+
+never_written : (fault : LoadFault) → Unloaded fault WriteFault → ⊥
+never_written load.KeeperFault e = let bad : ⊥ = cc in bad
+never_written (load.Damaged name damage) (inl e) = let bad : ⊥ = cc in bad
+never_written (load.Damaged name damage) (inr e) = let bad : ⊥ = cc in bad
+never_written (load.OldVersion found) e = let bad : ⊥ = cc in bad
+never_written load.NoMemory e = let bad : ⊥ = cc in bad
+
+pub dump_unloaded : (i j k l : Flow) (s u : Store) (end : End) → NotLoaded i j k l s u end → DumpEnds i j k l s u end
+dump_unloaded i j k l s u Done (input, output, rows, (fault, is, cause)) = absurd (never_done fault is)
+dump_unloaded i j k l s u WriteFault (input, output, rows, (fault, is, cause)) = absurd (never_written fault is)
+dump_unloaded i j k l s u NoMemory (input, output, rows, (fault, is, cause)) = (input, output, rows)
+dump_unloaded i j k l s u Usage n = n
+dump_unloaded i j k l s u (BadInput c) n = n
+dump_unloaded i j k l s u ReadFault n = n
+dump_unloaded i j k l s u KeeperFault n = n
+dump_unloaded i j k l s u (UnknownRouter r) n = n
+dump_unloaded i j k l s u NotEmpty n = n
+dump_unloaded i j k l s u (Damaged what) n = n
+dump_unloaded i j k l s u (OldVersion found) n = n
+
+pub ruleset loading = (not_loaded, dump_unloaded)
