@@ -17,11 +17,19 @@ use std::alloc::Global;
 const REQUEST_LIMIT: u32 = 100_000;
 
 // How a request ends: a call by the desk's answer, what is no call without it.
-fn outcome_of<D: Desk>(alloc: Global, paths: &Paths, desk: &mut D, request: &Request) -> Outcome
-    ensures { spec.Becomes D.turn desk.old request.now result desk.new }
+fn outcome_of<P, D: Desk<P>>(
+    alloc: Global,
+    paths: &Paths,
+    desk: &mut D,
+    store: &mut P,
+    request: &Request,
+) -> Outcome
+    requires { D.fits desk.old store.old }
+    ensures becomes { spec.Becomes D.turn (desk.old, store.old) request.now result (desk.new, store.new) }
+    ensures fits { D.fits desk.new store.new }
 {
     match route(alloc, paths, request) {
-        Ok(call) => desk.answer(alloc, call),
+        Ok(call) => desk.answer(alloc, store, call),
         Err(fault) => Outcome::Called(fault),
     }
 }
@@ -36,23 +44,25 @@ fn is_last(request: &Request, answered: u32) -> bool
 
 /// Has the desk answer a request, before which so many were answered, and writes the reply. Where the link ends with it,
 /// says how.
-pub(crate) fn settle<D: Desk, L: Sink>(
+pub(crate) fn settle<P, D: Desk<P>, K: Sink>(
     alloc: Global,
     paths: &Paths,
     desk: &mut D,
-    link: &mut L,
+    store: &mut P,
+    output: &mut K,
     request: &Request,
     answered: u32,
 ) -> Option<Served>
-    requires { answered < links.request_limit }
-    ensures settles { (rest : List ℕ) → spec.Settles D.turn answered desk.old desk.new request.now rest (Takes (L.written link.old) (L.written link.new)) (Rose (L.write_faults link.old) (L.write_faults link.new)) result }
-    ensures counts { L.write_faults link.old ≤ L.write_faults link.new }
-    ensures left { L.left link.new ≡ L.left link.old }
-    ensures read_faults { L.read_faults link.new ≡ L.read_faults link.old }
+    requires few { answered < links.request_limit }
+    requires fits { D.fits desk.old store.old }
+    ensures settles { (rest : List ℕ) → spec.Settles D.turn answered (desk.old, store.old) (desk.new, store.new) request.now rest (Takes (K.written output.old) (K.written output.new))
+        (Rose (K.write_faults output.old) (K.write_faults output.new)) result }
+    ensures counts { K.write_faults output.old ≤ K.write_faults output.new }
+    ensures fits { D.fits desk.new store.new }
 {
-    let outcome = outcome_of(alloc, paths, desk, request);
+    let outcome = outcome_of(alloc, paths, desk, store, request);
     let closes = is_last(request, answered);
-    match tell(alloc, link, outcome, closes) {
+    match tell(alloc, output, outcome, closes) {
         Err(end) => Some(Served {
             end,
             requests: answered,

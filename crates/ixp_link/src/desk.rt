@@ -5,11 +5,16 @@ ghost use Rattle.ixp_replies.specs.declared.outcome.Outcome.{Outcome};
 use ixp_api::{Call, Outcome};
 use std::alloc::Global;
 
-/// What answers calls. An outcome of want of memory ends the link.
-pub trait Desk {
-    /// What a call does: the desk before, the call, how it ended, and the desk after.
-    ghost turn: { Self → Call → Outcome → Self → Type 0 };
+/// What answers calls over a store, which stands beside it. An outcome of want of memory ends the link.
+pub trait Desk<P> {
+    /// The store is the desk's.
+    ghost fits: { Self → P → Type 0 };
 
-    fn answer(&mut self, alloc: Global, call: Call) -> Outcome
-        ensures { turn self.old call result self.new };
+    /// What a call does: desk and store before, the call, how it ended, and desk and store after.
+    ghost turn: { Self × P → Call → Outcome → Self × P → Type 0 };
+
+    fn answer(&mut self, alloc: Global, store: &mut P, call: Call) -> Outcome
+        requires { fits self.old store.old }
+        ensures turn { turn (self.old, store.old) call result (self.new, store.new) }
+        ensures fits { fits self.new store.new };
 }

@@ -16,29 +16,33 @@ use ixp_io::{Sink, Source};
 use std::alloc::Global;
 
 // Reads the next request of a link, before which so many were answered, and answers it. Where the link ends, says how.
-fn exchange<D: Desk, L: Source + Sink>(
+fn exchange<P, D: Desk<P>, S: Source, K: Sink>(
     alloc: Global,
     paths: &Paths,
     desk: &mut D,
-    link: &mut L,
+    store: &mut P,
+    input: &mut S,
+    output: &mut K,
     buf: &mut Buf,
     answered: u32,
 ) -> Option<Served>
-    requires { answered < links.request_limit }
-    ensures steps { spec.Steps D.turn answered desk.old desk.new (L.left link.old) (L.left link.new) buf.old buf.new
-        (Takes (L.written link.old) (L.written link.new))
-        (Rose (L.read_faults link.old) (L.read_faults link.new)) (Rose (L.write_faults link.old) (L.write_faults link.new)) result }
-    ensures reads { L.read_faults link.old ≤ L.read_faults link.new }
-    ensures writes { L.write_faults link.old ≤ L.write_faults link.new }
+    requires few { answered < links.request_limit }
+    requires fits { D.fits desk.old store.old }
+    ensures steps { spec.Steps D.turn answered (desk.old, store.old) (desk.new, store.new) (S.left input.old) (S.left input.new) buf.old buf.new
+        (Takes (K.written output.old) (K.written output.new))
+        (Rose (S.read_faults input.old) (S.read_faults input.new)) (Rose (K.write_faults output.old) (K.write_faults output.new)) result }
+    ensures reads { S.read_faults input.old ≤ S.read_faults input.new }
+    ensures writes { K.write_faults output.old ≤ K.write_faults output.new }
+    ensures fits { D.fits desk.new store.new }
 {
-    match next_request(alloc, link, buf) {
-        Ok(Next::Request(request)) => settle(alloc, paths, desk, link, &request, answered),
+    match next_request(alloc, input, buf) {
+        Ok(Next::Request(request)) => settle(alloc, paths, desk, store, output, &request, answered),
         Ok(Next::End) => Some(Served {
             end: LinkEnd::Closed,
             requests: answered,
         }),
         Err(HttpFault::Bad(status)) => Some(Served {
-            end: refuse(alloc, link, status),
+            end: refuse(alloc, output, status),
             requests: answered,
         }),
         Err(HttpFault::Cut) => Some(Served {
@@ -50,7 +54,7 @@ fn exchange<D: Desk, L: Source + Sink>(
             requests: answered,
         }),
         Err(_) => {
-            tell_memory(alloc, link);
+            tell_memory(alloc, output);
             Some(Served {
                 end: LinkEnd::NoMemory,
                 requests: answered,
@@ -59,21 +63,25 @@ fn exchange<D: Desk, L: Source + Sink>(
     }
 }
 
-fn serve_with<D: Desk, L: Source + Sink>(
+fn serve_with<P, D: Desk<P>, S: Source, K: Sink>(
     alloc: Global,
     paths: &Paths,
     desk: &mut D,
-    link: &mut L,
+    store: &mut P,
+    input: &mut S,
+    output: &mut K,
 ) -> Served
-    ensures serves { links.Serves D.turn desk.old desk.new (L.left link.old) (L.written link.old) (L.written link.new)
-        (Rose (L.read_faults link.old) (L.read_faults link.new)) (Rose (L.write_faults link.old) (L.write_faults link.new)) result }
-    ensures reads { L.read_faults link.old ≤ L.read_faults link.new }
-    ensures writes { L.write_faults link.old ≤ L.write_faults link.new }
+    requires { D.fits desk.old store.old }
+    ensures serves { links.Serves D.turn (desk.old, store.old) (desk.new, store.new) (S.left input.old) (K.written output.old) (K.written output.new)
+        (Rose (S.read_faults input.old) (S.read_faults input.new)) (Rose (K.write_faults output.old) (K.write_faults output.new)) result }
+    ensures reads { S.read_faults input.old ≤ S.read_faults input.new }
+    ensures writes { K.write_faults output.old ≤ K.write_faults output.new }
+    ensures fits { D.fits desk.new store.new }
 {
     let mut buf = Buf::new(alloc);
     let mut answered = 0;
     loop {
-        match exchange(alloc, paths, desk, link, &mut buf, answered) {
+        match exchange(alloc, paths, desk, store, input, output, &mut buf, answered) {
             Some(served) => return served,
             None => answered += 1,
         }
@@ -81,22 +89,30 @@ fn serve_with<D: Desk, L: Source + Sink>(
 }
 
 /// Serves one link to its end: reads its requests, has the desk answer those that are calls, and writes the replies in
-/// their order, one write for each that is short. A link has at most 100,000 requests.
-pub fn serve<D: Desk, L: Source + Sink>(alloc: Global, desk: &mut D, link: &mut L) -> Served
-    ensures serves { links.Serves D.turn desk.old desk.new (L.left link.old) (L.written link.old) (L.written link.new)
-        (Rose (L.read_faults link.old) (L.read_faults link.new)) (Rose (L.write_faults link.old) (L.write_faults link.new)) result }
-    ensures exact { WhereTold (L.left link.old) (λ bytes. whole.IsExact D.turn desk.old desk.new bytes (L.written link.old) (L.written link.new) result) }
-    ensures complete { WhereTold (L.left link.old) (λ bytes. whole.IsComplete D.turn desk.old desk.new bytes (L.written link.old) (L.written link.new)
-        (Rose (L.read_faults link.old) (L.read_faults link.new)) (Rose (L.write_faults link.old) (L.write_faults link.new)) result) }
-    ensures read_fault { result.end ≡ LinkEnd.ReadFault → Rose (L.read_faults link.old) (L.read_faults link.new) }
-    ensures write_fault { result.end ≡ LinkEnd.WriteFault → Rose (L.write_faults link.old) (L.write_faults link.new) }
-    ensures reads { L.read_faults link.old ≤ L.read_faults link.new }
-    ensures writes { L.write_faults link.old ≤ L.write_faults link.new }
+/// their order, one write for each that is short. A link has at most 100,000 requests. What it reads and what it writes are two objects.
+pub fn serve<P, D: Desk<P>, S: Source, K: Sink>(
+    alloc: Global,
+    desk: &mut D,
+    store: &mut P,
+    input: &mut S,
+    output: &mut K,
+) -> Served
+    requires { D.fits desk.old store.old }
+    ensures serves { links.Serves D.turn (desk.old, store.old) (desk.new, store.new) (S.left input.old) (K.written output.old) (K.written output.new)
+        (Rose (S.read_faults input.old) (S.read_faults input.new)) (Rose (K.write_faults output.old) (K.write_faults output.new)) result }
+    ensures exact { WhereTold (S.left input.old) (λ bytes. whole.IsExact D.turn (desk.old, store.old) (desk.new, store.new) bytes (K.written output.old) (K.written output.new) result) }
+    ensures complete { WhereTold (S.left input.old) (λ bytes. whole.IsComplete D.turn (desk.old, store.old) (desk.new, store.new) bytes (K.written output.old) (K.written output.new)
+        (Rose (S.read_faults input.old) (S.read_faults input.new)) (Rose (K.write_faults output.old) (K.write_faults output.new)) result) }
+    ensures read_fault { result.end ≡ LinkEnd.ReadFault → Rose (S.read_faults input.old) (S.read_faults input.new) }
+    ensures write_fault { result.end ≡ LinkEnd.WriteFault → Rose (K.write_faults output.old) (K.write_faults output.new) }
+    ensures reads { S.read_faults input.old ≤ S.read_faults input.new }
+    ensures writes { K.write_faults output.old ≤ K.write_faults output.new }
+    ensures fits { D.fits desk.new store.new }
 {
     match Paths::new(alloc) {
-        Ok(paths) => serve_with(alloc, &paths, desk, link),
+        Ok(paths) => serve_with(alloc, &paths, desk, store, input, output),
         Err(_) => {
-            tell_memory(alloc, link);
+            tell_memory(alloc, output);
             Served {
                 end: LinkEnd::NoMemory,
                 requests: 0,

