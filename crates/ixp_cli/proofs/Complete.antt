@@ -6,7 +6,7 @@ use Rattle.ixp_cli.specs.declared.command.Command.TheVariants.{Ask, Ixf, Restore
 use Rattle.ixp_cli.specs.declared.command.Question.TheVariants.{Export}
 use Rattle.ixp_cli.specs.declared.command.Question.{Question}
 use Rattle.ixp_cli.specs.declared.end.End.{End}
-use Rattle.ixp_cli.specs.declared.end.End.TheVariants.{Done, Usage, BadInput, ReadFault, WriteFault, KeeperFault, NoMemory, UnknownRouter, NotEmpty, Damaged, OldVersion}
+use Rattle.ixp_cli.specs.declared.end.End.TheVariants.{Done, Usage, BadInput, ReadFault, WriteFault, KeeperFault, NoMemory, UnknownRouter, NotEmpty, Damaged, OldVersion, BadLink}
 use Rattle.ixp_cli.specs.Checks.{IsNoDump}
 use Rattle.ixp_cli.specs.Restores.{Fills, IsDumpOf, Restores}
 use Rattle.ixp_cli.specs.Runs.{Flow, Outside, Answers, ExportEnds, QuestionEnds, IsAnswered, AsksInVain, IsRefused, IsTold, IsRestored, ReadsAll, ReadsDump, RestoreEnds, Runs, input_limit}
@@ -55,6 +55,7 @@ module _ (question : Question) (left answer : List ℕ) (input input' output out
   answered NotEmpty e = absurd e
   answered (Damaged what) e = absurd e
   answered (OldVersion found) e = absurd e
+  answered (BadLink code requests) e = absurd e
   answered (UnknownRouter router) (text, all, vain, same) = not_in_vain question left answer router answers (subst (λ t. AsksInVain question t router) (whole text all) vain)
 
 pub answered_run :
@@ -106,6 +107,7 @@ module _ (r : Registry) (left : List ℕ) (before after : Outside) (is : before.
   restored NotEmpty short (s, reads, filled, out, kept) = none_filled before.store.rows clear filled
   restored (Damaged what) short e = absurd e
   restored (OldVersion found) short e = absurd e
+  restored (BadLink code requests) short e = absurd e
 
 pub restored_run :
     (r : Registry) (before after : Outside) (status : Option ℕ) (left : List ℕ) → before.input.bytes ≡ Some left → length left ≤ input_limit → IsDumpOf left r → before.store.rows ≡ Some empty

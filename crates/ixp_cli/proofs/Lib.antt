@@ -10,3 +10,4 @@ pub mod OneOutput
 pub mod Refusals
 pub mod Telling
 pub mod Loading
+pub mod Mapped

@@ -5,10 +5,10 @@ use Rattle.ixp_load.specs.declared.fault.LoadFault.{LoadFault}
 use Rattle.ixp_load.specs.declared.fault.LoadFault.TheVariants as load
 use Rattle.ixp_steps.specs.declared.state.State.{State}
 use Rattle.ixp_cli.specs.declared.end.End.{End}
-use Rattle.ixp_cli.specs.declared.end.End.TheVariants.{Done, Usage, BadInput, ReadFault, WriteFault, KeeperFault, NoMemory, UnknownRouter, NotEmpty, Damaged, OldVersion}
+use Rattle.ixp_cli.specs.declared.end.End.TheVariants.{Done, Usage, BadInput, ReadFault, WriteFault, KeeperFault, NoMemory, UnknownRouter, NotEmpty, Damaged, OldVersion, BadLink}
 use Rattle.ixp_cli.specs.Restores.{Store}
 use Rattle.ixp_cli.specs.Runs.{Flow, NotLoaded, DumpEnds}
-use Rattle.ixp_cli.specs.Unloaded.{Unloaded}
+use Rattle.ixp_cli.specs.Sessions.{Unloaded}
 
 pub not_loaded :
     {A : Type 0} (i o : Flow) (s u : Store) (fault : LoadFault) (end : End) (result : Result A LoadFault) → result ≡ Err fault
@@ -41,5 +41,6 @@ dump_unloaded i j k l s u (UnknownRouter r) n = n
 dump_unloaded i j k l s u NotEmpty n = n
 dump_unloaded i j k l s u (Damaged what) n = n
 dump_unloaded i j k l s u (OldVersion found) n = n
+dump_unloaded i j k l s u (BadLink code requests) n = n
 
 pub ruleset loading = (not_loaded, dump_unloaded)

@@ -1,11 +1,11 @@
 -- An input that is longer than the limit.
 use Rattle.std.proofs.Common.{◌≡◌, ◌<◌, ◌≤◌, ℕ, true, List, [], ◌++◌, length, length-append, Option, Some, None, Err, inl, inr, ap, sym, ◌∙◌, arith}
 use Rattle.ixp_cli.specs.declared.command.Command.{Command}
-use Rattle.ixp_cli.specs.declared.command.Command.TheVariants.{Ask, Ixf, Restore, Dump}
+use Rattle.ixp_cli.specs.declared.command.Command.TheVariants.{Ask, Ixf, Restore, Dump, Session}
 use Rattle.ixp_cli.specs.declared.command.Question.{Question}
 use Rattle.ixp_cli.specs.declared.command.Question.TheVariants.{Export}
 use Rattle.ixp_cli.specs.declared.end.End.{End}
-use Rattle.ixp_cli.specs.declared.end.End.TheVariants.{Done, Usage, BadInput, ReadFault, WriteFault, KeeperFault, NoMemory, UnknownRouter, NotEmpty, Damaged, OldVersion}
+use Rattle.ixp_cli.specs.declared.end.End.TheVariants.{Done, Usage, BadInput, ReadFault, WriteFault, KeeperFault, NoMemory, UnknownRouter, NotEmpty, Damaged, OldVersion, BadLink}
 use Rattle.ixp_cli.specs.Checks.{IsNoDump}
 use Rattle.ixp_cli.specs.Restores.{Store}
 use Rattle.ixp_cli.specs.Runs.{Flow, Outside, Answers, Ends, QuestionEnds, RestoreEnds, IsLongEnd, IsRefused, IsTold, ReadsAll, ReadsDump, Runs, input_limit, reads_whole, too_long}
@@ -39,6 +39,7 @@ module _ (question : Question) (left : List ℕ) (input input' output output' : 
   long_end NotEmpty e = absurd e
   long_end (Damaged what) e = absurd e
   long_end (OldVersion found) e = absurd e
+  long_end (BadLink code requests) e = absurd e
   long_end (UnknownRouter router) (read, all, vain, same) = absurd (never read all)
 
 module _ (left : List ℕ) (input input' output output' : Flow) (store store' : Store) (is : input.bytes ≡ Some left) (long : input_limit < length left) where
@@ -60,6 +61,7 @@ module _ (left : List ℕ) (input input' output output' : Flow) (store store' : 
   long_restore NotEmpty (r, reads, filled, out, kept) = absurd (never_dump r reads)
   long_restore (Damaged what) e = absurd e
   long_restore (OldVersion found) e = absurd e
+  long_restore (BadLink code requests) e = absurd e
 
 of_command : (command : Command) (before after : Outside) (left : List ℕ) (end : End) → reads_whole command ≡ true → before.input.bytes ≡ Some left → input_limit < length left
     → Ends (Some command) before.input after.input before.output after.output before.store after.store before.second after.second end → IsLongEnd end
@@ -67,6 +69,7 @@ of_command (Ask question) before after left end reads is long (ends, kept, clock
 of_command Ixf before after left end reads is long ((second, gave, ends), kept) = long_end (Export second) left before.input after.input before.output after.output is long end ends
 of_command Restore before after left end reads is long (ends, clock) = long_restore left before.input after.input before.output after.output before.store after.store is long end ends
 of_command Dump before after left end reads is long ends = absurd (let bad : ⊥ = cc in bad)
+of_command Session before after left end reads is long ends = absurd (let bad : ⊥ = cc in bad)
 
 pub long_run : (command : Command) (before after : Outside) (status : Option ℕ) (left : List ℕ) → reads_whole command ≡ true → before.input.bytes ≡ Some left → input_limit < length left → Runs (Some command) before after status
     → (end : End) × IsLongEnd end × IsTold end before.errors after.errors status

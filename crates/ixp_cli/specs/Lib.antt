@@ -6,4 +6,4 @@ pub mod Generates
 pub mod Inputs
 pub mod Restores
 pub mod Runs
-pub mod Unloaded
+pub mod Sessions

@@ -10,13 +10,13 @@ use Rattle.ixp_registry.specs.Alphabets.{is_handle}
 use Rattle.ixp_registry.specs.declared.registry.Registry.{Registry}
 use Rattle.ixp_tables.specs.Tables.{same}
 use Rattle.ixp_cli.specs.declared.command.Command.{Command}
-use Rattle.ixp_cli.specs.declared.command.Command.TheVariants.{Ask, Ixf, Restore, Dump}
+use Rattle.ixp_cli.specs.declared.command.Command.TheVariants.{Ask, Ixf, Restore, Dump, Session}
 use Rattle.ixp_cli.specs.declared.restore.NoDump.{NoDump}
 use Rattle.ixp_cli.specs.declared.restore.NoDump.TheVariants as no
 use Rattle.ixp_cli.specs.declared.command.Question.{Question}
 use Rattle.ixp_cli.specs.declared.command.Question.TheVariants.{Check, Eval, Fate, Generate, Export}
 use Rattle.ixp_cli.specs.declared.end.End.{End}
-use Rattle.ixp_cli.specs.declared.end.End.TheVariants.{Done, Usage, BadInput, ReadFault, WriteFault, KeeperFault, NoMemory, UnknownRouter, NotEmpty, Damaged, OldVersion}
+use Rattle.ixp_cli.specs.declared.end.End.TheVariants.{Done, Usage, BadInput, ReadFault, WriteFault, KeeperFault, NoMemory, UnknownRouter, NotEmpty, Damaged, OldVersion, BadLink}
 use Rattle.ixp_cli.specs.declared.end.NoAnswer.{NoAnswer}
 use Rattle.ixp_cli.specs.declared.end.NoAnswer.TheVariants as answer
 use Rattle.ixp_cli.specs.Checks.{Checks, IsNoDump}
@@ -24,23 +24,28 @@ use Rattle.ixp_cli.specs.Evals.{Evaluates, IsNoEval}
 use Rattle.ixp_cli.specs.Exports.{Exports}
 use Rattle.ixp_cli.specs.Fates.{Fates, HasNoRouter, IsNoFate}
 use Rattle.ixp_cli.specs.Generates.{Generates, IsUnknown}
+use Rattle.ixp_api.specs.declared.call.Call.{Call}
+use Rattle.ixp_replies.specs.declared.outcome.Outcome.{Outcome}
 use Rattle.ixp_lines.specs.declared.version.Version.TheVariants.{Two}
+use Rattle.ixp_link.specs.declared.ends.Served.{Served}
+use Rattle.ixp_link.specs.Links.{Serves}
 use Rattle.ixp_load.specs.Answers.{IsStoreOf}
 use Rattle.ixp_load.specs.declared.fault.LoadFault.{LoadFault}
 use Rattle.ixp_load.specs.declared.fault.LoadFault.TheVariants.{KeeperFault as StoreFault}
+use Rattle.ixp_plain_desk.specs.Turns.{IsTurn}
 use Rattle.ixp_registry.specs.Registries.{rows_of}
 use Rattle.ixp_rows.specs.Texts.{dump_text}
 use Rattle.ixp_steps.specs.declared.state.State.{State}
 use Rattle.ixp_steps.specs.States.{ValidState}
 use Rattle.ixp_cli.specs.Restores.{Store, IsDumpOf, Fills, IsFilled, Restores}
-use Rattle.ixp_cli.specs.Unloaded.{Unloaded}
+use Rattle.ixp_cli.specs.Sessions.{code_word, Unloaded, end_of}
 
 -- the command that a word is
 abbrev pub command_by : List ℕ → Option Command
 command_by word =
     if same word (codes "check") then Some (Ask Check) else if same word (codes "eval") then Some (Ask Eval) else if same word (codes "fate") then Some (Ask Fate)
     else if same word (codes "ixf") then Some Ixf else if same word (codes "restore") then Some Restore else if same word (codes "dump") then Some Dump
-    else None
+    else if same word (codes "session") then Some Session else None
 
 -- the command that a word and a handle are
 abbrev pub command_with : List ℕ → List ℕ → Option Command
@@ -109,6 +114,7 @@ status_of (UnknownRouter router) = 9
 status_of NotEmpty = 11
 status_of (Damaged what) = 6
 status_of (OldVersion found) = 10
+status_of (BadLink code requests) = 2
 
 -- the line that tells of a run that ends so
 abbrev pub error_text : End → List ℕ
@@ -123,6 +129,7 @@ error_text (UnknownRouter router) = codes "ixpm: unknown router " ++ (router ++ 
 error_text NotEmpty = codes "ixpm: store not empty\n"
 error_text (Damaged what) = codes "ixpm: damaged " ++ (what ++ 10 ∷ [])
 error_text (OldVersion found) = codes "ixpm: old store " ++ (decimal found ++ 10 ∷ [])
+error_text (BadLink code requests) = codes "ixpm: bad input " ++ (code_word code ++ (32 ∷ (decimal requests ++ 10 ∷ [])))
 
 -- what a source or a sink tells at a moment: the bytes that are left, or those that were written, and how many calls failed
 pub record Flow : Type 0 where
@@ -186,6 +193,7 @@ QuestionEnds question input input' output output' (UnknownRouter router) =
 QuestionEnds question input input' output output' NotEmpty = ⊥
 QuestionEnds question input input' output output' (Damaged what) = ⊥
 QuestionEnds question input input' output output' (OldVersion found) = ⊥
+QuestionEnds question input input' output output' (BadLink code requests) = ⊥
 
 -- why no dump was read: the input is refused, or a read failed, or memory ran out
 abbrev pub NotRead : Flow → Flow → NoDump → Type 0
@@ -214,6 +222,7 @@ RestoreEnds input input' output output' store store' NotEmpty =
     (r : Registry) × ReadsDump input input' r × IsFilled store × (output' ≡ output) × (store'.rows ≡ store.rows)
 RestoreEnds input input' output output' store store' (Damaged what) = ⊥
 RestoreEnds input input' output output' store store' (OldVersion found) = ⊥
+RestoreEnds input input' output output' store store' (BadLink code requests) = ⊥
 
 -- The store couldn't be loaded: nothing was read or written, and its rows are as they were. A fault of the store came in this run.
 abbrev pub NotLoaded : Flow → Flow → Flow → Flow → Store → Store → End → Type 0
@@ -235,6 +244,32 @@ DumpEnds input input' output output' store store' WriteFault =
 DumpEnds input input' output output' store store' NoMemory = (input' ≡ input) × (output' ≡ output) × (store'.rows ≡ store.rows)
 DumpEnds input input' output output' store store' end = NotLoaded input input' output output' store store' end
 
+-- A state, and how many calls of its store have failed.
+abbrev pub Kept : Type 0
+Kept = State × ℕ
+
+-- a turn of the desk: by the machine of edits, with the store's faults
+abbrev pub TurnOf : Kept → Call → Outcome → Kept → Type 0
+TurnOf d call o e = IsTurn d.0 call o e.0 (Rose d.1 e.1)
+
+-- A session: the store was loaded, and its state answers the requests of the input, one after the other; the replies go to the output.
+-- The store has the rows of the state after them. The session ends as its link does.
+pub record Serving (input input' output output' : Flow) (store store' : Store) (end : End) : Type 0 where
+  pub before : State
+  pub holds : Holds store before
+  pub faults : ℕ
+  pub more : store.faults ≤ faults
+  pub after : State
+  pub served : Served
+  pub serves : Serves TurnOf (before, faults) (after, store'.faults) input.bytes output.bytes output'.bytes
+      (Rose input.faults input'.faults) (Rose output.faults output'.faults) served
+  pub still : Holds store' after
+  pub is_end : end ≡ end_of served
+
+abbrev pub SessionEnds : Flow → Flow → Flow → Flow → Store → Store → End → Type 0
+SessionEnds input input' output output' store store' end =
+    NotLoaded input input' output output' store store' end ⊎ Serving input input' output output' store store' end
+
 -- How `ixf` ends: it asks the clock, and then the question for the export at the second that the clock gave.
 abbrev pub ExportEnds : Flow → Flow → Flow → Flow → Option ℕ → Option ℕ → End → Type 0
 ExportEnds input input' output output' given given' end =
@@ -250,6 +285,23 @@ Ends (Some (Ask question)) input input' output output' store store' given given'
 Ends (Some Ixf) input input' output output' store store' given given' end = ExportEnds input input' output output' given given' end × (store' ≡ store)
 Ends (Some Restore) input input' output output' store store' given given' end = RestoreEnds input input' output output' store store' end × (given' ≡ given)
 Ends (Some Dump) input input' output output' store store' given given' end = DumpEnds input input' output output' store store' end × (given' ≡ given)
+Ends (Some Session) input input' output output' store store' given given' end = SessionEnds input input' output output' store store' end × (given' ≡ given)
+
+-- Which command doesn't run without a handle to wait with.
+abbrev pub waits : Option Command → Bool
+waits (Some Session) = true
+waits (Some Dump) = false
+waits (Some Restore) = false
+waits (Some (Ask question)) = false
+waits (Some Ixf) = false
+waits None = false
+
+-- How a run ends of a command that doesn't wait; of one that does nothing is done, and no end is told.
+abbrev pub PlainEnds : Option Command → Flow → Flow → Flow → Flow → Store → Store → Option ℕ → Option ℕ → Option End → Type 0
+PlainEnds command input input' output output' store store' given given' None =
+    (waits command ≡ true) × (input' ≡ input) × (output' ≡ output) × (store' ≡ store) × (given' ≡ given)
+PlainEnds command input input' output output' store store' given given' (Some end) =
+    (waits command ≡ false) × Ends command input input' output output' store store' given given' end
 
 -- the errors took the line, or a first part of it, and a write failed
 abbrev pub Tells : Flow → Flow → List ℕ → Type 0
@@ -265,6 +317,11 @@ pub record Runs (command : Option Command) (before after : Outside) (status : Op
   pub ends : Ends command before.input after.input before.output after.output before.store after.store before.second after.second end
   pub told : IsTold end before.errors after.errors status
 
+-- A run of a command that doesn't wait has a status. Of one that does nothing is done here.
+abbrev pub PlainRuns : Option Command → Outside → Outside → Option ℕ → Type 0
+PlainRuns command before after None = (waits command ≡ true) × (after ≡ before)
+PlainRuns command before after (Some status) = (waits command ≡ false) × Runs command before after (Some status)
+
 -- the statuses that a run may have
 abbrev pub IsStatus : Option ℕ → Type 0
 IsStatus None = ⊥
@@ -276,6 +333,7 @@ reads_whole (Ask question) = true
 reads_whole Ixf = true
 reads_whole Restore = true
 reads_whole Dump = false
+reads_whole Session = false
 
 -- how a run ends whose input is longer than the limit: it is refused as such, or a read failed, or memory ran out
 abbrev pub IsLongEnd : End → Type 0

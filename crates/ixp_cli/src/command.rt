@@ -3,7 +3,7 @@ ghost use Rattle.std.specs.Prelude.{◌≡◌, ◌↔◌, ◌≤◌, List, ℕ, 
 ghost use Rattle.ixp_cli.specs.declared.command.Command.TheVariants.{Ask};
 ghost use Rattle.ixp_cli.specs.declared.command.Question.TheVariants.{Generate as AskFor};
 ghost use Rattle.ixp_cli.specs.Restores.{Store};
-ghost use Rattle.ixp_cli.specs.Runs.{Answers, AsksInVain, Ends, Flow, IsQuestion, IsStatus, Outside, QuestionEnds, RefusedOr, Runs, command_by, command_in, command_with, too_long};
+ghost use Rattle.ixp_cli.specs.Runs.{Answers, AsksInVain, Flow, IsQuestion, IsStatus, Outside, PlainEnds, PlainRuns, QuestionEnds, RefusedOr, Runs, command_by, command_in, command_with, too_long};
 
 use crate::check::check;
 use crate::dump::run_dump;
@@ -13,6 +13,7 @@ use crate::export::export;
 use crate::fate::fate;
 use crate::generation::router_text;
 use crate::restore::run_restore;
+use crate::session::run_session;
 use ixp_causes::{Cause, Code, Place};
 use ixp_io::{Clock, Door, Gate, Keeper, Sink, Source, WholeFault, read_whole, write_all};
 use ixp_num::Name;
@@ -44,6 +45,8 @@ pub enum Command {
     Restore,
     /// Writes the dump of the store's registry.
     Dump,
+    /// Answers requests.
+    Session,
 }
 
 fn ask(question: Question) -> Command
@@ -68,6 +71,8 @@ fn command_by(word: &[u8]) -> Option<Command>
         Some(Command::Restore)
     } else if word == b"dump".as_slice() {
         Some(Command::Dump)
+    } else if word == b"session".as_slice() {
+        Some(Command::Session)
     } else {
         None
     }
@@ -155,7 +160,7 @@ fn run_question<S: Source, K: Sink>(
     }
 }
 
-/// Runs the command that the words are, if they are one.
+/// Runs the command that the words are, if they are one, and it doesn't wait.
 fn run_words<S: Source, K: Sink, P: Keeper, C: Clock>(
     alloc: Global,
     words: &[&str],
@@ -163,8 +168,8 @@ fn run_words<S: Source, K: Sink, P: Keeper, C: Clock>(
     output: &mut K,
     keeper: &mut P,
     clock: &mut C,
-) -> End
-    ensures { Ends (command_in (map (λ w. w.now) words.now)) (record { bytes = S.left input.old; faults = S.read_faults input.old })
+) -> Option<End>
+    ensures { PlainEnds (command_in (map (λ w. w.now) words.now)) (record { bytes = S.left input.old; faults = S.read_faults input.old })
         (record { bytes = S.left input.new; faults = S.read_faults input.new })
         (record { bytes = K.written output.old; faults = K.write_faults output.old })
         (record { bytes = K.written output.new; faults = K.write_faults output.new })
@@ -172,15 +177,18 @@ fn run_words<S: Source, K: Sink, P: Keeper, C: Clock>(
         (record { rows = P.table keeper.new; faults = P.faults keeper.new }) (C.given clock.old) (C.given clock.new) result }
 {
     match command_in(alloc, words) {
-        Ok(Some(Command::Ask { question })) => run_question(alloc, question, input, output),
+        Ok(Some(Command::Ask { question })) => {
+            Some(run_question(alloc, question, input, output))
+        }
         Ok(Some(Command::Ixf)) => {
             let second = clock.now();
-            run_question(alloc, Question::Export { second }, input, output)
+            Some(run_question(alloc, Question::Export { second }, input, output))
         }
-        Ok(Some(Command::Restore)) => run_restore(alloc, input, output, keeper),
-        Ok(Some(Command::Dump)) => run_dump(alloc, input, output, keeper),
-        Ok(None) => End::Usage,
-        Err(_) => End::NoMemory,
+        Ok(Some(Command::Restore)) => Some(run_restore(alloc, input, output, keeper)),
+        Ok(Some(Command::Dump)) => Some(run_dump(alloc, input, output, keeper)),
+        Ok(Some(Command::Session)) => None,
+        Ok(None) => Some(End::Usage),
+        Err(_) => Some(End::NoMemory),
     }
 }
 
@@ -188,7 +196,8 @@ fn run_words<S: Source, K: Sink, P: Keeper, C: Clock>(
 /// command, 2 where the input isn't of the command's form or is longer than 268,435,456 bytes, 3 and 4 where a read
 /// or a write failed, 5 where the keeper failed, 8 where memory ran out, 9 where no router has the handle, 11 where the
 /// store that is to be filled has a row, 6 where the store's rows are no registry's, 10 where the store has the form of an older
-/// version. A status other than 0 has a line on `errors`, as far as that takes it. None is kept for commands that wait, of which there is none yet.
+/// version. A status other than 0 has a line on `errors`, as far as that takes it. None stands for `session`, which [`run`] alone
+/// runs; nothing is read or written then.
 pub fn run_plain<S: Source, K: Sink, E: Sink, P: Keeper, C: Clock>(
     alloc: Global,
     words: &[&str],
@@ -198,10 +207,8 @@ pub fn run_plain<S: Source, K: Sink, E: Sink, P: Keeper, C: Clock>(
     keeper: &mut P,
     clock: &mut C,
 ) -> Option<u8>
-    ensures answered { IsSome result }
-
     // The run ends in a way of the command's own, which its status says; a line on the errors tells of it.
-    ensures runs { Runs (command_in (map (λ w. w.now) words.now))
+    ensures runs { PlainRuns (command_in (map (λ w. w.now) words.now))
         (record {
           input = record { bytes = S.left input.old; faults = S.read_faults input.old };
           output = record { bytes = K.written output.old; faults = K.write_faults output.old };
@@ -219,15 +226,17 @@ pub fn run_plain<S: Source, K: Sink, E: Sink, P: Keeper, C: Clock>(
 
     // The words are no command exactly where the status is 1.
     ensures usage { (result ≡ Some 1) ↔ (command_in (map (λ w. w.now) words.now) ≡ None) }
-    ensures statuses { IsStatus result }
+    ensures statuses { IsSome result → IsStatus result }
 {
-    let end = run_words(alloc, words, input, output, keeper, clock);
+    let end = run_words(alloc, words, input, output, keeper, clock)?;
     let status = end.status();
     report(errors, end);
     Some(status)
 }
 
-/// Runs the command that the words are, as [`run_plain`] does.
+/// Runs the command that the words are: `session` over the input and the output as one link, and all others as [`run_plain`] does.
+/// With `session` the status is 0 where the link closed, 2 where its input held what is no request or ended inside one, or the link
+/// had all the requests that it may have.
 pub fn run<R, S: Source, K: Sink, E: Sink, P: Keeper, C: Clock, D: Door, G: Gate>(
     _rt: &R,
     alloc: Global,
@@ -260,5 +269,13 @@ pub fn run<R, S: Source, K: Sink, E: Sink, P: Keeper, C: Clock, D: Door, G: Gate
     ensures links { D.links door.new ≡ D.links door.old }
     ensures door_faults { D.faults door.new ≡ D.faults door.old }
 {
-    run_plain(alloc, words, input, output, errors, keeper, clock).unwrap()
+    match run_plain(alloc, words, input, output, errors, keeper, clock) {
+        Some(status) => status,
+        None => {
+            let end = run_session(alloc, input, output, keeper);
+            let status = end.status();
+            report(errors, end);
+            status
+        }
+    }
 }

@@ -31,6 +31,44 @@ pub enum End {
     Damaged { what: Items<u8> },
     /// The store has the form of an older version, with this number.
     OldVersion { found: u64 },
+    /// A link ended before its input did, after so many requests.
+    BadLink { code: LinkCode, requests: u32 },
+}
+
+/// Why a link ended before its input did.
+#[derive(Clone, Copy, Debug, PartialEq, Eq, Drop)]
+pub enum LinkCode {
+    /// What stands there is no request.
+    H1,
+    /// The head of a request is too long.
+    H2,
+    /// The body of a request is too long.
+    H3,
+    /// The body of a request is in chunks.
+    H4,
+    /// The input ended inside a request.
+    H5,
+    /// The link had as many requests as it may have.
+    S1,
+}
+
+impl LinkCode {
+    ghost use Rattle.std.specs.Prelude.{◌≡◌};
+    ghost use Rattle.ixp_cli.specs.Sessions.{code_word};
+
+    /// The code as it is printed.
+    pub fn word(self) -> &'static [u8]
+        ensures { result.now ≡ code_word self }
+    {
+        match self {
+            LinkCode::H1 => b"H1",
+            LinkCode::H2 => b"H2",
+            LinkCode::H3 => b"H3",
+            LinkCode::H4 => b"H4",
+            LinkCode::H5 => b"H5",
+            LinkCode::S1 => b"S1",
+        }
+    }
 }
 
 /// Why a command has nothing to write for an input.
@@ -85,6 +123,7 @@ impl End {
             End::NotEmpty => 11,
             End::Damaged { .. } => 6,
             End::OldVersion { .. } => 10,
+            End::BadLink { .. } => 2,
         }
     }
 }
@@ -231,6 +270,37 @@ fn write_counted<E: Sink>(errors: &mut E, before: &[u8], number: u64) -> Result<
     Ok(())
 }
 
+/// Writes a word, a blank, a number and the line's end.
+#[tactic(auto, using(crate::proofs::Telling::telling))]
+fn write_word<E: Sink>(errors: &mut E, word: &[u8], number: u64) -> Result<(), Failed>
+    ensures ok { OnOk result (Takes (E.written errors.old) (E.written errors.new) (word.now ++ (32 ∷ (decimal number ++ 10 ∷ [])))) }
+    ensures err { OnErr result (TakesPart (E.written errors.old) (E.written errors.new) (word.now ++ (32 ∷ (decimal number ++ 10 ∷ [])))) }
+    ensures counts { E.write_faults errors.old ≤ E.write_faults errors.new }
+    ensures cause { OnErr result (Rose (E.write_faults errors.old) (E.write_faults errors.new)) }
+{
+    write_all(errors, word)?;
+    write_counted(errors, b" ", number)?;
+    Ok(())
+}
+
+/// Writes a text, a word, a blank, a number and the line's end.
+#[tactic(auto, using(crate::proofs::Telling::telling))]
+fn write_link<E: Sink>(
+    errors: &mut E,
+    before: &[u8],
+    word: &[u8],
+    requests: u32,
+) -> Result<(), Failed>
+    ensures ok { OnOk result (Takes (E.written errors.old) (E.written errors.new) (before.now ++ (word.now ++ (32 ∷ (decimal requests ++ 10 ∷ []))))) }
+    ensures err { OnErr result (TakesPart (E.written errors.old) (E.written errors.new) (before.now ++ (word.now ++ (32 ∷ (decimal requests ++ 10 ∷ []))))) }
+    ensures counts { E.write_faults errors.old ≤ E.write_faults errors.new }
+    ensures cause { OnErr result (Rose (E.write_faults errors.old) (E.write_faults errors.new)) }
+{
+    write_all(errors, before)?;
+    write_word(errors, word, u64::from(requests))?;
+    Ok(())
+}
+
 /// Writes the line that tells how a run ended, if there is one to write.
 fn write_end<E: Sink>(errors: &mut E, end: End) -> Result<(), Failed>
     ensures ok { OnOk result (Takes (E.written errors.old) (E.written errors.new) (error_text end)) }
@@ -251,6 +321,9 @@ fn write_end<E: Sink>(errors: &mut E, end: End) -> Result<(), Failed>
         End::NotEmpty => write_all(errors, b"ixpm: store not empty\n"),
         End::Damaged { what } => write_named(errors, b"ixpm: damaged ", what.as_slice()),
         End::OldVersion { found } => write_counted(errors, b"ixpm: old store ", found),
+        End::BadLink { code, requests } => {
+            write_link(errors, b"ixpm: bad input ", code.word(), requests)
+        }
     }
 }
 

@@ -12,7 +12,8 @@ mod generation;
 mod input;
 pub mod laws;
 mod restore;
+mod session;
 mod unloaded;
 
 pub use command::{Command, INPUT_LIMIT, Question, run, run_plain};
-pub use end::End;
+pub use end::{End, LinkCode};

@@ -1,6 +1,6 @@
 //! How a run ends whose store can't be loaded.
 ghost use Rattle.std.specs.Prelude.{◌≡◌, ◌++◌, OnOk, IfOk};
-ghost use Rattle.ixp_cli.specs.Unloaded.{Unloaded, damage_text, damage_word};
+ghost use Rattle.ixp_cli.specs.Sessions.{Unloaded, damage_text, damage_word};
 
 use crate::end::End;
 use ixp_io::RowName;

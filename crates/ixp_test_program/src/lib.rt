@@ -7,8 +7,8 @@
 #[cfg(test)]
 mod cases;
 #[cfg(test)]
-mod dumping;
-#[cfg(test)]
 mod restoring;
 #[cfg(test)]
 mod runs;
+#[cfg(test)]
+mod sessions;

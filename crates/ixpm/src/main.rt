@@ -24,6 +24,7 @@ const HELP: &str = "ixpm: the registry of an internet exchange, and its route se
   ixpm restore     reads the dump of a registry on standard input, and puts it into the store, the file ixpm.db of the
                    current folder, which has to be empty
   ixpm dump        writes the dump of the registry in the store
+  ixpm session     answers the HTTP requests on standard input, over the registry in the store
   ixpm --help      writes this
   ixpm --version   writes the version
 
