@@ -5,6 +5,7 @@ use crate::SqlKeeper;
 use crate::refusals::counted;
 use ixp_io::{Change, KeepFault, Keeper, Row, RowName};
 use sqlite::{Alter, Connection, Error, File, FileStore};
+use sqlite_trees::store::Store;
 use std::alloc::{AllocError, Global};
 
 /// A keeper over the store at a path. It is generic so that it may go to another thread.
@@ -42,6 +43,13 @@ fn opened(rt: &HostRuntime, path: &str, open: Option<Opened>) -> Result<Opened, 
     }
 }
 
+// Copies the log into the file, and closes both.
+fn shut(mut store: FileStore<File>) {
+    store.rollback();
+    let _ = store.checkpoint();
+    let _files = store.close();
+}
+
 impl PathKeeper<FileStore<File>> {
     /// A keeper over the file at this path, which isn't opened yet.
     pub fn new(rt: &HostRuntime, path: &str) -> Result<FileKeeper, AllocError>
@@ -64,7 +72,9 @@ impl PathKeeper<FileStore<File>> {
             faults: _,
         } = self;
         if let Some(keeper) = open {
-            let _ = keeper.into_connection().close();
+            if let Some(store) = keeper.into_store() {
+                shut(store);
+            }
         }
     }
 }

@@ -9,6 +9,7 @@ mod file_keeper;
 mod refusals;
 mod sql_keeper;
 mod statements;
+mod trees;
 
 pub use file_keeper::{FileKeeper, PathKeeper};
 pub use sql_keeper::SqlKeeper;

@@ -4,6 +4,7 @@ ghost use Rattle.ixp_io.specs.Faults.{last_count};
 
 use ixp_io::KeepFault;
 use sqlite::{Error, ErrorCode};
+use sqlite_trees::error::StoreError;
 
 /// Want of memory is answered as such, and every other refusal is counted.
 pub fn counted(faults: &mut u64, refusal: &Error) -> KeepFault
@@ -18,4 +19,16 @@ pub fn counted(faults: &mut u64, refusal: &Error) -> KeepFault
             KeepFault::Failed
         }
     }
+}
+
+/// A failure of the store as the connection would tell it.
+pub fn named(error: StoreError) -> Error {
+    Error::SqliteFailure(match error {
+        StoreError::OutOfMemory => ErrorCode::OutOfMemory,
+        StoreError::Io => ErrorCode::SystemIoFailure,
+        StoreError::Corrupt => ErrorCode::DatabaseCorrupt,
+        StoreError::Full => ErrorCode::DiskFull,
+        StoreError::Broken => ErrorCode::Closed,
+        StoreError::Unstorable => ErrorCode::TooBig,
+    })
 }

@@ -1,4 +1,5 @@
-//! The statements of a keeper.
+//! The statements of a keeper: that which makes the table, and those that change and read rows where the database has other objects
+//! beside it. Any other database is changed and read by `trees.rt`.
 //!
 //! Each call of the connection stands in a function without a clause of its own: a proof that carries what several of
 //! them say of a database takes minutes.
@@ -53,7 +54,7 @@ fn make_table<S: Alter>(conn: &mut Connection<S>) -> Result<(), Error> {
 }
 
 /// Makes the table in an empty database. A database of another program is refused and stays as it is.
-fn ensure_table<S: Alter>(conn: &mut Connection<S>) -> Result<(), Error> {
+pub fn ensure_table<S: Alter>(conn: &mut Connection<S>) -> Result<(), Error> {
     if number_made(conn, TABLE)? == 1 {
         return Ok(());
     }
@@ -67,9 +68,8 @@ fn prepare<S: Alter>(conn: &mut Connection<S>, text: &str) -> Result<Statement, 
     conn.prepare(text)
 }
 
-/// Sees to the table, and prepares the statements.
-pub fn begin<S: Alter>(conn: &mut Connection<S>) -> Result<Statements, Error> {
-    ensure_table(conn)?;
+/// Prepares the statements.
+pub fn prepare_all<S: Alter>(conn: &mut Connection<S>) -> Result<Statements, Error> {
     Ok(Statements {
         set: prepare(conn, SET)?,
         delete: prepare(conn, DELETE)?,

@@ -27,11 +27,10 @@ fn open(alloc: Global, files: Files<Stopping>) -> Result<Connection<Store>, File
     }
 }
 
-fn close(conn: Connection<Store>) -> (bool, Files<Stopping>) {
-    match conn.close_files() {
-        Ok(files) => (true, files),
-        Err((_, store)) => (false, store.close()),
-    }
+// Copies the log into the file.
+fn close(mut store: Store) -> (bool, Files<Stopping>) {
+    let copied = store.checkpoint().is_ok();
+    (copied, store.close())
 }
 
 // Makes the batches up to the first that fails, and tells how many it made.
@@ -67,7 +66,10 @@ fn run(alloc: Global, files: Files<Stopping>) -> Result<Stopped, KeepFault> {
     };
     let mut keeper = SqlKeeper::adopt(conn);
     let told = commit_all(alloc, &mut keeper, BATCHES);
-    let (closed, files) = close(keeper.into_connection());
+    let Some(store) = keeper.into_store() else {
+        return Err(KeepFault::Failed);
+    };
+    let (closed, files) = close(store);
     Ok(Stopped {
         told: told?,
         closed,
@@ -84,7 +86,9 @@ fn come_back(files: &mut Files<Stopping>) {
 fn rows_in(alloc: Global, conn: Connection<Store>) -> Result<Vec<u8>, KeepFault> {
     let mut keeper = SqlKeeper::adopt(conn);
     let rows = shown(alloc, &mut keeper);
-    let _files = keeper.into_connection().into_store().close();
+    if let Some(store) = keeper.into_store() {
+        let _files = store.close();
+    }
     rows
 }
 

@@ -78,14 +78,18 @@ fn made(rt: &HostRuntime, path: &str, number: u8) -> Result<(), KeepFault> {
     done
 }
 
-// The rows after two batches.
-fn stepped(rt: &HostRuntime, path: &str) -> Result<Vec<u8>, KeepFault> {
-    made(rt, path, 1)?;
-    made(rt, path, 2)?;
+fn rows_in(rt: &HostRuntime, path: &str) -> Result<Vec<u8>, KeepFault> {
     let mut keeper = FileKeeper::new(rt, path)?;
     let rows = shown(rt.alloc(), &mut keeper);
     keeper.close();
     rows
+}
+
+// The rows after two batches.
+fn stepped(rt: &HostRuntime, path: &str) -> Result<Vec<u8>, KeepFault> {
+    made(rt, path, 1)?;
+    made(rt, path, 2)?;
+    rows_in(rt, path)
 }
 
 const STEPPED: &[u8] = b"\x00\x01\x02\x02\x01\x00\xff\x01x\x02\x02\x00\xff\x01x\x03\x02\x00";
@@ -168,6 +172,42 @@ fn another_programs_file_is_a_fault_and_stays(rt: HostRuntime) -> Result<(), Fai
     assert!(rt; asked(&rt, "notes.db")? == REFUSED);
     assert!(rt; objects(&rt, "notes.db") == Ok(1));
     clear(&rt, NOTES);
+    Ok(())
+}
+
+fn make_index(conn: &mut FileConnection) -> Result<(), Error> {
+    conn.execute("CREATE INDEX more ON entry (body)", &[])?;
+    Ok(())
+}
+
+fn add_index(rt: &HostRuntime, path: &str) -> Result<(), Error> {
+    let mut conn = Connection::open(rt, path)?;
+    let made = make_index(&mut conn);
+    conn.close()?;
+    made
+}
+
+// The rows after two batches, between which someone adds an index.
+fn stepped_beside(rt: &HostRuntime, path: &str) -> Result<Vec<u8>, KeepFault> {
+    made(rt, path, 1)?;
+    if add_index(rt, path).is_err() {
+        return Err(KeepFault::Failed);
+    }
+    made(rt, path, 2)?;
+    rows_in(rt, path)
+}
+
+const BESIDE: Names = ["beside.db", "beside.db-wal"];
+
+#[test]
+fn an_index_beside_the_table_does_no_harm(rt: HostRuntime) -> Result<(), Fail> {
+    clear(&rt, BESIDE);
+    match stepped_beside(&rt, "beside.db") {
+        Ok(rows) => assert!(rt; rows.as_slice() == STEPPED, "{rows:?}"),
+        Err(fault) => assert!(rt; false, "{fault:?}"),
+    }
+    assert!(rt; objects(&rt, "beside.db") == Ok(3));
+    clear(&rt, BESIDE);
     Ok(())
 }
 
