@@ -18,6 +18,8 @@ use Rattle.ixp_paths.specs.declared.table.Kind.TheVariants as kind
 use Rattle.ixp_paths.specs.declared.table.Question.{Question}
 use Rattle.ixp_paths.specs.declared.table.Question.TheVariants as question
 use Rattle.ixp_bodies.specs.Answers.{must, read_then, ThenSays}
+use Rattle.ixp_bodies.specs.declared.asked.RouteAsked.{RouteAsked}
+use Rattle.ixp_bodies.specs.Asked.{SaysRoute}
 use Rattle.ixp_bodies.specs.Bodies.{SaysEdit}
 use Rattle.ixp_bodies.specs.Edits.{handle_in}
 use Rattle.ixp_api.specs.Heads.{secret_of, number_of, seen_of}
@@ -44,6 +46,7 @@ query_of question.Member args = query.Member args.row
 query_of question.Contacts args = query.Contacts args.row
 query_of question.Rules args = query.Rules args.row
 query_of question.Use args = query.Use args.row args.family
+query_of question.Ixf args = query.Ixf 0
 
 -- the configuration of a router, where what was seen is a number of a request, or isn't said
 abbrev pub published : Args → Request → Said
@@ -52,10 +55,19 @@ published args request =
     read_then (must Seen (seen_of request.query)) (λ seen.
     Ok (call.Published (secret_of request.fields) router seen)))
 
+-- what becomes of a route: the body is tested after what was seen
+abbrev pub SaysExplain : Args → Request → Said → Type 0
+SaysExplain args request r =
+    ThenSays (handle_in args.router) (λ router.
+    ThenSays (must Seen (seen_of request.query)) (λ seen x.
+    (asked : Result RouteAsked CallFault) × SaysRoute request.body asked × (x ≡ read_then asked (λ a.
+    Ok (call.Explain (record { secret = secret_of request.fields; router = router; interface = args.row; seen = seen; asked = a })))))) r
+
 abbrev pub SaysCallOf : Kind → Args → Request → Said → Type 0
 SaysCallOf (kind.Edit k) args request r = SaysCallOfEdit k args request r
 SaysCallOf (kind.Ask q) args request r = r ≡ Ok (call.Ask (secret_of request.fields) (query_of q args))
 SaysCallOf kind.Config args request r = r ≡ published args request
+SaysCallOf kind.Explain args request r = SaysExplain args request r
 
 abbrev pub SaysFound : Found → Request → Said → Type 0
 SaysFound found.NoPath request r = r ≡ Err fault.NoPath

@@ -1,4 +1,5 @@
 //! Calls.
+use ixp_bodies::RouteAsked;
 use ixp_machine::Query;
 use ixp_num::{Items, Name};
 use ixp_steps::Entry;
@@ -11,4 +12,16 @@ pub enum Call {
     Ask(Items<u8>, Query),
     /// The configuration of a router, for who has the secret, which is to show the reader's edit of that number.
     Published(Items<u8>, Name, Option<u64>),
+    Explain(ExplainCall),
+}
+
+/// What becomes of a route that the interface's session with the router brings.
+#[derive(Debug, Drop)]
+pub struct ExplainCall {
+    pub secret: Items<u8>,
+    pub router: Name,
+    pub interface: u32,
+    /// The number of a request of the staff's that the answer is to show.
+    pub seen: Option<u64>,
+    pub asked: RouteAsked,
 }

@@ -9,7 +9,8 @@ mod heads;
 mod routing;
 mod seen;
 
-pub use call::Call;
+pub use call::{Call, ExplainCall};
+pub use ixp_bodies::RouteAsked;
 pub use ixp_json::{CallFault, Field, Pointer};
 pub use ixp_paths::Paths;
 pub use ixp_replies::{Outcome, reply_of};

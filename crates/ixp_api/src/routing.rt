@@ -5,10 +5,10 @@ ghost use Rattle.ixp_bodies.specs.Lawful.{is_lawful};
 ghost use Rattle.ixp_api.specs.Calls as spec;
 ghost use Rattle.ixp_api.specs.Heads as heads;
 
-use crate::call::Call;
+use crate::call::{Call, ExplainCall};
 use crate::heads::{number_of, secret_of};
 use crate::seen::seen_of;
-use ixp_bodies::{edit_of, router_of};
+use ixp_bodies::{edit_of, route_asked, router_of};
 use ixp_edits::Edit;
 use ixp_http::{Field, Request};
 use ixp_json::{CallFault, Pointer};
@@ -79,6 +79,7 @@ fn query_of(question: Question, args: &Args) -> Query
         Question::Contacts => Query::Contacts(args.row),
         Question::Rules => Query::Rules(args.row),
         Question::Use => Query::Use(args.row, args.family),
+        Question::Ixf => Query::Ixf { second: 0 },
     }
 }
 
@@ -116,6 +117,22 @@ fn config_call(alloc: Global, args: &Args, request: &Request) -> Result<Call, Ca
     Ok(Call::Published(secret, router, seen))
 }
 
+fn explain_call(alloc: Global, args: &Args, request: &Request) -> Result<Call, CallFault>
+    ensures { Gives (spec.SaysExplain args.now request.now) result }
+{
+    let router = router_of(alloc, args)?;
+    let seen = seen(alloc, request.query.as_slice())?;
+    let asked = route_asked(alloc, request.body.as_slice())?;
+    let secret = secret(alloc, request.fields.as_slice())?;
+    Ok(Call::Explain(ExplainCall {
+        secret,
+        router,
+        interface: args.row,
+        seen,
+        asked,
+    }))
+}
+
 fn call_of(alloc: Global, kind: Kind, args: &Args, request: &Request) -> Result<Call, CallFault>
     ensures { Gives (spec.SaysCallOf kind args.now request.now) result }
 {
@@ -123,6 +140,7 @@ fn call_of(alloc: Global, kind: Kind, args: &Args, request: &Request) -> Result<
         Kind::Edit(kind) => edit_call(alloc, kind, args, request),
         Kind::Ask(question) => ask_call(alloc, question, args, request),
         Kind::Config => config_call(alloc, args, request),
+        Kind::Explain => explain_call(alloc, args, request),
     }
 }
 

@@ -127,11 +127,12 @@ new_rows s p =
 abbrev pub batch : State → Prepared → List Change
 batch s p = map drop_row (old_rows s p) ++ map set_row (new_rows s p)
 
--- How many rows of a store a change of a registry is about, at most: those of the row that it replaces or takes out, and of the one that
--- it puts in. An interface has three of them, with its addresses; a member's rules and a public list have one for each item; all else is one.
+-- how many rules are in a member's list, where there is one
 abbrev pub rules_in : Option RuleList → ℕ
 rules_in o = if_there o 0 (λ l. length l.rules)
 
+-- How many rows of a store a change of a registry is about, at most: those of the row that it replaces or takes out, and of the one that
+-- it puts in. An interface has three of them, with its addresses; a member's rules and a public list have one for each item; all else is one.
 abbrev pub rows_about : Registry → RegistryChange → ℕ
 rows_about r (of.Interfaces c) = 6
 rows_about r (of.Rules c) = rules_in (old_row rules_key (λ k. k ∷ []) c r.rules) + rules_in (new_row c)

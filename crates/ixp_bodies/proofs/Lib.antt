@@ -1,3 +1,4 @@
+pub mod AskedItems
 pub mod ReadValues
 pub mod Families
 pub mod Listed

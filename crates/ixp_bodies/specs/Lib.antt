@@ -1,4 +1,5 @@
 pub mod Answers
+pub mod Asked
 pub mod Values
 pub mod Edits
 pub mod Rules

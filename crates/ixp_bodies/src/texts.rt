@@ -64,7 +64,8 @@ pub(crate) fn identifier_in(body: &Value, field: Field) -> Option<u32>
     }
 }
 
-fn prefix_in(body: &Value, field: Field) -> Option<Prefix>
+/// A prefix.
+pub(crate) fn prefix_in(body: &Value, field: Field) -> Option<Prefix>
     ensures { spec.PrefixIn field (view body.now) result }
 {
     match text_in(body, field) {

@@ -21,7 +21,8 @@ pub(crate) fn must<T>(pointer: Pointer, value: Option<T>) -> Result<T, CallFault
     }
 }
 
-fn number_at(value: &Value) -> Option<u32>
+/// A value that is a number.
+pub(crate) fn number_at(value: &Value) -> Option<u32>
     ensures { result ≡ spec.number_at (view value.now) }
 {
     match value.as_u64() {

@@ -6,7 +6,7 @@ use Rattle.ixp_load.specs.declared.fault.LoadFault.{LoadFault}
 use Rattle.ixp_load.specs.declared.fault.LoadFault.TheVariants as load
 use Rattle.ixp_cli.specs.Sessions.{Unloaded, end_by}
 use Rattle.ixp_cli.specs.declared.command.Command.{Command}
-use Rattle.ixp_cli.specs.declared.command.Command.TheVariants.{Ask, Ixf, Restore, Dump, Session}
+use Rattle.ixp_cli.specs.declared.command.Command.TheVariants.{Ask, Ixf, Restore, Dump, Session, Demo}
 use Rattle.ixp_cli.specs.declared.end.End.{End}
 use Rattle.ixp_cli.specs.declared.end.End.TheVariants.{Done, Usage, BadInput, ReadFault, WriteFault, KeeperFault, NoMemory, UnknownRouter, NotEmpty, Damaged, OldVersion, BadLink}
 use Rattle.ixp_cli.specs.Restores.{Store}
@@ -36,18 +36,19 @@ served_usage link.NoMemory n e = let bad : ⊥ = cc in bad
 
 -- a command ends otherwise than as usage
 no_usage : (i j k l : Flow) (s u : Store) → NotLoaded i j k l s u Usage → ⊥
-no_usage i j k l s u (input, output, rows, (fault, is, cause)) = never_usage fault is
+no_usage i j k l s u (input, output, rows, (fault, is, cause, version)) = never_usage fault is
 
-no_session : (i j k l : Flow) (s u : Store) → SessionEnds i j k l s u Usage → ⊥
-no_session i j k l s u (inl n) = no_usage i j k l s u n
-no_session i j k l s u (inr x) = served_usage x.served.end x.served.requests x.is_end
+no_session : (i j k l : Flow) (s u : Store) (g h : Option ℕ) → SessionEnds i j k l s u g h Usage → ⊥
+no_session i j k l s u g h (inl (n, clock)) = no_usage i j k l s u n
+no_session i j k l s u g h (inr x) = served_usage x.served.end x.served.requests x.is_end
 
 not_usage : (c : Command) (i j k l : Flow) (s u : Store) (g h : Option ℕ) → Ends (Some c) i j k l s u g h Usage → ⊥
 not_usage (Ask question) i j k l s u g h (e, kept, clock) = e
 not_usage Ixf i j k l s u g h ((second, gave, e), kept) = e
 not_usage Restore i j k l s u g h (e, clock) = e
 not_usage Dump i j k l s u g h (e, clock) = no_usage i j k l s u e
-not_usage Session i j k l s u g h (e, clock) = no_session i j k l s u e
+not_usage (Demo members) i j k l s u g h (e, input, kept, clock) = e
+not_usage Session i j k l s u g h e = no_session i j k l s u g h e
 
 other_status : (n : ℕ) (c : Command) → (◌≡◌ {A = Option ℕ} (Some n) (Some 1) → ⊥) → (◌≡◌ {A = Option ℕ} (Some n) (Some 1)) ↔ (◌≡◌ {A = Option Command} (Some c) None)
 other_status n c never = ((λ e. absurd (never e)), λ e. absurd cc)
@@ -114,19 +115,20 @@ waits_alone (Some (Ask question)) wait = absurd (let bad : ⊥ = cc in bad)
 waits_alone (Some Ixf) wait = absurd (let bad : ⊥ = cc in bad)
 waits_alone (Some Restore) wait = absurd (let bad : ⊥ = cc in bad)
 waits_alone (Some Dump) wait = absurd (let bad : ⊥ = cc in bad)
+waits_alone (Some (Demo members)) wait = absurd (let bad : ⊥ = cc in bad)
 waits_alone (Some Session) wait = refl
 
-session_run : (before after : Outside) (end : End) (status : ℕ) → SessionEnds before.input after.input before.output after.output before.store after.store end → after.second ≡ before.second
+session_run : (before after : Outside) (end : End) (status : ℕ) → SessionEnds before.input after.input before.output after.output before.store after.store before.second after.second end
     → status ≡ status_of end → Tells before.errors after.errors (error_text end) → Runs (Some Session) before after (Some status)
-session_run before after end status ends clock is line = a_run (Some Session) before after end (Some status) (ends, clock) (ap Some is) line
+session_run before after end status ends is line = a_run (Some Session) before after end (Some status) ends (ap Some is) line
 
 -- a session, where nothing was done before it
 pub waiting_run : (command : Option Command) (before between after : Outside) (end : End) (status : ℕ) → PlainRuns command before between None
-    → SessionEnds between.input after.input between.output after.output between.store after.store end → after.second ≡ between.second
+    → SessionEnds between.input after.input between.output after.output between.store after.store between.second after.second end
     → status ≡ status_of end → Tells between.errors after.errors (error_text end) → Runs command before after (Some status)
-waiting_run command before between after end status (wait, nothing) ends clock is line =
+waiting_run command before between after end status (wait, nothing) ends is line =
     subst (λ x. Runs x before after (Some status)) (sym (waits_alone command wait))
-    (subst (λ x. Runs (Some Session) x after (Some status)) nothing (session_run between after end status ends clock is line))
+    (subst (λ x. Runs (Some Session) x after (Some status)) nothing (session_run between after end status ends is line))
 
 one_status : (n m : ℕ) → ◌≡◌ {A = Option ℕ} (Some n) (Some m) → n ≡ m
 one_status n m e = cc

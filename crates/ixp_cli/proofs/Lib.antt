@@ -8,6 +8,7 @@ pub mod LongInputs
 pub mod OneAnswer
 pub mod OneOutput
 pub mod Refusals
+pub mod ServedWhole
 pub mod Telling
 pub mod Loading
 pub mod Mapped

@@ -1,6 +1,8 @@
 -- How runs end that load the store.
-use Rattle.std.proofs.Common.{◌≡◌, inl, inr, Result, Err, IsErrOf, refl, ap, ◌∙◌}
+use Rattle.std.proofs.Common.{◌≡◌, inl, inr, Err, IsErrOf, refl, ap}
 use Rattle.ixp_io.specs.Faults.{Rose}
+use Rattle.ixp_io.specs.Told.{WhereTold}
+use Rattle.ixp_load.specs.Answers.{TellsVersion}
 use Rattle.ixp_load.specs.declared.fault.LoadFault.{LoadFault}
 use Rattle.ixp_load.specs.declared.fault.LoadFault.TheVariants as load
 use Rattle.ixp_steps.specs.declared.state.State.{State}
@@ -11,9 +13,9 @@ use Rattle.ixp_cli.specs.Runs.{Flow, NotLoaded, DumpEnds}
 use Rattle.ixp_cli.specs.Sessions.{Unloaded}
 
 pub not_loaded :
-    {A : Type 0} (i o : Flow) (s u : Store) (fault : LoadFault) (end : End) (result : Result A LoadFault) → result ≡ Err fault
-    → (IsErrOf result load.KeeperFault → Rose s.faults u.faults) → u.rows ≡ s.rows → Unloaded fault end → NotLoaded i i o o s u end
-not_loaded i o s u fault end result is cause rows un = (refl, refl, rows, (fault, un, λ e. cause (is ∙ ap Err e)))
+    (i o : Flow) (s u : Store) (fault : LoadFault) (end : End) → (IsErrOf {T = State} (Err fault) load.KeeperFault → Rose s.faults u.faults)
+    → WhereTold s.rows (TellsVersion (Err fault)) → u.rows ≡ s.rows → Unloaded fault end → NotLoaded i i o o s u end
+not_loaded i o s u fault end cause version rows un = (refl, refl, rows, (fault, un, (λ e. cause (ap Err e)), version))
 
 never_done : (fault : LoadFault) → Unloaded fault Done → ⊥
 never_done load.KeeperFault e = let bad : ⊥ = cc in bad
@@ -29,10 +31,10 @@ never_written (load.Damaged name damage) (inr e) = let bad : ⊥ = cc in bad
 never_written (load.OldVersion found) e = let bad : ⊥ = cc in bad
 never_written load.NoMemory e = let bad : ⊥ = cc in bad
 
-pub dump_unloaded : (i j k l : Flow) (s u : Store) (end : End) → NotLoaded i j k l s u end → DumpEnds i j k l s u end
-dump_unloaded i j k l s u Done (input, output, rows, (fault, is, cause)) = absurd (never_done fault is)
-dump_unloaded i j k l s u WriteFault (input, output, rows, (fault, is, cause)) = absurd (never_written fault is)
-dump_unloaded i j k l s u NoMemory (input, output, rows, (fault, is, cause)) = (input, output, rows)
+dump_unloaded : (i j k l : Flow) (s u : Store) (end : End) → NotLoaded i j k l s u end → DumpEnds i j k l s u end
+dump_unloaded i j k l s u Done (input, output, rows, (fault, is, cause, version)) = absurd (never_done fault is)
+dump_unloaded i j k l s u WriteFault (input, output, rows, (fault, is, cause, version)) = absurd (never_written fault is)
+dump_unloaded i j k l s u NoMemory (input, output, rows, (fault, is, cause, version)) = (input, output, rows)
 dump_unloaded i j k l s u Usage n = n
 dump_unloaded i j k l s u (BadInput c) n = n
 dump_unloaded i j k l s u ReadFault n = n
@@ -43,4 +45,6 @@ dump_unloaded i j k l s u (Damaged what) n = n
 dump_unloaded i j k l s u (OldVersion found) n = n
 dump_unloaded i j k l s u (BadLink code requests) n = n
 
-pub ruleset loading = (not_loaded, dump_unloaded)
+pub unloaded_dump : (i o : Flow) (s u : Store) (fault : LoadFault) (end : End) → (IsErrOf {T = State} (Err fault) load.KeeperFault → Rose s.faults u.faults)
+    → WhereTold s.rows (TellsVersion (Err fault)) → u.rows ≡ s.rows → Unloaded fault end → DumpEnds i i o o s u end
+unloaded_dump i o s u fault end cause version rows un = dump_unloaded i i o o s u end (not_loaded i o s u fault end cause version rows un)

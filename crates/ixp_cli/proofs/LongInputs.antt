@@ -1,7 +1,7 @@
 -- An input that is longer than the limit.
 use Rattle.std.proofs.Common.{◌≡◌, ◌<◌, ◌≤◌, ℕ, true, List, [], ◌++◌, length, length-append, Option, Some, None, Err, inl, inr, ap, sym, ◌∙◌, arith}
 use Rattle.ixp_cli.specs.declared.command.Command.{Command}
-use Rattle.ixp_cli.specs.declared.command.Command.TheVariants.{Ask, Ixf, Restore, Dump, Session}
+use Rattle.ixp_cli.specs.declared.command.Command.TheVariants.{Ask, Ixf, Restore, Dump, Session, Demo}
 use Rattle.ixp_cli.specs.declared.command.Question.{Question}
 use Rattle.ixp_cli.specs.declared.command.Question.TheVariants.{Export}
 use Rattle.ixp_cli.specs.declared.end.End.{End}
@@ -69,6 +69,7 @@ of_command (Ask question) before after left end reads is long (ends, kept, clock
 of_command Ixf before after left end reads is long ((second, gave, ends), kept) = long_end (Export second) left before.input after.input before.output after.output is long end ends
 of_command Restore before after left end reads is long (ends, clock) = long_restore left before.input after.input before.output after.output before.store after.store is long end ends
 of_command Dump before after left end reads is long ends = absurd (let bad : ⊥ = cc in bad)
+of_command (Demo members) before after left end reads is long ends = absurd (let bad : ⊥ = cc in bad)
 of_command Session before after left end reads is long ends = absurd (let bad : ⊥ = cc in bad)
 
 pub long_run : (command : Command) (before after : Outside) (status : Option ℕ) (left : List ℕ) → reads_whole command ≡ true → before.input.bytes ≡ Some left → input_limit < length left → Runs (Some command) before after status

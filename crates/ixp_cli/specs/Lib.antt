@@ -1,4 +1,5 @@
 pub mod Checks
+pub mod Demos
 pub mod Evals
 pub mod Exports
 pub mod Fates
@@ -6,4 +7,5 @@ pub mod Generates
 pub mod Inputs
 pub mod Restores
 pub mod Runs
+pub mod Served
 pub mod Sessions

@@ -1,5 +1,5 @@
 -- What a run of the program does.
-use Rattle.std.specs.Prelude.{◌≡◌, ◌<◌, ◌≤◌, ◌⊎◌, ◌+◌, ℕ, ◌==◌, ◌&&◌, ◌||◌, Bool, true, false, List, [], ◌∷◌, ◌++◌, length, Option, Some, None, Result, Ok, Err, codes, decimal, IsTrue, if◌then◌else◌}
+use Rattle.std.specs.Prelude.{◌≡◌, ◌<◌, ◌≤◌, ◌⊎◌, ◌+◌, ℕ, ◌==◌, ◌&&◌, ◌||◌, Bool, true, false, List, [], ◌∷◌, ◌++◌, length, Option, Some, None, Result, Ok, Err, option_map, codes, decimal, IsTrue, if◌then◌else◌}
 use Rattle.ixp_causes.specs.declared.Cause.{Cause}
 use Rattle.ixp_causes.specs.declared.Code.TheVariants.{U5}
 use Rattle.ixp_causes.specs.declared.Place.TheVariants.{Byte}
@@ -10,7 +10,7 @@ use Rattle.ixp_registry.specs.Alphabets.{is_handle}
 use Rattle.ixp_registry.specs.declared.registry.Registry.{Registry}
 use Rattle.ixp_tables.specs.Tables.{same}
 use Rattle.ixp_cli.specs.declared.command.Command.{Command}
-use Rattle.ixp_cli.specs.declared.command.Command.TheVariants.{Ask, Ixf, Restore, Dump, Session}
+use Rattle.ixp_cli.specs.declared.command.Command.TheVariants.{Ask, Ixf, Restore, Dump, Session, Demo}
 use Rattle.ixp_cli.specs.declared.restore.NoDump.{NoDump}
 use Rattle.ixp_cli.specs.declared.restore.NoDump.TheVariants as no
 use Rattle.ixp_cli.specs.declared.command.Question.{Question}
@@ -20,6 +20,7 @@ use Rattle.ixp_cli.specs.declared.end.End.TheVariants.{Done, Usage, BadInput, Re
 use Rattle.ixp_cli.specs.declared.end.NoAnswer.{NoAnswer}
 use Rattle.ixp_cli.specs.declared.end.NoAnswer.TheVariants as answer
 use Rattle.ixp_cli.specs.Checks.{Checks, IsNoDump}
+use Rattle.ixp_cli.specs.Demos.{demo_text, members_in}
 use Rattle.ixp_cli.specs.Evals.{Evaluates, IsNoEval}
 use Rattle.ixp_cli.specs.Exports.{Exports}
 use Rattle.ixp_cli.specs.Fates.{Fates, HasNoRouter, IsNoFate}
@@ -29,7 +30,7 @@ use Rattle.ixp_replies.specs.declared.outcome.Outcome.{Outcome}
 use Rattle.ixp_lines.specs.declared.version.Version.TheVariants.{Two}
 use Rattle.ixp_link.specs.declared.ends.Served.{Served}
 use Rattle.ixp_link.specs.Links.{Serves}
-use Rattle.ixp_load.specs.Answers.{IsStoreOf}
+use Rattle.ixp_load.specs.Answers.{IsStoreOf, TellsVersion}
 use Rattle.ixp_load.specs.declared.fault.LoadFault.{LoadFault}
 use Rattle.ixp_load.specs.declared.fault.LoadFault.TheVariants.{KeeperFault as StoreFault}
 use Rattle.ixp_plain_desk.specs.Turns.{IsTurn}
@@ -47,15 +48,22 @@ command_by word =
     else if same word (codes "ixf") then Some Ixf else if same word (codes "restore") then Some Restore else if same word (codes "dump") then Some Dump
     else if same word (codes "session") then Some Session else None
 
--- the command that a word and a handle are
+-- the command that a word and a handle are, or a word and a number of members
 abbrev pub command_with : List ℕ → List ℕ → Option Command
-command_with word handle = if same word (codes "generate") && is_handle handle then Some (Ask (Generate handle)) else None
+command_with word other =
+    if same word (codes "generate") && is_handle other then Some (Ask (Generate other))
+    else if same word (codes "demo") then option_map Demo (members_in other) else None
+
+-- a demo exchange has at most 4000 members
+abbrev pub IsSized : Option Command → Type 0
+IsSized (Some (Demo members)) = members ≤ 4000
+IsSized command = Unit {0}
 
 -- the command that words are
 abbrev pub command_in : List (List ℕ) → Option Command
 command_in [] = None
 command_in (word ∷ []) = command_by word
-command_in (word ∷ handle ∷ []) = command_with word handle
+command_in (word ∷ other ∷ []) = command_with word other
 command_in (word ∷ other ∷ third ∷ words) = None
 
 -- the command asks a question
@@ -224,11 +232,12 @@ RestoreEnds input input' output output' store store' (Damaged what) = ⊥
 RestoreEnds input input' output output' store store' (OldVersion found) = ⊥
 RestoreEnds input input' output output' store store' (BadLink code requests) = ⊥
 
--- The store couldn't be loaded: nothing was read or written, and its rows are as they were. A fault of the store came in this run.
+-- The store couldn't be loaded: nothing was read or written, and its rows are as they were. A fault of the store came in this run; an older version is told
+-- where the row of the version says so, and damage nowhere there.
 abbrev pub NotLoaded : Flow → Flow → Flow → Flow → Store → Store → End → Type 0
 NotLoaded input input' output output' store store' end =
     (input' ≡ input) × (output' ≡ output) × (store'.rows ≡ store.rows)
-    × ((fault : LoadFault) × Unloaded fault end × (fault ≡ StoreFault → Rose store.faults store'.faults))
+    × ((fault : LoadFault) × Unloaded fault end × (fault ≡ StoreFault → Rose store.faults store'.faults) × WhereTold store.rows (TellsVersion (Err fault)))
 
 -- the store has the rows of this valid state
 abbrev pub Holds : Store → State → Type 0
@@ -244,39 +253,46 @@ DumpEnds input input' output output' store store' WriteFault =
 DumpEnds input input' output output' store store' NoMemory = (input' ≡ input) × (output' ≡ output) × (store'.rows ≡ store.rows)
 DumpEnds input input' output output' store store' end = NotLoaded input input' output output' store store' end
 
--- A state, and how many calls of its store have failed.
-abbrev pub Kept : Type 0
-Kept = State × ℕ
+-- How `demo` ends: it writes how large the demo exchange with so many members is.
+abbrev pub DemoEnds : ℕ → Flow → Flow → End → Type 0
+DemoEnds members output output' Done = Takes output.bytes output'.bytes (demo_text members)
+DemoEnds members output output' WriteFault = TakesPart output.bytes output'.bytes (demo_text members) × Rose output.faults output'.faults
+DemoEnds members output output' NoMemory = output' ≡ output
+DemoEnds members output output' end = ⊥
 
--- a turn of the desk: by the machine of edits, with the store's faults
+-- A state, how many calls of its store have failed, and what the clock gave last.
+abbrev pub Kept : Type 0
+Kept = State × ℕ × Option ℕ
+
+-- a turn of the desk: by the machine of edits, with the store's faults and the clock's seconds
 abbrev pub TurnOf : Kept → Call → Outcome → Kept → Type 0
-TurnOf d call o e = IsTurn d.0 call o e.0 (Rose d.1 e.1)
+TurnOf d call o e = IsTurn d.0 call o e.0 (Rose d.1 e.1) d.2 e.2
 
 -- A session: the store was loaded, and its state answers the requests of the input, one after the other; the replies go to the output.
--- The store has the rows of the state after them. The session ends as its link does.
-pub record Serving (input input' output output' : Flow) (store store' : Store) (end : End) : Type 0 where
+-- The store has the rows of the state after them. The session ends as its link does. The clock is asked by requests for the export alone.
+pub record Serving (input input' output output' : Flow) (store store' : Store) (given given' : Option ℕ) (end : End) : Type 0 where
   pub before : State
   pub holds : Holds store before
   pub faults : ℕ
   pub more : store.faults ≤ faults
   pub after : State
   pub served : Served
-  pub serves : Serves TurnOf (before, faults) (after, store'.faults) input.bytes output.bytes output'.bytes
+  pub serves : Serves TurnOf (before, faults, given) (after, store'.faults, given') input.bytes output.bytes output'.bytes
       (Rose input.faults input'.faults) (Rose output.faults output'.faults) served
   pub still : Holds store' after
   pub is_end : end ≡ end_of served
 
-abbrev pub SessionEnds : Flow → Flow → Flow → Flow → Store → Store → End → Type 0
-SessionEnds input input' output output' store store' end =
-    NotLoaded input input' output output' store store' end ⊎ Serving input input' output output' store store' end
+abbrev pub SessionEnds : Flow → Flow → Flow → Flow → Store → Store → Option ℕ → Option ℕ → End → Type 0
+SessionEnds input input' output output' store store' given given' end =
+    (NotLoaded input input' output output' store store' end × (given' ≡ given)) ⊎ Serving input input' output output' store store' given given' end
 
 -- How `ixf` ends: it asks the clock, and then the question for the export at the second that the clock gave.
 abbrev pub ExportEnds : Flow → Flow → Flow → Flow → Option ℕ → Option ℕ → End → Type 0
 ExportEnds input input' output output' given given' end =
     (second : ℕ) × Told given given' (λ before last. last ≡ second) × QuestionEnds (Export second) input input' output output' end
 
--- How a run ends. Words that are no command end as usage, with nothing read or written. A question leaves the keeper alone, and `ixf` alone
--- asks the clock, of which it is said what it gave last.
+-- How a run ends. Words that are no command end as usage, with nothing read or written. A question leaves the keeper alone. `ixf` and
+-- `session` alone ask the clock, of which it is said what it gave last.
 abbrev pub Ends : Option Command → Flow → Flow → Flow → Flow → Store → Store → Option ℕ → Option ℕ → End → Type 0
 Ends None input input' output output' store store' given given' end =
     (end ≡ Usage) × (input' ≡ input) × (output' ≡ output) × (store' ≡ store) × (given' ≡ given)
@@ -285,12 +301,15 @@ Ends (Some (Ask question)) input input' output output' store store' given given'
 Ends (Some Ixf) input input' output output' store store' given given' end = ExportEnds input input' output output' given given' end × (store' ≡ store)
 Ends (Some Restore) input input' output output' store store' given given' end = RestoreEnds input input' output output' store store' end × (given' ≡ given)
 Ends (Some Dump) input input' output output' store store' given given' end = DumpEnds input input' output output' store store' end × (given' ≡ given)
-Ends (Some Session) input input' output output' store store' given given' end = SessionEnds input input' output output' store store' end × (given' ≡ given)
+Ends (Some (Demo members)) input input' output output' store store' given given' end =
+    DemoEnds members output output' end × (input' ≡ input) × (store' ≡ store) × (given' ≡ given)
+Ends (Some Session) input input' output output' store store' given given' end = SessionEnds input input' output output' store store' given given' end
 
 -- Which command doesn't run without a handle to wait with.
 abbrev pub waits : Option Command → Bool
 waits (Some Session) = true
 waits (Some Dump) = false
+waits (Some (Demo members)) = false
 waits (Some Restore) = false
 waits (Some (Ask question)) = false
 waits (Some Ixf) = false
@@ -333,6 +352,7 @@ reads_whole (Ask question) = true
 reads_whole Ixf = true
 reads_whole Restore = true
 reads_whole Dump = false
+reads_whole (Demo members) = false
 reads_whole Session = false
 
 -- how a run ends whose input is longer than the limit: it is refused as such, or a read failed, or memory ran out

@@ -1,11 +1,13 @@
 //! The top calls: a command by its words, over the objects that the caller hands in.
-ghost use Rattle.std.specs.Prelude.{◌≡◌, ◌↔◌, ◌≤◌, List, ℕ, map, Option, Some, None, Ok, Err, IsSome, IsTrue, IfOk, IfErr};
-ghost use Rattle.ixp_cli.specs.declared.command.Command.TheVariants.{Ask};
+ghost use Rattle.std.specs.Prelude.{◌≡◌, ◌↔◌, ◌≤◌, List, ℕ, map, option_map, Option, Some, None, Ok, Err, IsSome, IsTrue, IfOk, IfErr, IfSome};
+ghost use Rattle.ixp_cli.specs.declared.command.Command.TheVariants.{Ask, Demo};
 ghost use Rattle.ixp_cli.specs.declared.command.Question.TheVariants.{Generate as AskFor};
+ghost use Rattle.ixp_cli.specs.Demos.{members_in};
 ghost use Rattle.ixp_cli.specs.Restores.{Store};
-ghost use Rattle.ixp_cli.specs.Runs.{Answers, AsksInVain, Flow, IsQuestion, IsStatus, Outside, PlainEnds, PlainRuns, QuestionEnds, RefusedOr, Runs, command_by, command_in, command_with, too_long};
+ghost use Rattle.ixp_cli.specs.Runs.{Answers, AsksInVain, Flow, IsQuestion, IsSized, IsStatus, Outside, PlainEnds, PlainRuns, QuestionEnds, RefusedOr, Runs, command_by, command_in, command_with, too_long};
 
 use crate::check::check;
+use crate::demo::run_demo;
 use crate::dump::run_dump;
 use crate::end::{End, NoAnswer, report};
 use crate::eval::eval;
@@ -17,11 +19,15 @@ use crate::session::run_session;
 use ixp_causes::{Cause, Code, Place};
 use ixp_io::{Clock, Door, Gate, Keeper, Sink, Source, WholeFault, read_whole, write_all};
 use ixp_num::Name;
+use ixp_paths::number_upto;
 use ixp_places::is_handle;
 use std::alloc::{AllocError, Global};
 
 /// The greatest number of bytes of an input that is read whole.
 pub const INPUT_LIMIT: usize = 268_435_456;
+
+/// The most members that a demo exchange may have.
+const MOST_MEMBERS: u64 = 4000;
 
 /// A command that reads all of its input, and writes what there is to say of it.
 #[derive(Debug, Drop)]
@@ -47,6 +53,8 @@ pub enum Command {
     Dump,
     /// Answers requests.
     Session,
+    /// Writes how large the demo exchange with so many members is.
+    Demo { members: u32 },
 }
 
 fn ask(question: Question) -> Command
@@ -57,7 +65,8 @@ fn ask(question: Question) -> Command
 
 /// The command that a word is.
 fn command_by(word: &[u8]) -> Option<Command>
-    ensures { result ≡ command_by word.now }
+    ensures command { result ≡ command_by word.now }
+    ensures sized { IsSized result }
 {
     if word == b"check".as_slice() {
         Some(ask(Question::Check))
@@ -78,27 +87,55 @@ fn command_by(word: &[u8]) -> Option<Command>
     }
 }
 
-/// The command that a word and a handle are.
-#[tactic(auto, using(ixp_trial::proofs::Handles::handle_is_name))]
-fn command_with(alloc: Global, word: &[u8], handle: &[u8]) -> Result<Option<Command>, AllocError>
-    ensures ok { IfOk result (λ c. c ≡ command_with word.now handle.now) }
-    ensures err { IfErr result (λ e. command_with word.now handle.now ≡ Some (Ask (AskFor handle.now))) }
+/// The number of members that a word is, from 1 to 4000.
+fn members_in(word: &[u8]) -> Option<u32>
+    ensures number { result ≡ members_in word.now }
+    ensures bound { IfSome result (λ n. n ≤ 4000) }
 {
-    if word != b"generate".as_slice() || !is_handle(handle) {
-        return Ok(None);
+    match number_upto(MOST_MEMBERS, word) {
+        Some(0) => None,
+        Some(number) => Some(number as u32),
+        None => None,
     }
-    let router = Name::new(alloc, handle)?;
-    Ok(Some(ask(Question::Generate { router })))
+}
+
+/// `demo` with the number of members that a word is.
+fn demo_of(word: &[u8]) -> Option<Command>
+    ensures command { result ≡ option_map Demo (members_in word.now) }
+    ensures sized { IsSized result }
+{
+    match members_in(word) {
+        Some(members) => Some(Command::Demo { members }),
+        None => None,
+    }
+}
+
+/// The command that a word and a handle are, or a word and a number of members.
+#[tactic(auto, using(ixp_trial::proofs::Handles::handle_is_name))]
+fn command_with(alloc: Global, word: &[u8], other: &[u8]) -> Result<Option<Command>, AllocError>
+    ensures ok { IfOk result (λ c. c ≡ command_with word.now other.now) }
+    ensures err { IfErr result (λ e. command_with word.now other.now ≡ Some (Ask (AskFor other.now))) }
+    ensures sized { IfOk result IsSized }
+{
+    if word == b"generate".as_slice() && is_handle(other) {
+        let router = Name::new(alloc, other)?;
+        return Ok(Some(ask(Question::Generate { router })));
+    }
+    if word == b"demo".as_slice() {
+        return Ok(demo_of(other));
+    }
+    Ok(None)
 }
 
 /// The command that words are.
 fn command_in(alloc: Global, words: &[&str]) -> Result<Option<Command>, AllocError>
     ensures ok { IfOk result (λ c. c ≡ command_in (map (λ w. w.now) words.now)) }
     ensures err { IfErr result (λ e. IsQuestion (command_in (map (λ w. w.now) words.now))) }
+    ensures sized { IfOk result IsSized }
 {
     match words {
         [word] => Ok(command_by(word.as_bytes())),
-        [word, handle] => command_with(alloc, word.as_bytes(), handle.as_bytes()),
+        [word, other] => command_with(alloc, word.as_bytes(), other.as_bytes()),
         _ => Ok(None),
     }
 }
@@ -186,6 +223,7 @@ fn run_words<S: Source, K: Sink, P: Keeper, C: Clock>(
         }
         Ok(Some(Command::Restore)) => Some(run_restore(alloc, input, output, keeper)),
         Ok(Some(Command::Dump)) => Some(run_dump(alloc, input, output, keeper)),
+        Ok(Some(Command::Demo { members })) => Some(run_demo(alloc, output, members)),
         Ok(Some(Command::Session)) => None,
         Ok(None) => Some(End::Usage),
         Err(_) => Some(End::NoMemory),
@@ -272,7 +310,7 @@ pub fn run<R, S: Source, K: Sink, E: Sink, P: Keeper, C: Clock, D: Door, G: Gate
     match run_plain(alloc, words, input, output, errors, keeper, clock) {
         Some(status) => status,
         None => {
-            let end = run_session(alloc, input, output, keeper);
+            let end = run_session(alloc, input, output, keeper, clock);
             let status = end.status();
             report(errors, end);
             status

@@ -22,7 +22,6 @@ fn dump_of(alloc: Global, registry: &Registry) -> Result<Vec<u8>, AllocError>
 }
 
 /// Writes the dump of the registry that the keeper has. Nothing is read from the input.
-#[tactic(auto, using(crate::proofs::Loading::loading))]
 pub(crate) fn run_dump<S: Source, K: Sink, P: Keeper>(
     alloc: Global,
     input: &mut S,

@@ -1,17 +1,18 @@
 //! Laws of runs. The functions do nothing: each is called for what it ensures.
-ghost use Rattle.std.specs.Prelude.{◌≡◌, ◌<◌, ◌≤◌, true, ℕ, List, Option, Some, Ok, Err, length};
+ghost use Rattle.std.specs.Prelude.{◌≡◌, ◌⊎◌, ◌<◌, ◌≤◌, true, ℕ, List, Option, Some, Ok, Err, length};
 ghost use Rattle.ixp_causes.specs.declared.Cause.{Cause};
 ghost use Rattle.std.specs.FinMap.{empty};
 ghost use Rattle.ixp_io.specs.Told.{Told};
 ghost use Rattle.ixp_ixf.specs.Views.{ixf_text_of};
 ghost use Rattle.ixp_registry.specs.declared.registry.Registry.{Registry};
 ghost use Rattle.ixp_cli.specs.declared.command.Command.{Command};
-ghost use Rattle.ixp_cli.specs.declared.command.Command.TheVariants.{Ask, Ixf, Restore};
+ghost use Rattle.ixp_cli.specs.declared.command.Command.TheVariants.{Ask, Ixf, Restore, Session};
 ghost use Rattle.ixp_cli.specs.declared.command.Question.{Question};
 ghost use Rattle.ixp_cli.specs.declared.end.End.{End};
 ghost use Rattle.ixp_cli.specs.Evals.{Evaluates};
 ghost use Rattle.ixp_cli.specs.Restores.{IsDumpOf};
 ghost use Rattle.ixp_cli.specs.Runs.{Answers, AsksInVain, IsAnswered, IsLongEnd, IsRestored, IsTold, Outside, Runs, input_limit, reads_whole};
+ghost use Rattle.ixp_cli.specs.Served.{IsServed, IsUnloaded};
 
 /// An input of `eval` has one output.
 pub fn one_output()
@@ -50,4 +51,11 @@ pub fn dumps_are_restored()
     ensures { (r : Registry) (before after : Outside) (status : Option ℕ) (input : List ℕ) → before.input.bytes ≡ Some input →
         length input ≤ input_limit → IsDumpOf input r → before.store.rows ≡ Some empty → Runs (Some Restore) before after status →
         (end : End) × IsRestored r before after end × IsTold end before.errors after.errors status }
+{}
+
+/// A session whose input is told: the store isn't loaded, or the input's bytes say how the link ends and which requests are answered, where nothing fails. Fewer than
+/// 100,000 whole requests of which none but the last asks to close all get their replies, unless a read or a write fails or memory runs out.
+pub fn sessions_are_answered()
+    ensures { (before after : Outside) (status : Option ℕ) (bytes : List ℕ) → before.input.bytes ≡ Some bytes → Runs (Some Session) before after status →
+        IsUnloaded before after status ⊎ IsServed before after status bytes }
 {}

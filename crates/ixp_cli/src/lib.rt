@@ -3,6 +3,7 @@
 
 mod check;
 mod command;
+mod demo;
 mod dump;
 mod end;
 mod eval;

@@ -6,7 +6,7 @@ ghost use Rattle.ixp_cli.specs.Sessions.{code_of, end_of};
 
 use crate::end::{End, LinkCode};
 use crate::unloaded::unloaded;
-use ixp_io::{Keeper, Sink, Source};
+use ixp_io::{Clock, Keeper, Sink, Source};
 use ixp_link::{LinkEnd, Served, serve};
 use ixp_load::load;
 use ixp_plain_desk::PlainDesk;
@@ -53,24 +53,25 @@ fn end_of(served: Served) -> End
 }
 
 /// Loads the store's state, and serves the input and the output as one link.
-pub(crate) fn run_session<S: Source, K: Sink, P: Keeper>(
+pub(crate) fn run_session<S: Source, K: Sink, P: Keeper, C: Clock>(
     alloc: Global,
     input: &mut S,
     output: &mut K,
     keeper: &mut P,
+    clock: &mut C,
 ) -> End
     ensures { SessionEnds (record { bytes = S.left input.old; faults = S.read_faults input.old })
         (record { bytes = S.left input.new; faults = S.read_faults input.new })
         (record { bytes = K.written output.old; faults = K.write_faults output.old })
         (record { bytes = K.written output.new; faults = K.write_faults output.new })
         (record { rows = P.table keeper.old; faults = P.faults keeper.old })
-        (record { rows = P.table keeper.new; faults = P.faults keeper.new }) result }
+        (record { rows = P.table keeper.new; faults = P.faults keeper.new }) (C.given clock.old) (C.given clock.new) result }
 {
     let state = match load(alloc, keeper) {
         Ok(state) => state,
         Err(fault) => return unloaded(alloc, fault),
     };
     let mut desk = PlainDesk { state };
-    let served = serve(alloc, &mut desk, keeper, input, output);
+    let served = serve(alloc, &mut desk, keeper, clock, input, output);
     end_of(served)
 }

@@ -1,6 +1,6 @@
-mod Answering
+pub mod Answering
 mod Numbers
-mod Reports
+pub mod Reports
 mod Senders
 mod Shapes
 mod Wishes

@@ -3,7 +3,7 @@ use Rattle.std.specs.Prelude.{ℕ, List, [], ◌++◌, decimal, codes}
 use Rattle.ixp_json.specs.declared.field.Field.{Field}
 use Rattle.ixp_json.specs.declared.field.Field.TheVariants as field
 use Rattle.ixp_json.specs.declared.pointer.Pointer.{Pointer}
-use Rattle.ixp_json.specs.declared.pointer.Pointer.TheVariants.{Whole, At, In, Line, Lines, RequestNumber, Seen}
+use Rattle.ixp_json.specs.declared.pointer.Pointer.TheVariants.{Whole, At, In, Item, Line, Lines, RequestNumber, Seen}
 
 -- the field's name in a body
 abbrev pub word_of : Field → List ℕ
@@ -42,13 +42,20 @@ word_of field.Way = codes "way"
 word_of field.Peer = codes "peer"
 word_of field.Prefix = codes "prefix"
 word_of field.Action = codes "action"
+word_of field.Net = codes "net"
+word_of field.Path = codes "path"
+word_of field.NextHop = codes "nexthop"
+word_of field.Pairs = codes "pairs"
+word_of field.Triples = codes "triples"
+word_of field.Peers = codes "peers"
 
--- The text of a pointer (RFC 6901): a field, a field of an item, which are counted from 0; a line that is no item of a list,
+-- The text of a pointer (RFC 6901): a field, a field of an item or an item of a field, which are counted from 0; a line that is no item of a list,
 -- which are counted from 1, or how many items there are; what stands beside the body.
 abbrev pub pointer_text : Pointer → List ℕ
 pointer_text Whole = []
 pointer_text (At f) = codes "/" ++ word_of f
 pointer_text (In place f) = codes "/" ++ (decimal place ++ (codes "/" ++ word_of f))
+pointer_text (Item f place) = codes "/" ++ (word_of f ++ (codes "/" ++ decimal place))
 pointer_text (Line n) = codes "/line/" ++ decimal n
 pointer_text (Lines have) = codes "/lines/" ++ decimal have
 pointer_text RequestNumber = codes "/number"

@@ -40,6 +40,12 @@ pub enum Field {
     Peer,
     Prefix,
     Action,
+    Net,
+    Path,
+    NextHop,
+    Pairs,
+    Triples,
+    Peers,
 }
 
 impl Field {
@@ -83,6 +89,12 @@ impl Field {
             Field::Peer => "peer",
             Field::Prefix => "prefix",
             Field::Action => "action",
+            Field::Net => "net",
+            Field::Path => "path",
+            Field::NextHop => "nexthop",
+            Field::Pairs => "pairs",
+            Field::Triples => "triples",
+            Field::Peers => "peers",
         }
     }
 }

@@ -14,6 +14,8 @@ pub enum Pointer {
     At(Field),
     /// A field of an item of a list; items are counted from 0.
     In(u64, Field),
+    /// An item of a field that is a list; items are counted from 0.
+    Item(Field, u64),
     /// A line of a list, counted from 1.
     Line(u64),
     /// There are so many items, too many.
@@ -67,6 +69,10 @@ pub fn put_pointer(out: &mut Vec<u8>, pointer: Pointer) -> Result<(), AllocError
         Pointer::In(place, field) => {
             put_item(out, place)?;
             put_field(out, field)
+        }
+        Pointer::Item(field, place) => {
+            put_field(out, field)?;
+            put_item(out, place)
         }
         Pointer::Line(number) => put_counted(out, b"/line/", number),
         Pointer::Lines(have) => put_counted(out, b"/lines/", have),

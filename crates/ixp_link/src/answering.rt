@@ -17,19 +17,20 @@ use std::alloc::Global;
 const REQUEST_LIMIT: u32 = 100_000;
 
 // How a request ends: a call by the desk's answer, what is no call without it.
-fn outcome_of<P, D: Desk<P>>(
+fn outcome_of<P, C, D: Desk<P, C>>(
     alloc: Global,
     paths: &Paths,
     desk: &mut D,
     store: &mut P,
+    clock: &mut C,
     request: &Request,
 ) -> Outcome
     requires { D.fits desk.old store.old }
-    ensures becomes { spec.Becomes D.turn (desk.old, store.old) request.now result (desk.new, store.new) }
+    ensures becomes { spec.Becomes D.turn (desk.old, store.old, clock.old) request.now result (desk.new, store.new, clock.new) }
     ensures fits { D.fits desk.new store.new }
 {
     match route(alloc, paths, request) {
-        Ok(call) => desk.answer(alloc, store, call),
+        Ok(call) => desk.answer(alloc, store, clock, call),
         Err(fault) => Outcome::Called(fault),
     }
 }
@@ -44,23 +45,24 @@ fn is_last(request: &Request, answered: u32) -> bool
 
 /// Has the desk answer a request, before which so many were answered, and writes the reply. Where the link ends with it,
 /// says how.
-pub(crate) fn settle<P, D: Desk<P>, K: Sink>(
+pub(crate) fn settle<P, C, D: Desk<P, C>, K: Sink>(
     alloc: Global,
     paths: &Paths,
     desk: &mut D,
     store: &mut P,
+    clock: &mut C,
     output: &mut K,
     request: &Request,
     answered: u32,
 ) -> Option<Served>
     requires few { answered < links.request_limit }
     requires fits { D.fits desk.old store.old }
-    ensures settles { (rest : List ℕ) → spec.Settles D.turn answered (desk.old, store.old) (desk.new, store.new) request.now rest (Takes (K.written output.old) (K.written output.new))
+    ensures settles { (rest : List ℕ) → spec.Settles D.turn answered (desk.old, store.old, clock.old) (desk.new, store.new, clock.new) request.now rest (Takes (K.written output.old) (K.written output.new))
         (Rose (K.write_faults output.old) (K.write_faults output.new)) result }
     ensures counts { K.write_faults output.old ≤ K.write_faults output.new }
     ensures fits { D.fits desk.new store.new }
 {
-    let outcome = outcome_of(alloc, paths, desk, store, request);
+    let outcome = outcome_of(alloc, paths, desk, store, clock, request);
     let closes = is_last(request, answered);
     match tell(alloc, output, outcome, closes) {
         Err(end) => Some(Served {

@@ -16,11 +16,12 @@ use ixp_io::{Sink, Source};
 use std::alloc::Global;
 
 // Reads the next request of a link, before which so many were answered, and answers it. Where the link ends, says how.
-fn exchange<P, D: Desk<P>, S: Source, K: Sink>(
+fn exchange<P, C, D: Desk<P, C>, S: Source, K: Sink>(
     alloc: Global,
     paths: &Paths,
     desk: &mut D,
     store: &mut P,
+    clock: &mut C,
     input: &mut S,
     output: &mut K,
     buf: &mut Buf,
@@ -28,7 +29,7 @@ fn exchange<P, D: Desk<P>, S: Source, K: Sink>(
 ) -> Option<Served>
     requires few { answered < links.request_limit }
     requires fits { D.fits desk.old store.old }
-    ensures steps { spec.Steps D.turn answered (desk.old, store.old) (desk.new, store.new) (S.left input.old) (S.left input.new) buf.old buf.new
+    ensures steps { spec.Steps D.turn answered (desk.old, store.old, clock.old) (desk.new, store.new, clock.new) (S.left input.old) (S.left input.new) buf.old buf.new
         (Takes (K.written output.old) (K.written output.new))
         (Rose (S.read_faults input.old) (S.read_faults input.new)) (Rose (K.write_faults output.old) (K.write_faults output.new)) result }
     ensures reads { S.read_faults input.old ≤ S.read_faults input.new }
@@ -36,7 +37,9 @@ fn exchange<P, D: Desk<P>, S: Source, K: Sink>(
     ensures fits { D.fits desk.new store.new }
 {
     match next_request(alloc, input, buf) {
-        Ok(Next::Request(request)) => settle(alloc, paths, desk, store, output, &request, answered),
+        Ok(Next::Request(request)) => settle(
+            alloc, paths, desk, store, clock, output, &request, answered,
+        ),
         Ok(Next::End) => Some(Served {
             end: LinkEnd::Closed,
             requests: answered,
@@ -63,16 +66,17 @@ fn exchange<P, D: Desk<P>, S: Source, K: Sink>(
     }
 }
 
-fn serve_with<P, D: Desk<P>, S: Source, K: Sink>(
+fn serve_with<P, C, D: Desk<P, C>, S: Source, K: Sink>(
     alloc: Global,
     paths: &Paths,
     desk: &mut D,
     store: &mut P,
+    clock: &mut C,
     input: &mut S,
     output: &mut K,
 ) -> Served
     requires { D.fits desk.old store.old }
-    ensures serves { links.Serves D.turn (desk.old, store.old) (desk.new, store.new) (S.left input.old) (K.written output.old) (K.written output.new)
+    ensures serves { links.Serves D.turn (desk.old, store.old, clock.old) (desk.new, store.new, clock.new) (S.left input.old) (K.written output.old) (K.written output.new)
         (Rose (S.read_faults input.old) (S.read_faults input.new)) (Rose (K.write_faults output.old) (K.write_faults output.new)) result }
     ensures reads { S.read_faults input.old ≤ S.read_faults input.new }
     ensures writes { K.write_faults output.old ≤ K.write_faults output.new }
@@ -81,7 +85,9 @@ fn serve_with<P, D: Desk<P>, S: Source, K: Sink>(
     let mut buf = Buf::new(alloc);
     let mut answered = 0;
     loop {
-        match exchange(alloc, paths, desk, store, input, output, &mut buf, answered) {
+        match exchange(
+            alloc, paths, desk, store, clock, input, output, &mut buf, answered,
+        ) {
             Some(served) => return served,
             None => answered += 1,
         }
@@ -90,18 +96,19 @@ fn serve_with<P, D: Desk<P>, S: Source, K: Sink>(
 
 /// Serves one link to its end: reads its requests, has the desk answer those that are calls, and writes the replies in
 /// their order, one write for each that is short. A link has at most 100,000 requests. What it reads and what it writes are two objects.
-pub fn serve<P, D: Desk<P>, S: Source, K: Sink>(
+pub fn serve<P, C, D: Desk<P, C>, S: Source, K: Sink>(
     alloc: Global,
     desk: &mut D,
     store: &mut P,
+    clock: &mut C,
     input: &mut S,
     output: &mut K,
 ) -> Served
     requires { D.fits desk.old store.old }
-    ensures serves { links.Serves D.turn (desk.old, store.old) (desk.new, store.new) (S.left input.old) (K.written output.old) (K.written output.new)
+    ensures serves { links.Serves D.turn (desk.old, store.old, clock.old) (desk.new, store.new, clock.new) (S.left input.old) (K.written output.old) (K.written output.new)
         (Rose (S.read_faults input.old) (S.read_faults input.new)) (Rose (K.write_faults output.old) (K.write_faults output.new)) result }
-    ensures exact { WhereTold (S.left input.old) (λ bytes. whole.IsExact D.turn (desk.old, store.old) (desk.new, store.new) bytes (K.written output.old) (K.written output.new) result) }
-    ensures complete { WhereTold (S.left input.old) (λ bytes. whole.IsComplete D.turn (desk.old, store.old) (desk.new, store.new) bytes (K.written output.old) (K.written output.new)
+    ensures exact { WhereTold (S.left input.old) (λ bytes. whole.IsExact D.turn (desk.old, store.old, clock.old) (desk.new, store.new, clock.new) bytes (K.written output.old) (K.written output.new) result) }
+    ensures complete { WhereTold (S.left input.old) (λ bytes. whole.IsComplete D.turn (desk.old, store.old, clock.old) (desk.new, store.new, clock.new) bytes (K.written output.old) (K.written output.new)
         (Rose (S.read_faults input.old) (S.read_faults input.new)) (Rose (K.write_faults output.old) (K.write_faults output.new)) result) }
     ensures read_fault { result.end ≡ LinkEnd.ReadFault → Rose (S.read_faults input.old) (S.read_faults input.new) }
     ensures write_fault { result.end ≡ LinkEnd.WriteFault → Rose (K.write_faults output.old) (K.write_faults output.new) }
@@ -110,7 +117,7 @@ pub fn serve<P, D: Desk<P>, S: Source, K: Sink>(
     ensures fits { D.fits desk.new store.new }
 {
     match Paths::new(alloc) {
-        Ok(paths) => serve_with(alloc, &paths, desk, store, input, output),
+        Ok(paths) => serve_with(alloc, &paths, desk, store, clock, input, output),
         Err(_) => {
             tell_memory(alloc, output);
             Served {

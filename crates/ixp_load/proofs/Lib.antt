@@ -1,6 +1,13 @@
+pub mod Batches
 pub mod Faults
 pub mod Keeping
+pub mod KindLines
 pub mod Nothing
+pub mod Placing
 pub mod Reading
+pub mod RowsByKind
 pub mod SameRows
+pub mod SectionLines
+pub mod Sorting
 pub mod VersionRow
+pub mod WholeStates

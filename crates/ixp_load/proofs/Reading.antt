@@ -1,14 +1,18 @@
 -- Rows of a keeper that are read one after the other.
-use Rattle.std.proofs.Common.{◌≡◌, ◌-◌, List, [], ◌∷◌, ◌++◌, map, append-nil, length, ℕ, Option, Some, None, option_map, refl, sym, ap, ◌∙◌, arith}
+use Rattle.std.proofs.Common.{◌≡◌, ◌-◌, ◌<◌, ◌≤◌, Bool, true, false, T, subst, length-append, List, [], ◌∷◌, ◌++◌, map, append-nil, length, ℕ, Option, Some, None, option_map, refl, sym, ap, ◌∙◌, arith}
 use Rattle.std.specs.Prelude.{slice_get}
 use Rattle.std.proofs.lemmas.List.{append_assoc, map-append}
-use Rattle.std.specs.FinMap.{entries}
+use Rattle.std.proofs.lemmas.List.{length-map}
+use Rattle.std.specs.FinMap.{entries, entries_sorted, is_sorted, len, len-entries}
+use Rattle.std.specs.Option.{option_map_or}
+use Rattle.std.specs.Ordering.{is_lt}
 use Rattle.ixp_io.specs.declared.keeper.Row.{Row}
-use Rattle.ixp_io.specs.Tables.{Table, next_after, row_entry}
+use Rattle.ixp_io.specs.Tables.{Table, name_cmp, next_after, row_entry}
 use Rattle.ixp_io.specs.Told.{WhereTold}
 use Rattle.ixp_io.proofs.Rows.{rows_in_order}
 use Rattle.ixp_stored.specs.Names.{Entry}
-use Rattle.ixp_load.specs.Reading.{IsFront, ComesNext, name_before}
+use Rattle.ixp_load.specs.Reading.{IsFront, ComesNext, above_last, name_before}
+use Rattle.ixp_load.proofs.SameRows.{first_of, second_of}
 
 -- the last of some rows
 record Ends (rows : List Row) (n : ℕ) : Type 0 where
@@ -76,3 +80,42 @@ all_read (Some t) rows front next = next front
 pub more_read : (o : Option Table) (rows : List Row) (row : Row) → WhereTold o (λ t. IsFront t rows) → WhereTold o (λ t. ComesNext t rows (Some row)) → WhereTold o (λ t. IsFront t (rows ++ row ∷ []))
 more_read None rows row front next = tt
 more_read (Some t) rows row front next = next front
+
+-- rows of a table that rise
+sorted_behind : (xs ys : List Entry) → T (is_sorted name_cmp (xs ++ ys)) → T (is_sorted name_cmp ys)
+sorted_behind [] ys h = h
+sorted_behind (x ∷ xs) ys h = sorted_behind xs ys (second_of _ _ h)
+
+is_true : (b : Bool) → T b → b ≡ true
+is_true true h = refl
+is_true false h = absurd h
+
+next_above : (t : Table) (rows : List Row) (row : Row) → IsFront t (rows ++ row ∷ []) → above_last rows row ≡ true
+next_above t [] row front = refl
+next_above t (x ∷ xs) row front =
+    let at = ends x xs in
+    let one : length (x ∷ xs) - 1 ≡ length xs = omega arith in
+    let parted : map row_entry ((x ∷ xs) ++ row ∷ []) ++ front.0 ≡ map row_entry at.front ++ (row_entry at.last ∷ row_entry row ∷ front.0) =
+    ap (λ l. map row_entry (l ++ row ∷ []) ++ front.0) at.is
+    ∙ (ap (λ l. map row_entry l ++ front.0) (append_assoc at.front (at.last ∷ []) (row ∷ []))
+    ∙ (ap (λ l. l ++ front.0) (map-append row_entry at.front (at.last ∷ row ∷ [])) ∙ append_assoc (map row_entry at.front) (row_entry at.last ∷ row_entry row ∷ []) front.0)) in
+    let sorted : T (is_sorted name_cmp (row_entry at.last ∷ row_entry row ∷ front.0)) =
+    sorted_behind (map row_entry at.front) _ (subst (λ es. T (is_sorted name_cmp es)) (front.1 ∙ parted) (entries_sorted t)) in
+    ap (λ n. option_map_or (λ (l : Row). is_lt (name_cmp l.name row.name)) (slice_get (x ∷ xs) n) true) one
+    ∙ (ap (λ o. option_map_or (λ (l : Row). is_lt (name_cmp l.name row.name)) o true) at.got ∙ is_true _ (first_of _ _ (first_of _ _ sorted)))
+
+-- the row that comes next is never below the last one
+pub never_below : (o : Option Table) (rows : List Row) (row : Row) → WhereTold o (λ t. IsFront t rows) → WhereTold o (λ t. ComesNext t rows (Some row)) → above_last rows row ≡ false → WhereTold o (λ t. 8000000 < len t)
+never_below None rows row front next below = tt
+never_below (Some t) rows row front next below = absurd (let bad : true ≡ false = sym (next_above t rows row (next front)) ∙ below in cc)
+
+-- one row more than there may be
+pub too_many : (o : Option Table) (rows : List Row) (row : Row) → WhereTold o (λ t. IsFront t rows) → WhereTold o (λ t. ComesNext t rows (Some row)) → 8000000 ≤ length rows → WhereTold o (λ t. 8000000 < len t)
+too_many None rows row front next many = tt
+too_many (Some t) rows row front next many =
+    let more = next front in
+    let all = len-entries t ∙ ap length more.1 in
+    let joined = length-append (map row_entry (rows ++ row ∷ [])) more.0 in
+    let mapped = length-map (rows ++ row ∷ []) row_entry in
+    let here = length-append rows (row ∷ []) in
+    omega (arith, all, joined, mapped, here, many)

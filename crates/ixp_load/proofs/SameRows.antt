@@ -30,7 +30,7 @@ pub first_of : (a b : Bool) → T (a && b) → T a
 first_of true b h = tt
 first_of false b h = absurd h
 
-second_of : (a b : Bool) → T (a && b) → T b
+pub second_of : (a b : Bool) → T (a && b) → T b
 second_of true b h = h
 second_of false b h = absurd h
 

@@ -3,17 +3,16 @@ use Rattle.std.proofs.Common.{◌≡◌, ◌≢◌, ◌⊎◌, IfOk, IsOk, inl, 
 use Rattle.std.specs.declared.cmp.Ordering.{Ordering}
 use Rattle.std.specs.declared.cmp.Ordering.TheVariants.{Less, Equal, Greater}
 use Rattle.std.specs.Ordering.{is_lt, eq_by_cmp}
-use Rattle.std.specs.FinMap.{entries, get, find, get-entries, entries_sorted, is_sorted, empty}
-use Rattle.std.proofs.lemmas.Bool.{and_parts, and_from, eqb-true, eq-eqb}
+use Rattle.std.specs.FinMap.{entries, get, find, get-entries, entries_sorted, is_sorted}
+use Rattle.std.proofs.lemmas.Bool.{and_parts, eqb-true}
 use Rattle.std.proofs.lemmas.Map.Views.{tells_apart}
 use Rattle.ixp_io.specs.declared.keeper.Row.{Row}
 use Rattle.ixp_io.specs.declared.keeper.RowName.{RowName}
-use Rattle.ixp_io.specs.Tables.{Table, name_cmp, name_bytes, row_entry}
+use Rattle.ixp_io.specs.Tables.{Table, name_cmp, row_entry}
 use Rattle.ixp_io.specs.Told.{WhereTold}
 use Rattle.ixp_io.proofs.Rows.{name_same}
 use Rattle.ixp_tables.specs.Tables.{order, same}
 use Rattle.ixp_tables.proofs.FirstNumbers.{key_up}
-use Rattle.ixp_lines.proofs.Again.{same_refl}
 use Rattle.ixp_lines.proofs.Spelling.{same_is, some_is}
 use Rattle.ixp_steps.specs.declared.state.State.{State}
 use Rattle.ixp_stored.specs.Names.{Entry, version_name}

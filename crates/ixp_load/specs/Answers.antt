@@ -39,3 +39,10 @@ TellsVersion (Err KeeperFault) rows = Unit {0}
 TellsVersion (Err (Damaged name damage)) rows = get rows version_name ≢ Some (codes "1")
 TellsVersion (Err (OldVersion found)) rows = (found ≡ 1) × (get rows version_name ≡ Some (codes "1"))
 TellsVersion (Err NoMemory) rows = Unit {0}
+
+-- The state is the answer, but that memory may run out and the keeper may fail.
+abbrev pub IsLoaded : State → Result State LoadFault → Type 0
+IsLoaded s (Ok r) = r ≡ s
+IsLoaded s (Err KeeperFault) = Unit {0}
+IsLoaded s (Err NoMemory) = Unit {0}
+IsLoaded s (Err fault) = ⊥

@@ -1,5 +1,9 @@
 pub mod Answers
 pub mod Faults
 pub mod Keeping
+pub mod Loading
 pub mod Opening
+pub mod Placing
 pub mod Reading
+pub mod Sorting
+pub mod Storing

@@ -1,5 +1,7 @@
 //! Rows of lines: which typed row each of them is.
-ghost use Rattle.std.specs.Prelude.{◌≡◌, ◌<◌, length, IfOk, IfSome, IsTrue};
+ghost use Rattle.std.specs.Prelude.{◌≡◌, ◌<◌, ◌↔◌, length, IfOk, IfSome, IsTrue, option_map};
+ghost use Rattle.ixp_lines.specs.declared.version.Version.TheVariants.{Two};
+ghost use Rattle.ixp_load.specs.Loading.{front_at};
 ghost use Rattle.ixp_io.specs.Tables.{row_entry};
 ghost use Rattle.ixp_stored.specs.States.{set_row};
 
@@ -22,7 +24,7 @@ pub(crate) fn damaged(alloc: Global, name: &RowName) -> NoState {
 
 /// Whether the change puts this very row into the store.
 pub(crate) fn sets(change: &Change, row: &Row) -> bool
-    ensures { IsTrue result → change.now ≡ set_row (row_entry row.now) }
+    ensures { IsTrue result ↔ change.now ≡ set_row (row_entry row.now) }
 {
     if change.name.kind != row.name.kind || change.name.key.as_slice() != row.name.key.as_slice() {
         return false;
@@ -40,6 +42,7 @@ pub(crate) fn front_line<R: Lined + Drop>(
     text: &[u8],
 ) -> Result<Option<(R, &[u8])>, AllocError>
     ensures shorter { IfOk result (λ o. IfSome o (λ x. length x.1.now < length text.now)) }
+    ensures reads { IfOk result (λ o. option_map (λ x. (R.Lined.fields Two x.0, x.1.now)) o ≡ front_at R.Lined.row_kind text.now) }
 {
     let Some(rest) = text.strip_prefix(word_of(R::kind())) else {
         return Ok(None);

@@ -1,10 +1,10 @@
 //! All rows of a keeper.
-ghost use Rattle.std.specs.Prelude.{◌≡◌, ◌≤◌, ◌<◌, IfOk, IfErr, IsErrOf, IsSome, IsTrue, None, length, map, option_map};
-ghost use Rattle.std.specs.FinMap.{entries};
+ghost use Rattle.std.specs.Prelude.{◌≡◌, ◌≤◌, ◌<◌, IfOk, IfErr, IsErrOf, Err, IsSome, None, length, map, option_map};
+ghost use Rattle.std.specs.FinMap.{entries, len};
 ghost use Rattle.ixp_io.specs.Faults.{Rose};
 ghost use Rattle.ixp_io.specs.Tables.{row_entry};
 ghost use Rattle.ixp_io.specs.Told.{WhereTold};
-ghost use Rattle.ixp_load.specs.Reading.{ComesNext, IsFront, name_before};
+ghost use Rattle.ixp_load.specs.Reading.{ComesNext, IsFront, above_last, name_before};
 ghost use Rattle.ixp_load.specs.Faults.{IsKeepers};
 ghost use Rattle.ixp_load.specs.declared.fault.LoadFault.TheVariants.{KeeperFault};
 
@@ -36,6 +36,7 @@ fn ask_next<P: Keeper>(
     ensures kept { P.table keeper.new ≡ P.table keeper.old }
     ensures counts { P.faults keeper.old ≤ P.faults keeper.new }
     ensures cause { IsErrOf result KeeperFault → Rose (P.faults keeper.old) (P.faults keeper.new) }
+    ensures answered { Rose (P.faults keeper.old) (P.faults keeper.new) → result ≡ Err KeeperFault }
 {
     let row = keeper.next_row(alloc, last_name(rows))?;
     Ok(row)
@@ -43,7 +44,7 @@ fn ask_next<P: Keeper>(
 
 /// Whether the row's name is above those of the rows.
 fn is_above(rows: &[Row], row: &Row) -> bool
-    ensures { length rows.now ≡ 0 → IsTrue result }
+    ensures { result ≡ above_last rows.now row.now }
 {
     match rows.last() {
         Some(last) => last.name < row.name,
@@ -53,18 +54,20 @@ fn is_above(rows: &[Row], row: &Row) -> bool
 
 /// All rows of the keeper in the order of their names, and none; or its first rows, and the name of the row after them, where it
 /// doesn't come after them in the order of names, or would be one too many.
-#[tactic(auto, using(crate::proofs::Reading::none_read, crate::proofs::Reading::all_read, crate::proofs::Reading::more_read))]
+#[tactic(auto, using(crate::proofs::Reading::none_read, crate::proofs::Reading::all_read, crate::proofs::Reading::more_read, crate::proofs::Reading::never_below, crate::proofs::Reading::too_many))]
 pub(crate) fn read_rows<P: Keeper>(
     alloc: Global,
     keeper: &mut P,
 ) -> Result<(Vec<Row>, Option<RowName>), LoadFault>
     ensures front { IfOk result (λ x. WhereTold (P.table keeper.old) (λ t. IsFront t x.0.items)) }
     ensures all { IfOk result (λ x. x.1 ≡ None → WhereTold (P.table keeper.old) (λ t. map row_entry x.0.items ≡ entries t)) }
+    ensures many { IfOk result (λ x. IsSome x.1 → WhereTold (P.table keeper.old) (λ t. 8000000 < len t)) }
     ensures some { IfOk result (λ x. IsSome x.1 → 0 < length x.0.items) }
     ensures faults { IfErr result IsKeepers }
     ensures kept { P.table keeper.new ≡ P.table keeper.old }
     ensures counts { P.faults keeper.old ≤ P.faults keeper.new }
     ensures cause { IsErrOf result KeeperFault → Rose (P.faults keeper.old) (P.faults keeper.new) }
+    ensures answered { Rose (P.faults keeper.old) (P.faults keeper.new) → result ≡ Err KeeperFault }
 {
     let mut rows: Vec<Row> = Vec::new(alloc);
     'rows: while rows.len() < MOST_ROWS {

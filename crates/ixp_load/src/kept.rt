@@ -1,9 +1,11 @@
 //! What a store keeps of requests.
-ghost use Rattle.std.specs.Prelude.{◌≡◌, ◌<◌, IfOk, IfSome, OnOk, IsTrue, true};
+ghost use Rattle.std.specs.Prelude.{◌≡◌, ◌<◌, [], IfOk, IfSome, OnOk, IsTrue, Some, false, map, true};
 ghost use Rattle.std.specs.List.{AllByRecursion};
 ghost use Rattle.ixp_registry.specs.Words.{is_staff_number};
 ghost use Rattle.ixp_steps.specs.Kept.{ValidKept};
+ghost use Rattle.ixp_io.specs.Tables.{row_entry};
 ghost use Rattle.ixp_load.specs.Keeping.{AreKept};
+ghost use Rattle.ixp_load.specs.Loading.{kind_rows};
 
 use crate::decode::{damaged, sets};
 use crate::fault::NoState;
@@ -210,6 +212,51 @@ fn taken(alloc: Global, kept: &mut Table<KeptOwner>, owner: Owner, _accepted: u6
             floor: 0,
             numbers: Table::new(alloc),
         },
+    }
+}
+
+/// Whether rows tell floors or kept numbers.
+fn tell_kept(rows: &[Row]) -> bool
+    ensures { kind_rows 18 (map row_entry rows.now) ≡ [] → kind_rows 19 (map row_entry rows.now) ≡ [] → result ≡ false }
+{
+    let mut left = rows;
+    'rows: while let Some((row, others)) = left.split_first() {
+        if row.name.kind == FLOORS || row.name.kind == KEPT {
+            return true;
+        }
+        left = others;
+    }
+    false
+}
+
+/// The rows behind those of lines.
+fn behind_lines(rows: &[Row]) -> Left<'_> {
+    let mut left = rows;
+    'rows: while let Some((row, others)) = left.split_first() {
+        if row.name.kind >= FLOORS {
+            break;
+        }
+        left = others;
+    }
+    left
+}
+
+/// What is kept of requests, by the rows of a store that say so.
+pub(crate) fn kept_told(
+    alloc: Global,
+    rows: &[Row],
+    accepted: u64,
+) -> Result<Option<Table<KeptOwner>>, AllocError>
+    ensures kept { IfOk result (λ o. IfSome o (AreKept accepted)) }
+    ensures none { kind_rows 18 (map row_entry rows.now) ≡ [] → kind_rows 19 (map row_entry rows.now) ≡ [] → IfOk result (λ o. o ≡ Some []) }
+{
+    if !tell_kept(rows) {
+        return Ok(Some(Table::new(alloc)));
+    }
+    match kept_rows(alloc, rows, behind_lines(rows), accepted) {
+        Ok((kept, _)) => Ok(Some(kept)),
+        Err(NoState::NoMemory) => Err(AllocError),
+        Err(NoState::Damaged { .. }) => Ok(None),
     }
 }
 

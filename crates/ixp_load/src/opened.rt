@@ -1,26 +1,34 @@
 //! The state that a keeper's rows are those of.
-ghost use Rattle.std.specs.Prelude.{◌≡◌, ◌≤◌, IfOk, IsOk, IfSome, IsErrOf, IsTrue, None, Some, true, map};
+ghost use Rattle.std.specs.Prelude.{◌≡◌, ◌≤◌, ◌<◌, ◌^◌, ◌∷◌, ◌↔◌, [], ℕ, IfOk, IsOk, IfSome, IsErrOf, Err, IsTrue, None, Some, false, true, map};
 ghost use Rattle.std.specs.List.Sorted.{IsPermutation};
 ghost use Rattle.std.specs.List.{AllByRecursion};
 ghost use Rattle.ixp_io.specs.Faults.{Rose};
 ghost use Rattle.ixp_io.specs.Tables.{row_entry};
 ghost use Rattle.ixp_io.specs.Told.{WhereTold};
-ghost use Rattle.ixp_stored.specs.States.{set_row, stored_rows};
+ghost use Rattle.std.specs.FinMap.{empty};
+ghost use Rattle.ixp_opening.specs.Openings.{first_state};
+ghost use Rattle.ixp_steps.specs.declared.state.State.{State as Whole};
+ghost use Rattle.ixp_stored.specs.Names.{count_row};
+ghost use Rattle.ixp_stored.specs.States.{set_row, stored_rows, tables};
 ghost use Rattle.ixp_registry.specs.Lookups.{has_owner};
 ghost use Rattle.ixp_registry.specs.Valid.{Valid};
 ghost use Rattle.ixp_steps.specs.Kept.{kept_owner_key};
 ghost use Rattle.ixp_steps.specs.States.{ValidState};
 ghost use Rattle.ixp_tables.specs.Tables.{Ascends};
-ghost use Rattle.ixp_load.specs.Answers.{IsStoreOf, TellsVersion, empty_registry};
+ghost use Rattle.ixp_load.specs.Answers.{IsLoaded, IsStoreOf, TellsVersion, empty_registry};
+ghost use Rattle.ixp_load.specs.Loading.{kind_rows};
+ghost use Rattle.ixp_load.specs.Opening.{AreAllRows, IsFirstOrOf, IsTold, SaysVersion, is_count, is_old};
+ghost use Rattle.ixp_load.specs.Sorting.{Same};
+ghost use Rattle.ixp_load.specs.Storing.{IsFresh};
 ghost use Rattle.ixp_load.specs.Keeping.{AreKept};
-ghost use Rattle.ixp_load.specs.Opening.{IsFirstOrOf, SaysVersion, is_old};
 ghost use Rattle.ixp_load.specs.declared.fault.LoadFault.TheVariants.{KeeperFault};
 
 use crate::checking::are_rows_of;
 use crate::decode::damaged;
+use crate::dumped::registry_told;
 use crate::fault::{Damage, LoadFault, NoState};
 use crate::keeper::read_rows;
-use crate::kept::kept_rows;
+use crate::kept::{kept_rows, kept_told};
 use crate::lines::{Left, dump_of, registry_rows, row_at};
 use crate::words::number_of;
 use ixp_io::{Keeper, Row, RowName};
@@ -59,26 +67,28 @@ fn after_version(alloc: Global, rows: &[Row]) -> Result<Left<'_>, NoState> {
     }
 }
 
-fn is_count(row: &Row) -> bool {
+fn is_count(row: &Row) -> bool
+    ensures { result ≡ is_count row.now }
+{
     row.name.kind == COUNT && row.name.key.is_empty()
 }
 
 /// How many requests were accepted, by the row that says so.
-fn count_in(rows: &[Row]) -> Option<u64> {
+fn count_in(rows: &[Row]) -> Option<u64>
+    ensures { (n : ℕ) → n < 2 ^ 64 → kind_rows 20 (map row_entry rows.now) ≡ count_row n ∷ [] → result ≡ Some n }
+{
     let mut left = rows;
-    'rows: while let Some((row, before)) = left.split_last() {
+    'rows: while let Some((row, others)) = left.split_first() {
         if is_count(row) {
             return number_of(row.body.as_slice());
         }
-        left = before;
+        left = others;
     }
     None
 }
 
 /// The count's row has to be the last one.
-fn ends_with_count(alloc: Global, left: Left, count: Option<u64>) -> Result<u64, NoState>
-    ensures { IfOk result (λ n. count ≡ Some n) }
-{
+fn ends_with_count(alloc: Global, left: Left, count: Option<u64>) -> Result<(), NoState> {
     let Some((row, others)) = left.split_first() else {
         return Err(missing(alloc, COUNT));
     };
@@ -91,17 +101,15 @@ fn ends_with_count(alloc: Global, left: Left, count: Option<u64>) -> Result<u64,
     match (count, others.first()) {
         (None, _) => Err(damaged(alloc, &row.name)),
         (Some(_), Some(other)) => Err(damaged(alloc, &other.name)),
-        (Some(count), None) => Ok(count),
+        (Some(_), None) => Ok(()),
     }
 }
 
-/// The registry of rows in the order of their lines in a dump.
-fn registry_of(alloc: Global, rows: &[&Row]) -> Result<Registry, NoState>
-    ensures { IfOk result Valid }
-{
+/// Whether rows in the order of their lines in a dump are those of a valid registry.
+fn sound_registry(alloc: Global, rows: &[&Row]) -> Result<(), NoState> {
     let text = dump_of(alloc, rows)?;
     match read_dump(alloc, text.as_slice()) {
-        Ok(registry) => Ok(registry),
+        Ok(_) => Ok(()),
         Err(DumpFault::NoMemory) => Err(NoState::NoMemory),
         Err(DumpFault::Invalid { rule, line }) => Err(broken(
             alloc,
@@ -128,7 +136,7 @@ fn broken(alloc: Global, rows: &[&Row], line: usize, damage: Damage) -> NoState 
 
 /// Whether what is kept is kept for staff or for members that are there.
 fn have_owners(members: &Table<Member>, kept: &Table<KeptOwner>) -> bool
-    ensures owners { IsTrue result → AllByRecursion (λ k. has_owner members.now k.owner ≡ true) kept.now }
+    ensures owners { IsTrue result ↔ AllByRecursion (λ k. has_owner members.now k.owner ≡ true) kept.now }
     ensures order { Ascends kept_owner_key kept.now }
 {
     let mut left = kept.as_slice();
@@ -145,7 +153,8 @@ fn have_owners(members: &Table<Member>, kept: &Table<KeptOwner>) -> bool
 fn joined(alloc: Global, registry: Registry, kept: Table<KeptOwner>, accepted: u64) -> Option<State>
     requires registry { Valid registry }
     requires kept { AreKept accepted kept }
-    ensures { IfSome result ValidState }
+    ensures valid { IfSome result ValidState }
+    ensures complete { (s : Whole) → ValidState s → registry ≡ s.registry → kept ≡ s.kept → accepted ≡ s.accepted → result ≡ Some s }
 {
     if !have_owners(&registry.members, &kept) {
         return None;
@@ -160,21 +169,40 @@ fn joined(alloc: Global, registry: Registry, kept: Table<KeptOwner>, accepted: u
     })
 }
 
-/// The state that rows say, if they say one.
-fn said_by(alloc: Global, rows: &[Row]) -> Result<State, NoState>
-    ensures { IfOk result ValidState }
+/// The state that rows tell, if they tell one.
+fn told_by(alloc: Global, rows: &[Row]) -> Result<Option<State>, AllocError>
+    ensures valid { IfOk result (λ o. IfSome o ValidState) }
+    ensures complete { (s : Whole) → ValidState s → IsFresh s → AreAllRows s (map row_entry rows.now) → IfOk result (λ o. o ≡ Some s) }
 {
+    let Some(registry) = registry_told(alloc, rows)? else {
+        return Ok(None);
+    };
+    let Some(accepted) = count_in(rows) else {
+        return Ok(None);
+    };
+    let Some(kept) = kept_told(alloc, rows, accepted)? else {
+        return Ok(None);
+    };
+    Ok(joined(alloc, registry, kept, accepted))
+}
+
+/// Why rows are no state's.
+fn damage_of(alloc: Global, rows: &[Row]) -> NoState {
+    match sound_rows(alloc, rows) {
+        Ok(()) => missing(alloc, VERSION),
+        Err(fault) => fault,
+    }
+}
+
+/// Goes through the rows in the order of their names, and then through the rules of their registry, up to the first fault.
+fn sound_rows(alloc: Global, rows: &[Row]) -> Result<(), NoState> {
     let left = after_version(alloc, rows)?;
     let mut ordered = Vec::new(alloc);
     let left = registry_rows(alloc, left, &mut ordered)?;
     let count = count_in(rows);
-    let (kept, left) = kept_rows(alloc, rows, left, count.unwrap_or(u64::MAX))?;
-    let accepted = ends_with_count(alloc, left, count)?;
-    let registry = registry_of(alloc, ordered.as_slice())?;
-    match joined(alloc, registry, kept, accepted) {
-        Some(state) => Ok(state),
-        None => Err(missing(alloc, VERSION)),
-    }
+    let (_, left) = kept_rows(alloc, rows, left, count.unwrap_or(u64::MAX))?;
+    ends_with_count(alloc, left, count)?;
+    sound_registry(alloc, ordered.as_slice())
 }
 
 /// The registry without rows.
@@ -209,16 +237,34 @@ fn empty_registry(alloc: Global) -> Registry
     }
 }
 
+/// The state that rows tell, if they are all its rows.
+fn confirmed(alloc: Global, rows: &[Row]) -> Result<Option<State>, AllocError>
+    ensures valid { IfOk result (λ o. IfSome o ValidState) }
+    ensures same { IfOk result (λ o. IfSome o (λ s. IsPermutation (map set_row (stored_rows s)) (map set_row (map row_entry rows.now)))) }
+    ensures complete { (s : Whole) → ValidState s → IsFresh s → AreAllRows s (map row_entry rows.now) → IfOk result (λ o. o ≡ Some s) }
+{
+    match told_by(alloc, rows)? {
+        None => Ok(None),
+        Some(state) => {
+            if are_rows_of(alloc, &state, rows)? {
+                Ok(Some(state))
+            } else {
+                Ok(None)
+            }
+        }
+    }
+}
+
 /// The state whose rows these are.
 fn state_of(alloc: Global, rows: &[Row]) -> Result<State, NoState>
     ensures valid { IfOk result ValidState }
     ensures same { IfOk result (λ s. IsPermutation (map set_row (stored_rows s)) (map set_row (map row_entry rows.now))) }
+    ensures complete { (s : Whole) → ValidState s → IsFresh s → AreAllRows s (map row_entry rows.now) → IsTold s result }
 {
-    let state = said_by(alloc, rows)?;
-    if are_rows_of(alloc, &state, rows)? {
-        return Ok(state);
+    match confirmed(alloc, rows)? {
+        Some(state) => Ok(state),
+        None => Err(damage_of(alloc, rows)),
     }
-    Err(missing(alloc, VERSION))
 }
 
 /// Whether the rows begin with that of the version before this one.
@@ -243,6 +289,8 @@ fn opened(alloc: Global, rows: &[Row], beyond: Option<RowName>) -> Result<State,
     ensures whole { IsOk result → beyond ≡ None }
     ensures version { SaysVersion result rows.now }
     ensures cause { IsErrOf result KeeperFault → ⊥ }
+    ensures nothing { rows.now ≡ [] → beyond ≡ None → IsLoaded (first_state empty_registry) result }
+    ensures complete { (s : Whole) → ValidState s → IsFresh s → AreAllRows s (map row_entry rows.now) → is_old rows.now ≡ false → beyond ≡ None → IsLoaded s result }
 {
     if is_old(rows) {
         return Err(LoadFault::OldVersion { found: 1 });
@@ -267,10 +315,13 @@ fn opened(alloc: Global, rows: &[Row], beyond: Option<RowName>) -> Result<State,
 pub fn load<P: Keeper>(alloc: Global, keeper: &mut P) -> Result<State, LoadFault>
     ensures valid { IfOk result ValidState }
     ensures state { IfOk result (λ s. WhereTold (P.table keeper.old) (IsStoreOf s)) }
+    ensures fresh { (s : Whole) → ValidState s → IsFresh s → P.table keeper.old ≡ Some (tables s) → IsLoaded s result }
+    ensures nothing { P.table keeper.old ≡ Some empty → IsLoaded (first_state empty_registry) result }
     ensures version { WhereTold (P.table keeper.old) (TellsVersion result) }
     ensures kept { P.table keeper.new ≡ P.table keeper.old }
     ensures counts { P.faults keeper.old ≤ P.faults keeper.new }
     ensures cause { IsErrOf result KeeperFault → Rose (P.faults keeper.old) (P.faults keeper.new) }
+    ensures answered { Rose (P.faults keeper.old) (P.faults keeper.new) → result ≡ Err KeeperFault }
 {
     let (rows, beyond) = read_rows(alloc, keeper)?;
     opened(alloc, rows.as_slice(), beyond)

@@ -1,4 +1,6 @@
 //! Words of names and bodies.
+ghost use Rattle.std.specs.Prelude.{◌≡◌, ◌<◌, ◌^◌, ℕ, Some, decimal};
+
 use ixp_num::Name;
 use ixp_places::is_handle;
 use ixp_registry::{EditKind, Owner};
@@ -23,8 +25,16 @@ pub(crate) fn last_word(text: &[u8]) -> (&[u8], &[u8]) {
 }
 
 /// The number that a text of decimal digits says.
-pub(crate) fn number_of(text: &[u8]) -> Option<u64> {
-    str::from_utf8(text).ok()?.parse().ok()
+pub(crate) fn number_of(text: &[u8]) -> Option<u64>
+    ensures { (n : ℕ) → n < 2 ^ 64 → text.now ≡ decimal n → result ≡ Some n }
+{
+    let Ok(digits) = str::from_utf8(text) else {
+        return None;
+    };
+    match digits.parse() {
+        Ok(number) => Some(number),
+        Err(_) => None,
+    }
 }
 
 /// The same, where it fits in 32 bits.

@@ -1,5 +1,5 @@
 -- What a question is answered.
-use Rattle.std.specs.Prelude.{◌≡◌, ℕ, List, [], ◌∷◌, ◌==◌, Option, Some, filter, if◌then◌else◌}
+use Rattle.std.specs.Prelude.{◌≡◌, ℕ, List, [], ◌∷◌, ◌==◌, Option, Some, None, filter, if◌then◌else◌}
 use Rattle.ixp_tables.specs.Tables.{find, if_there}
 use Rattle.ixp_registry.specs.declared.kind.Kind.TheVariants.{Members, Vlans}
 use Rattle.ixp_registry.specs.declared.members.Member.{Member}
@@ -10,6 +10,7 @@ use Rattle.ixp_registry.specs.declared.refusal.Right.TheVariants as right
 use Rattle.ixp_registry.specs.declared.refusal.RowKey.TheVariants.{Number}
 use Rattle.ixp_registry.specs.declared.registry.Registry.{Registry}
 use Rattle.ixp_registry.specs.Keys.{member_key, vlan_key, rules_key}
+use Rattle.ixp_ixf.specs.Views.{ixf_text_of}
 use Rattle.ixp_members.specs.Owners.{owner_of}
 use Rattle.ixp_plan.specs.Uses.{IsReport}
 use Rattle.ixp_edits.specs.Tests.{unless_there}
@@ -19,14 +20,16 @@ use Rattle.ixp_machine.specs.declared.question.Answer.TheVariants as answer
 use Rattle.ixp_machine.specs.declared.question.AskFault.{AskFault}
 use Rattle.ixp_machine.specs.declared.question.AskFault.TheVariants as fault
 use Rattle.ixp_machine.specs.declared.question.Query.{Query}
-use Rattle.ixp_machine.specs.declared.question.Query.TheVariants.{Member as OfMember, Contacts, Rules, Use}
+use Rattle.ixp_machine.specs.declared.question.Query.TheVariants.{Member as OfMember, Contacts, Rules, Use, Ixf}
 
--- a member's own rows are shown to it and to the staff, the use of addresses to the staff alone
-abbrev pub right_asked : Query → Right
-right_asked (OfMember m) = right.Member m
-right_asked (Contacts m) = right.Member m
-right_asked (Rules m) = right.Member m
-right_asked (Use vlan f) = right.Staff
+-- A member's own rows are shown to it and to the staff, the use of addresses to the staff alone. The export is for everybody, and
+-- asks for no key.
+abbrev pub right_asked : Query → Option Right
+right_asked (OfMember m) = Some (right.Member m)
+right_asked (Contacts m) = Some (right.Member m)
+right_asked (Rules m) = Some (right.Member m)
+right_asked (Use vlan f) = Some right.Staff
+right_asked (Ixf second) = None
 
 -- X4: the member or the VLAN has to be there
 abbrev pub unless_known : Registry → Query → Option Refusal
@@ -34,11 +37,15 @@ unless_known r (OfMember m) = unless_there (find member_key (m ∷ []) r.members
 unless_known r (Contacts m) = unless_there (find member_key (m ∷ []) r.members) Members (Number m)
 unless_known r (Rules m) = unless_there (find member_key (m ∷ []) r.members) Members (Number m)
 unless_known r (Use vlan f) = unless_there (find vlan_key (vlan ∷ []) r.vlans) Vlans (Number vlan)
+unless_known r (Ixf second) = None
 
--- why a question is refused: X0, X1 or X4
+-- why a question is refused that asks for a right: X0, X1 or X4
+abbrev pub refusal_without : Registry → List ℕ → Query → Right → Option Refusal
+refusal_without r secret q right = if_there (owner_of r secret) (Some NoKey) (λ owner. if has_right owner right then unless_known r q else Some (Denied right))
+
+-- why a question is refused
 abbrev pub ask_refusal : Registry → List ℕ → Query → Option Refusal
-ask_refusal r secret q =
-    if_there (owner_of r secret) (Some NoKey) (λ owner. if has_right owner (right_asked q) then unless_known r q else Some (Denied (right_asked q)))
+ask_refusal r secret q = if_there (right_asked q) None (refusal_without r secret q)
 
 -- what a question that isn't refused is answered
 abbrev pub IsAnswer : Registry → Query → Answer → Type 0
@@ -46,6 +53,7 @@ IsAnswer r (OfMember m) a = (row : Member) × (find member_key (m ∷ []) r.memb
 IsAnswer r (Contacts m) a = a ≡ answer.Contacts (filter (λ c. c.member == m) r.contacts)
 IsAnswer r (Rules m) a = a ≡ answer.Rules (if_there (find rules_key (m ∷ []) r.rules) [] (λ l. l.rules))
 IsAnswer r (Use vlan f) a = (t : List ℕ) × IsReport r vlan f t × (a ≡ answer.Text t)
+IsAnswer r (Ixf second) a = a ≡ answer.Json (ixf_text_of r second)
 
 -- it is refused so, or memory ran out
 abbrev pub IsFault : Option Refusal → AskFault → Type 0

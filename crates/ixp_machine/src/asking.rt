@@ -6,10 +6,11 @@ ghost use Rattle.ixp_registry.specs.Keys.{rules_key, member_key, vlan_key};
 ghost use Rattle.ixp_registry.specs.declared.kind.Kind.TheVariants as kind;
 ghost use Rattle.ixp_registry.specs.declared.refusal.RowKey.TheVariants as key;
 ghost use Rattle.ixp_edits.specs.Tests.{unless_there};
-ghost use Rattle.ixp_machine.specs.Questions.{right_asked, unless_known, ask_refusal, IsAnswer, IsFault};
+ghost use Rattle.ixp_machine.specs.Questions.{right_asked, unless_known, refusal_without, ask_refusal, IsAnswer, IsFault};
 
 use crate::question::{Answer, AskFault, Query};
 use crate::rights::has_right;
+use ixp_ixf::ixf_text;
 use ixp_members::rights;
 use ixp_num::{Family, Items};
 use ixp_places::{has_member, has_vlan};
@@ -18,14 +19,15 @@ use ixp_registry::{Contact, Kind, MemberRule, Refusal, Registry, Right, RowKey, 
 use ixp_tables::{Copied, Table};
 use std::alloc::{AllocError, Global};
 
-fn right_asked(query: Query) -> Right
+fn right_asked(query: Query) -> Option<Right>
     ensures { result ≡ right_asked query }
 {
     match query {
-        Query::Member(member) => Right::Member(member),
-        Query::Contacts(member) => Right::Member(member),
-        Query::Rules(member) => Right::Member(member),
-        Query::Use(_, _) => Right::Staff,
+        Query::Member(member) => Some(Right::Member(member)),
+        Query::Contacts(member) => Some(Right::Member(member)),
+        Query::Rules(member) => Some(Right::Member(member)),
+        Query::Use(_, _) => Some(Right::Staff),
+        Query::Ixf { .. } => None,
     }
 }
 
@@ -93,20 +95,34 @@ fn unless_known(registry: &Registry, query: Query) -> Option<Refusal>
         Query::Contacts(member) => unless_member(registry, member),
         Query::Rules(member) => unless_member(registry, member),
         Query::Use(vlan, _) => unless_vlan(registry, vlan),
+        Query::Ixf { .. } => None,
     }
+}
+
+fn refusal_without(
+    registry: &Registry,
+    secret: &[u8],
+    query: Query,
+    right: Right,
+) -> Option<Refusal>
+    ensures { result ≡ refusal_without registry.now secret.now query right }
+{
+    let Some(owner) = rights(registry, secret) else {
+        return Some(Refusal::NoKey);
+    };
+    if !has_right(owner, right) {
+        return Some(Refusal::Denied { right });
+    }
+    unless_known(registry, query)
 }
 
 fn refusal(registry: &Registry, secret: &[u8], query: Query) -> Option<Refusal>
     ensures { result ≡ ask_refusal registry.now secret.now query }
 {
-    let Some(owner) = rights(registry, secret) else {
-        return Some(Refusal::NoKey);
-    };
-    let right = right_asked(query);
-    if !has_right(owner, right) {
-        return Some(Refusal::Denied { right });
+    match right_asked(query) {
+        Some(right) => refusal_without(registry, secret, query, right),
+        None => None,
     }
-    unless_known(registry, query)
 }
 
 /// The member is there, so that one is found.
@@ -134,6 +150,14 @@ fn use_answer(
     Ok(Answer::Text(Items::from_vec(text)))
 }
 
+fn export_answer(alloc: Global, registry: &Registry, second: u64) -> Result<Answer, AllocError>
+    ensures { IfOk result (IsAnswer registry.now (Query.Ixf second)) }
+{
+    let mut text = Vec::new(alloc);
+    ixf_text(alloc, registry, second, &mut text)?;
+    Ok(Answer::Json(Items::from_vec(text)))
+}
+
 fn answer(alloc: Global, registry: &Registry, query: Query) -> Result<Answer, AllocError>
     requires { unless_known registry.now query ≡ None }
     ensures { IfOk result (IsAnswer registry.now query) }
@@ -149,6 +173,7 @@ fn answer(alloc: Global, registry: &Registry, query: Query) -> Result<Answer, Al
             Ok(Answer::Rules(rules))
         }
         Query::Use(vlan, family) => use_answer(alloc, registry, vlan, family),
+        Query::Ixf { second } => export_answer(alloc, registry, second),
     }
 }
 

@@ -1,17 +1,23 @@
 //! The laws. The functions do nothing: each is called for what it ensures.
 ghost use Rattle.std.specs.Prelude.{◌≡◌, ℕ, List, Some, None};
+ghost use Rattle.ixp_ixf.specs.Export.{exchange_tree, members_tree};
 ghost use Rattle.ixp_registry.specs.declared.members.Owner.TheVariants.{Member};
 ghost use Rattle.ixp_members.specs.Owners.{owner_of};
+ghost use Rattle.ixp_registry.specs.declared.refusal.Right.{Right};
 ghost use Rattle.ixp_steps.specs.declared.state.State.{State};
 ghost use Rattle.ixp_steps.specs.Views.{view};
 ghost use Rattle.ixp_machine.specs.declared.question.Answer.{Answer};
 ghost use Rattle.ixp_machine.specs.declared.question.Query.{Query};
-ghost use Rattle.ixp_machine.specs.Questions.{ask_refusal, IsAnswer};
+ghost use Rattle.ixp_machine.specs.declared.question.Query.TheVariants.{Ixf};
+ghost use Rattle.ixp_machine.specs.Questions.{ask_refusal, right_asked, IsAnswer};
 
-/// Whether a member's question is refused, and what it is answered else, depends on what the member sees alone.
+/// Whether a member's question is refused, and what it is answered else, depends on what the member sees alone. The export is no
+/// member's own: it depends on what it shows of the exchange and of its connected members.
 pub fn members_ask_of_their_own()
     ensures refusal { (s t : State) (m : ℕ) (a b : List ℕ) (q : Query) → owner_of s.registry a ≡ Some (Member m) → owner_of t.registry b ≡ Some (Member m) →
         view s m ≡ view t m → ask_refusal s.registry a q ≡ ask_refusal t.registry b q }
-    ensures answer { (s t : State) (m : ℕ) (secret : List ℕ) (q : Query) (x : Answer) → owner_of s.registry secret ≡ Some (Member m) →
-        ask_refusal s.registry secret q ≡ None → view s m ≡ view t m → IsAnswer s.registry q x → IsAnswer t.registry q x }
+    ensures answer { (s t : State) (m : ℕ) (secret : List ℕ) (q : Query) (right : Right) (x : Answer) → owner_of s.registry secret ≡ Some (Member m) →
+        right_asked q ≡ Some right → ask_refusal s.registry secret q ≡ None → view s m ≡ view t m → IsAnswer s.registry q x → IsAnswer t.registry q x }
+    ensures export { (s t : State) (second : ℕ) (x : Answer) → exchange_tree s.registry ≡ exchange_tree t.registry → members_tree s.registry ≡ members_tree t.registry →
+        IsAnswer s.registry (Ixf second) x → IsAnswer t.registry (Ixf second) x }
 {}

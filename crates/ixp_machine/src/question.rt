@@ -13,6 +13,8 @@ pub enum Query {
     Rules(u32),
     /// The use of the VLAN's addresses of the family.
     Use(u32, Family),
+    /// The member export at a second since 1970.
+    Ixf { second: u64 },
 }
 
 /// What is answered.
@@ -22,12 +24,13 @@ pub enum Answer {
     Contacts(Items<Contact>),
     Rules(Items<MemberRule>),
     Text(Items<u8>),
+    Json(Items<u8>),
 }
 
 /// Why nothing is answered.
 #[derive(Debug, Drop)]
 pub enum AskFault {
-    /// X0, X1 or X4.
+    /// X0, X1 or X4. The export is never refused.
     Refused(Refusal),
     NoMemory,
 }

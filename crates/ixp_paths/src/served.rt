@@ -75,6 +75,8 @@ fn route_at(place: usize) -> &'static str
         23 => "/routers",
         24 => "/routers/{router}",
         25 => "/routers/{router}/config",
+        26 => "/routers/{router}/explain/{row}",
+        27 => "/ixf",
         _ => "/public/{list}",
     }
 }

@@ -22,6 +22,8 @@ pub enum Word {
     Interfaces,
     Routers,
     Config,
+    Explain,
+    Ixf,
     Public,
     Bogons,
     BogonAs,
@@ -74,6 +76,8 @@ pub enum Question {
     Contacts,
     Rules,
     Use,
+    /// The member export.
+    Ixf,
 }
 
 /// What a method and a path call for.
@@ -83,6 +87,8 @@ pub enum Kind {
     Ask(Question),
     /// The configuration of a router.
     Config,
+    /// What becomes of a route.
+    Explain,
 }
 
 /// A path, and what each method of it calls for.
@@ -96,7 +102,7 @@ pub struct Entry {
 }
 
 /// The number of paths.
-pub const PATHS: usize = 27;
+pub const PATHS: usize = 29;
 
 /// Every path, once. `route_at` has the same paths as the router's texts.
 pub const TABLE: [Entry; PATHS] = [
@@ -338,6 +344,25 @@ pub const TABLE: [Entry; PATHS] = [
             Part::End,
         ],
         get: Some(Kind::Config),
+        post: None,
+        put: None,
+        delete: None,
+    },
+    Entry {
+        parts: [
+            Part::Is(Word::Routers),
+            Part::Router,
+            Part::Is(Word::Explain),
+            Part::Row,
+        ],
+        get: None,
+        post: Some(Kind::Explain),
+        put: None,
+        delete: None,
+    },
+    Entry {
+        parts: [Part::Is(Word::Ixf), Part::End, Part::End, Part::End],
+        get: Some(Kind::Ask(Question::Ixf)),
         post: None,
         put: None,
         delete: None,

@@ -26,6 +26,8 @@ fn text_of(word: Word) -> &'static [u8]
         Word::Interfaces => b"interfaces",
         Word::Routers => b"routers",
         Word::Config => b"config",
+        Word::Explain => b"explain",
+        Word::Ixf => b"ixf",
         Word::Public => b"public",
         Word::Bogons => b"bogons",
         Word::BogonAs => b"bogon_as",

@@ -1,2 +1,3 @@
+pub mod Seconds
 pub mod StoredEdits
 pub mod Texts

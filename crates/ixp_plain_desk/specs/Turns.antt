@@ -1,6 +1,7 @@
 -- What the desk answers to a call, and the state after it.
 use Rattle.std.specs.Prelude.{◌≡◌, ℕ, List, Option, None, Some}
-use Rattle.ixp_tables.specs.Tables.{find}
+use Rattle.ixp_io.specs.Told.{Told}
+use Rattle.ixp_tables.specs.Tables.{find, if_there}
 use Rattle.ixp_registry.specs.declared.members.Owner.{Owner}
 use Rattle.ixp_registry.specs.declared.members.Owner.TheVariants as of
 use Rattle.ixp_registry.specs.declared.refusal.Refusal.TheVariants.{NoKey, Denied}
@@ -15,13 +16,16 @@ use Rattle.ixp_steps.specs.Steps.{Accepted, step, verdict}
 use Rattle.ixp_machine.specs.declared.decision.Decision.{Decision}
 use Rattle.ixp_machine.specs.declared.decision.Decision.TheVariants as decision
 use Rattle.ixp_machine.specs.declared.question.Query.{Query}
+use Rattle.ixp_machine.specs.declared.question.Query.TheVariants as query
 use Rattle.ixp_machine.specs.Decisions.{Says, place_of}
 use Rattle.ixp_machine.specs.Questions.{ask_refusal, IsAnswer}
 use Rattle.ixp_readback.specs.Right.{Gen, Right}
 use Rattle.ixp_replies.specs.declared.outcome.Outcome.{Outcome}
 use Rattle.ixp_replies.specs.declared.outcome.Outcome.TheVariants as outcome
 use Rattle.ixp_api.specs.declared.call.Call.{Call}
-use Rattle.ixp_api.specs.declared.call.Call.TheVariants.{Edit, Ask, Published}
+use Rattle.ixp_api.specs.declared.call.Call.TheVariants.{Edit, Ask, Published, Explain}
+use Rattle.ixp_api.specs.declared.call.ExplainCall.{ExplainCall}
+use Rattle.ixp_explaining.specs.Explanations.{OrNoMemory, member_told, staff_told}
 
 -- the greatest count of accepted edits, with which no more are taken
 abbrev pub last_edit : ℕ
@@ -47,6 +51,23 @@ AskTurn r secret q outcome.NoMemory = Unit {0}
 AskTurn r secret q (outcome.Answered a) = (ask_refusal r secret q ≡ None) × IsAnswer r q a
 AskTurn r secret q (outcome.Refused refusal) = ask_refusal r secret q ≡ Some refusal
 AskTurn r secret q o = ⊥
+
+-- a question at a second, which the export alone has
+abbrev pub at_second : ℕ → Query → Query
+at_second second (query.Ixf old) = query.Ixf second
+at_second second (query.Member m) = query.Member m
+at_second second (query.Contacts m) = query.Contacts m
+at_second second (query.Rules m) = query.Rules m
+at_second second (query.Use vlan f) = query.Use vlan f
+
+-- For the export the clock is asked, and gives this second; for another question it isn't.
+abbrev pub AsksClock : Query → ℕ → Option ℕ → Option ℕ → Type 0
+AsksClock (query.Ixf old) second given given' = Told given given' (λ before last. last ≡ second)
+AsksClock q second given given' = given' ≡ given
+
+-- what a question is answered, at the clock's second
+abbrev pub TimedTurn : Registry → List ℕ → Query → Option ℕ → Option ℕ → Outcome → Type 0
+TimedTurn r secret q given given' o = (second : ℕ) × AsksClock q second given given' × AskTurn r secret (at_second second q) o
 
 -- the text of the router with the handle, which does what the rules over the rows say, or that there is no such router (Y3)
 abbrev pub ConfigTurn : Registry → List ℕ → Outcome → Type 0
@@ -75,8 +96,23 @@ AllowedTurn s (Some (of.Member m)) handle seen o = o ≡ outcome.Refused (Denied
 abbrev pub PublishedTurn : State → List ℕ → List ℕ → Option ℕ → Outcome → Type 0
 PublishedTurn s secret handle seen o = AllowedTurn s (owner_of s.registry secret) handle seen o
 
--- What a call is answered, and the state after it. Edits alone change it.
-abbrev pub IsTurn : State → Call → Outcome → State → Type 0 → Type 0
-IsTurn s (Edit entry) o s' failed = EditTurn s entry o s' failed
-IsTurn s (Ask secret query) o s' failed = AskTurn s.registry secret query o × (s' ≡ s)
-IsTurn s (Published secret router seen) o s' failed = PublishedTurn s secret router seen o × (s' ≡ s)
+-- this, where an edit of the reader's own with that number is there, if it names one; Y2 else
+abbrev pub where_seen : State → Owner → Option ℕ → Outcome → Outcome
+where_seen s owner None o = o
+where_seen s owner (Some n) o = if_there (place_of s owner n) (outcome.SeenUnknown n) (λ place. o)
+
+-- What is told of a route: the staff its fate by the present configuration, a member what its own session's text says of it.
+abbrev pub explained : State → Option Owner → ExplainCall → Outcome
+explained s None call = outcome.Refused NoKey
+explained s (Some (of.Staff n)) call = where_seen s (of.Staff n) call.seen (staff_told s.registry call.router call.interface call.asked.route)
+explained s (Some (of.Member m)) call = member_told s.registry m call.router call.interface call.asked.route call.asked.peers
+
+abbrev pub ExplainTurn : State → ExplainCall → Outcome → Type 0
+ExplainTurn s call o = OrNoMemory (explained s (owner_of s.registry call.secret) call) o
+
+-- What a call is answered, and the state after it, with what the clock gave last before and after it. Edits alone change the state.
+abbrev pub IsTurn : State → Call → Outcome → State → Type 0 → Option ℕ → Option ℕ → Type 0
+IsTurn s (Edit entry) o s' failed given given' = EditTurn s entry o s' failed × (given' ≡ given)
+IsTurn s (Ask secret q) o s' failed given given' = TimedTurn s.registry secret q given given' o × (s' ≡ s)
+IsTurn s (Published secret router seen) o s' failed given given' = PublishedTurn s secret router seen o × (s' ≡ s) × (given' ≡ given)
+IsTurn s (Explain call) o s' failed given given' = ExplainTurn s call o × (s' ≡ s) × (given' ≡ given)

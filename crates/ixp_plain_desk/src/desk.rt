@@ -1,16 +1,17 @@
 //! The desk.
-ghost use Rattle.std.specs.Prelude.{◌≡◌, ◌≤◌, ◌<◌, ◌-◌, ◌^◌};
+ghost use Rattle.std.specs.Prelude.{◌≡◌, ◌≤◌, ◌<◌, ◌-◌, ◌^◌, ℕ};
 ghost use Rattle.ixp_io.specs.Faults.{Rose};
 ghost use Rattle.ixp_io.specs.Told.{WhereTold};
 ghost use Rattle.ixp_load.specs.Answers.{IsStoreOf};
 ghost use Rattle.ixp_steps.specs.States.{ValidState};
 ghost use Rattle.ixp_steps.specs.Steps.{Accepted, verdict};
-ghost use Rattle.ixp_plain_desk.specs.Turns.{AskTurn, EditTurn};
+ghost use Rattle.ixp_plain_desk.specs.Turns.{AskTurn, AsksClock, EditTurn, TimedTurn, at_second};
 
+use crate::explained::explained;
 use crate::keeping::keep;
 use crate::published::published;
 use ixp_api::{Call, Outcome};
-use ixp_io::{KeepFault, Keeper};
+use ixp_io::{Clock, KeepFault, Keeper};
 use ixp_link::Desk;
 use ixp_machine::{AskFault, Decision, Query, ask, decide};
 use ixp_registry::Registry;
@@ -18,7 +19,7 @@ use ixp_steps::{Entry, State};
 use ixp_turns::read_edit;
 use std::alloc::Global;
 
-/// The state of a registry, which answers calls over the store that keeps it. The state is valid, and the store's rows are the state's.
+/// The state of a registry, which answers calls over the store that keeps it and a clock. The state is valid, and the store's rows are the state's.
 #[derive(Drop)]
 pub struct PlainDesk {
     pub state: State,
@@ -33,6 +34,35 @@ fn asked(alloc: Global, registry: &Registry, secret: &[u8], query: Query) -> Out
         Err(AskFault::Refused(refusal)) => Outcome::Refused(refusal),
         Err(AskFault::NoMemory) => Outcome::NoMemory,
     }
+}
+
+/// The question at the clock's second, which the export alone has: for another question the clock isn't asked.
+fn at_second<C: Clock>(clock: &mut C, query: Query) -> Query
+    ensures { (second : ℕ) × AsksClock query second (C.given clock.old) (C.given clock.new) × (result ≡ at_second second query) }
+{
+    match query {
+        Query::Ixf { .. } => Query::Ixf {
+            second: clock.now(),
+        },
+        Query::Member(member) => Query::Member(member),
+        Query::Contacts(member) => Query::Contacts(member),
+        Query::Rules(member) => Query::Rules(member),
+        Query::Use(vlan, family) => Query::Use(vlan, family),
+    }
+}
+
+/// What a question is answered, at the clock's second.
+fn timed<C: Clock>(
+    alloc: Global,
+    registry: &Registry,
+    clock: &mut C,
+    secret: &[u8],
+    query: Query,
+) -> Outcome
+    ensures { TimedTurn registry.now secret.now query (C.given clock.old) (C.given clock.new) result }
+{
+    let at = at_second(clock, query);
+    asked(alloc, registry, secret, at)
 }
 
 /// What an edit that is accepted is answered.
@@ -75,7 +105,7 @@ fn submitted<P: Keeper>(alloc: Global, state: &mut State, keeper: &mut P, entry:
     }
 }
 
-impl<P: Keeper> Desk<P> for PlainDesk {
+impl<P: Keeper, C: Clock> Desk<P, C> for PlainDesk {
     ghost use Rattle.ixp_io.specs.Faults.{Rose};
     ghost use Rattle.ixp_io.specs.Told.{WhereTold};
     ghost use Rattle.ixp_load.specs.Answers.{IsStoreOf};
@@ -84,17 +114,18 @@ impl<P: Keeper> Desk<P> for PlainDesk {
 
     ghost fits = { λ d p. ValidState d.state × WhereTold (P.table p) (IsStoreOf d.state) };
 
-    ghost turn = { λ d call o e. IsTurn d.0.state call o e.0.state (Rose (P.faults d.1) (P.faults e.1)) };
+    ghost turn = { λ d call o e. IsTurn d.0.state call o e.0.state (Rose (P.faults d.1) (P.faults e.1)) (C.given d.2) (C.given e.2) };
 
-    fn answer(&mut self, alloc: Global, store: &mut P, call: Call) -> Outcome {
+    fn answer(&mut self, alloc: Global, store: &mut P, clock: &mut C, call: Call) -> Outcome {
         match call {
             Call::Edit(entry) => submitted(alloc, &mut self.state, store, entry),
             Call::Ask(secret, query) => {
-                asked(alloc, &self.state.registry, secret.as_slice(), query)
+                timed(alloc, &self.state.registry, clock, secret.as_slice(), query)
             }
             Call::Published(secret, router, seen) => {
                 published(alloc, &self.state, secret.as_slice(), &router, seen)
             }
+            Call::Explain(call) => explained(alloc, &self.state, &call),
         }
     }
 }

@@ -44,6 +44,7 @@ answered (answer.Member m) = json 200 (member_json m)
 answered (answer.Contacts cs) = json 200 (list_json contact_json cs)
 answered (answer.Rules rs) = json 200 (list_json rule_json rs)
 answered (answer.Text t) = plain t
+answered (answer.Json t) = json 200 t
 
 -- want of memory: the rule is `memory` (RFC 4918 section 11.5 has the status)
 abbrev pub no_memory : HttpReply

@@ -17,15 +17,21 @@ use ixp_registry::{Contact, Member, MemberRule, Refusal};
 use ixp_text::{put, put_number};
 use std::alloc::{AllocError, Global};
 
-fn json(status: u16, body: Vec<u8>) -> HttpReply
-    ensures { result ≡ spec.json status body.items }
+fn json_text(status: u16, body: Items<u8>) -> HttpReply
+    ensures { result ≡ spec.json status body }
 {
     HttpReply {
         status,
         json: true,
         closes: false,
-        body: Content::made(Items::from_vec(body)),
+        body: Content::made(body),
     }
+}
+
+fn json(status: u16, body: Vec<u8>) -> HttpReply
+    ensures { result ≡ spec.json status body.items }
+{
+    json_text(status, Items::from_vec(body))
 }
 
 fn plain(body: Items<u8>) -> HttpReply
@@ -139,6 +145,7 @@ fn answered(alloc: Global, answer: Answer) -> Result<HttpReply, AllocError>
         Answer::Contacts(rows) => contacts(alloc, rows.as_slice()),
         Answer::Rules(rows) => rules(alloc, rows.as_slice()),
         Answer::Text(text) => Ok(plain(text)),
+        Answer::Json(text) => Ok(json_text(200, text)),
     }
 }
 

@@ -1,5 +1,5 @@
 //! Exports that are read back as JSON.
-use crate::samples::{DEMO, export_of, shown};
+use crate::samples::{DEMO, demo_export, export_of, shown};
 use serde_json::Value;
 use std::alloc::Global;
 
@@ -46,5 +46,28 @@ fn is_read_back(rt: HostRuntime) {
     let text = unmarked(shown(&made));
     for &(pointer, want) in PARTS {
         assert!(rt; is_right(rt.alloc(), text, pointer, want), "{pointer}");
+    }
+}
+
+/// The same of the demo exchange.
+const DEMO_PARTS: &[(&str, &str)] = &[
+    ("/ixp_list/0/vlan/0/ipv4/prefix", "\"10.0.0.0\""),
+    ("/ixp_list/0/switch/0/name", "\"sw1\""),
+    ("/member_list/2/asnum", "100003"),
+    (
+        "/member_list/2/connection_list/0/vlan_list/0/ipv4/address",
+        "\"10.64.0.3\"",
+    ),
+    ("/member_list/3", "none"),
+];
+
+#[test]
+fn the_demo_exchange_is_read_back(rt: HostRuntime) {
+    let made = demo_export(rt.alloc());
+    for &(pointer, want) in DEMO_PARTS {
+        assert!(rt;
+            is_right(rt.alloc(), shown(&made), pointer, want),
+            "{pointer}"
+        );
     }
 }

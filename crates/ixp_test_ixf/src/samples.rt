@@ -1,4 +1,5 @@
 //! The exports of small exchanges.
+use ixp_demo::demo_registry;
 use ixp_ixf::ixf_text;
 use ixp_rows::read_dump;
 use ixp_text::{put, put_number};
@@ -41,16 +42,20 @@ fn dump_of(alloc: Global, lines: &[u8]) -> Result<Vec<u8>, AllocError> {
     Ok(text)
 }
 
-// This is the one function that holds a registry: each costs the proofs much.
+// This is the one function that holds a registry: each costs the proofs much. No dump stands for the demo exchange with three members.
 fn put_export(
     alloc: Global,
-    dump: &[u8],
+    dump: Option<&[u8]>,
     second: u64,
     out: &mut Vec<u8>,
 ) -> Result<(), AllocError> {
-    match read_dump(alloc, dump) {
-        Ok(registry) => ixf_text(alloc, &registry, second, out),
-        Err(_) => put(out, b"no registry"),
+    let made = match dump {
+        Some(text) => read_dump(alloc, text).ok(),
+        None => demo_registry(alloc, 3).ok(),
+    };
+    match made {
+        Some(registry) => ixf_text(alloc, &registry, second, out),
+        None => put(out, b"no registry"),
     }
 }
 
@@ -58,7 +63,14 @@ fn put_export(
 pub fn export_of(alloc: Global, lines: &str, second: u64) -> Result<Vec<u8>, AllocError> {
     let dump = dump_of(alloc, lines.as_bytes())?;
     let mut out = Vec::from_slice(alloc, b"> ")?;
-    put_export(alloc, dump.as_slice(), second, &mut out)?;
+    put_export(alloc, Some(dump.as_slice()), second, &mut out)?;
+    Ok(out)
+}
+
+/// The export of the demo exchange with three members, at the first second of 1970.
+pub fn demo_export(alloc: Global) -> Result<Vec<u8>, AllocError> {
+    let mut out = Vec::new(alloc);
+    put_export(alloc, None, 0, &mut out)?;
     Ok(out)
 }
 

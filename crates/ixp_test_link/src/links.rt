@@ -13,18 +13,19 @@ struct Counter {
     done: u64,
 }
 
-impl Desk<u64> for Counter {
+impl Desk<u64, ()> for Counter {
     ghost fits = { λ desk calls. Unit {0} };
 
     ghost turn = { λ before call outcome after. Unit {0} };
 
-    fn answer(&mut self, _alloc: Global, calls: &mut u64, call: Call) -> Outcome {
+    fn answer(&mut self, _alloc: Global, calls: &mut u64, _clock: &mut (), call: Call) -> Outcome {
         *calls = calls.saturating_add(1);
         self.done = self.done.saturating_add(1);
         match call {
             Call::Edit(entry) => Outcome::Done(entry.number),
             Call::Ask(_, _) => Outcome::NoMemory,
             Call::Published(_, _, _) => Outcome::NoRouter,
+            Call::Explain(_) => Outcome::NoSession,
         }
     }
 }
@@ -76,6 +77,7 @@ pub fn told(alloc: Global, bytes: Items<u8>, manner: Manner) -> Result<Vec<u8>, 
         alloc,
         &mut desk,
         &mut calls,
+        &mut (),
         &mut link.source,
         &mut link.sink,
     );

@@ -236,3 +236,15 @@ pub const ROUTERS: &[(&str, &str)] = &[
     ("RS1", "1@@ixpm: usage^"),
     ("", "1@@ixpm: usage^"),
 ];
+
+/// Numbers of members, and what `demo` tells of them.
+pub const DEMOS: &[(&str, &str)] = &[
+    ("1", "0@members 1^sessions 1^patterns 1^@"),
+    ("3", "0@members 3^sessions 3^patterns 3^@"),
+    ("4000", "0@members 4000^sessions 4000^patterns 4000^@"),
+    ("0", "1@@ixpm: usage^"),
+    ("4001", "1@@ixpm: usage^"),
+    ("03", "1@@ixpm: usage^"),
+    ("x", "1@@ixpm: usage^"),
+    ("", "1@@ixpm: usage^"),
+];

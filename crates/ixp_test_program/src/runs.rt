@@ -1,7 +1,7 @@
 //! Runs over objects in memory.
 use crate::cases::{
-    DUMPS, EXCHANGE, EXCHANGE_FATES, EXPORTS, FATES, FILTERS, IMPORT, NO_FATES, REGISTRY, ROUTERS,
-    SESSIONS, SIX_FATES, TRIALS,
+    DEMOS, DUMPS, EXCHANGE, EXCHANGE_FATES, EXPORTS, FATES, FILTERS, IMPORT, NO_FATES, REGISTRY,
+    ROUTERS, SESSIONS, SIX_FATES, TRIALS,
 };
 use ixp_cli::run;
 use ixp_io::{FreeGate, MemDoor, MemKeeper, MemSink, MemSource, Plan, SetClock};
@@ -274,6 +274,22 @@ fn routers_are_generated(rt: HostRuntime) -> Result<(), Fail> {
 }
 
 #[test]
+fn demos_are_told(rt: HostRuntime) -> Result<(), Fail> {
+    let alloc = rt.alloc();
+    for &(members, wanted) in DEMOS {
+        let found = outcome(
+            alloc,
+            &["demo", members],
+            Vec::new(alloc),
+            Plan::smooth(alloc),
+            Plan::smooth(alloc),
+        )?;
+        assert!(rt; found.as_slice() == wanted.as_bytes(), "{members}");
+    }
+    Ok(())
+}
+
+#[test]
 fn long_lists_are_told(rt: HostRuntime) -> Result<(), Fail> {
     let alloc = rt.alloc();
     let mut with = String::new(alloc);
@@ -297,8 +313,9 @@ fn long_lists_are_told(rt: HostRuntime) -> Result<(), Fail> {
 #[test]
 fn ends_have_their_status(rt: HostRuntime) -> Result<(), Fail> {
     let alloc = rt.alloc();
-    let wrong: [&[&str]; 5] = [
+    let wrong: [&[&str]; 6] = [
         &[],
+        &["demo"],
         &["fate", "x"],
         &["generate"],
         &["restore", "x"],

@@ -28,6 +28,36 @@ GET /vlans/1/use/4|staff00000000001||@200 10.1.0.1 interface 1^10.1.0.2 interfac
 GET /routers/rs9/config|staff00000000001||@404 {'detail':'','rule':'Y3'}
 GET /routers/rs1/config?seen=9999|staff00000000001||@400 {'detail':'9999','rule':'Y2'}
 GET /routers/rs1/config|memberb000000002||@403 {'detail':'staff','rule':'X1'}
+GET /ixf|||@200 'timestamp':'1970-01-01T00:00:00Z','version':'1.0'}
+POST /routers/rs1/explain/2|memberb000000002||{'net':'198.51.100.0/24','path':[65002],'nexthop':'10.1.0.2','pairs':[],'triples':[],'peers':[65001]}@200 tagged 65002 10.1.0.2 - 65500:1001:1002,65500:1101:10^stopped 10^
+POST /routers/rs1/explain/1|memberb000000002||{'net':'198.51.100.0/24','path':[65002],'nexthop':'10.1.0.2','pairs':[],'triples':[],'peers':[65001]}@403 {'detail':'staff','rule':'X1'}
+POST /routers/rs1/explain/99|memberb000000002||{'net':'198.51.100.0/24','path':[65002],'nexthop':'10.1.0.2','pairs':[],'triples':[],'peers':[65001]}@403 {'detail':'staff','rule':'X1'}
+POST /routers/rs9/explain/2|memberb000000002||{'net':'198.51.100.0/24','path':[65002],'nexthop':'10.1.0.2','pairs':[],'triples':[],'peers':[65001]}@404 {'detail':'router rs9','rule':'X4'}
+POST /routers/rs9/explain/2|staff00000000001||{'net':'198.51.100.0/24','path':[65002],'nexthop':'10.1.0.2','pairs':[],'triples':[],'peers':[65001]}@404 {'detail':'','rule':'Y3'}
+POST /routers/rs1/explain/5|staff00000000001||{'net':'198.51.100.0/24','path':[65002],'nexthop':'10.1.0.2','pairs':[],'triples':[],'peers':[65001]}@404 {'detail':'','rule':'path'}
+POST /routers/rs1/explain/2|nobody||{'net':'198.51.100.0/24','path':[65002],'nexthop':'10.1.0.2','pairs':[],'triples':[],'peers':[65001]}@401 {'detail':'','rule':'X0'}
+POST /routers/rs1/explain/2|staff00000000001||{'net':'198.51.100.0/24','path':[65002],'nexthop':'10.1.0.2','pairs':[],'triples':[],'peers':[65001]}@200 tagged 65002 10.1.0.2 - 65500:1001:1002,65500:1101:10^stopped 10^
+POST /routers/rs1/explain/2?seen=9999|staff00000000001||{'net':'198.51.100.0/24','path':[65002],'nexthop':'10.1.0.2','pairs':[],'triples':[],'peers':[65001]}@400 {'detail':'9999','rule':'Y2'}
+POST /routers/rs1/explain/2?seen=x|staff00000000001||{}@400 {'detail':'/seen','rule':'body'}
+POST /routers/rs1/explain/2|staff00000000001||{'net':'2001:db8::/32','path':[65002],'nexthop':'2001:db8:1::2','pairs':[],'triples':[]}@422 {'detail':'4','rule':'X7'}
+POST /routers/rs1/explain/2|staff00000000001||{'net':'198.51.100.0/24','path':[65002],'nexthop':'2001:db8:1::2','pairs':[],'triples':[]}@400 {'detail':'/nexthop','rule':'body'}
+POST /routers/rs1/explain/2|staff00000000001||{'net':7,'path':7,'nexthop':'10.1.0.2','pairs':[],'triples':[]}@400 {'detail':'/net','rule':'body'}
+POST /routers/rs1/explain/2|staff00000000001||{'net':'198.51.100.0/24','path':[1,'2'],'nexthop':7,'pairs':[],'triples':[]}@400 {'detail':'/path/1','rule':'body'}
+POST /routers/rs1/explain/2|staff00000000001||{'net':'198.51.100.0/24','path':[65002],'nexthop':'10.1.0.2','pairs':['1:2','1:65536'],'triples':[]}@400 {'detail':'/pairs/1','rule':'body'}
+POST /routers/rs1/explain/2|staff00000000001||{'net':'198.51.100.0/24','path':[65002],'nexthop':'10.1.0.2','pairs':[],'triples':['1:2']}@400 {'detail':'/triples/0','rule':'body'}
+POST /routers/rs1/explain/2|staff00000000001||{'net':'198.51.100.0/24','path':[65002],'nexthop':'10.1.0.2','pairs':[],'triples':null}@400 {'detail':'/triples','rule':'body'}
+POST /routers/rs1/explain/2|staff00000000001||{'net':'198.51.100.0/24','path':[65002],'nexthop':'10.1.0.2','pairs':[],'triples':[],'peers':null}@400 {'detail':'/peers','rule':'body'}
+POST /routers/rs1/explain/2|staff00000000001||{'net':'198.51.100.0/24','path':[65002],'nexthop':'10.1.0.2','pairs':[],'triples':[],'peers':[1,1,1,1,1,1,1,1,1,1,1,1,1,1,1,1,1,1,1,1,1,1,1,1,1,1,1,1,1,1,1,1,1,1,1,1,1,1,1,1,1,1,1,1,1,1,1,1,1,1,1,1,1,1,1,1,1,1,1,1,1,1,1,1,1]}@400 {'detail':'/peers','rule':'body'}
+POST /routers/rs1/explain/2|staff00000000001||[]@400 {'detail':'','rule':'body'}
+POST /keys|staff00000000001|12|{'number':3,'secret':'membera000000001','kind':'member','owner':1}@201 {'done':12}
+POST /routers/rs1/explain/1|membera000000001||{'net':'203.0.113.0/24','path':[65001],'nexthop':'10.1.0.1','pairs':[],'triples':['65500:0:0','65500:1:4200000001'],'peers':[65002,4200000001]}@200 tagged 65001 10.1.0.1 - 65500:0:0,65500:1:4200000001,65500:1000:2,65500:1001:1^passed^ask 65002 no^ask 4200000001 0^
+GET /routers/rs1/explain/2|staff00000000001||@405 {'detail':'','rule':'method'}
+POST /routers/rs1/explain/x|staff00000000001||{}@404 {'detail':'','rule':'path'}
+POST /routers|staff00000000001|13|{'handle':'rs6','vlan':1,'family':6,'address':'2001:db8:1::fe','asn':4200000000,'id':'10.1.0.254','low':32,'high':48,'rpki':false}@201 {'done':13}
+PUT /interfaces/2/6|staff00000000001|14|{'address':'2001:db8:1::2','secret':'','max_prefix':0,'rs':true,'irr':false,'more':false}@201 {'done':14}
+POST /routers/rs6/explain/2|memberb000000002||{'net':'2001:db8:200::/48','path':[65002],'nexthop':'2001:db8:1::2','pairs':[],'triples':[],'peers':[65001]}@200 tagged 65002 2001:db8:1::2 - 4200000000:1001:2,4200000000:1000:3^passed^ask 65001 0^
+POST /routers/rs6/explain/2|staff00000000001||{'net':'2001:db8:200::/48','path':[65002],'nexthop':'2001:db8:1::2','pairs':[],'triples':[]}@200 tagged 65002 2001:db8:1::2 - 4200000000:1001:2,4200000000:1000:3^passed^
+POST /routers/rs6/explain/2|memberb000000002||{'net':'198.51.100.0/24','path':[65002],'nexthop':'10.1.0.2','pairs':[],'triples':[]}@422 {'detail':'6','rule':'X7'}
 DELETE /interfaces/5|staff00000000001|10|@201 {'done':10}
 DELETE /interfaces/5|staff00000000001|11|@404 {'detail':'interface 5','rule':'X4'}";
 

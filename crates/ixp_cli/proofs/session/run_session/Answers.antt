@@ -1,10 +1,11 @@
-use Rattle.std.proofs.Common.{Err, inl, inr, refl, ap}
+use Rattle.std.proofs.Common.{inl, inr, refl}
 use Rattle.ixp_cli.specs.Runs.{TurnOf}
+use Rattle.ixp_cli.proofs.Loading.{not_loaded}
 use Rattle.ixp_cli.proofs.Mapped.{serves}
 use Rattle.ixp_cli.proofs.session.run_session.Goals as goal
 
 pub returns-in-Err : goal.returns-in-Err
-returns-in-Err g c = inl (refl, refl, c.load.ensures.kept, (c.in-Err.fault, c.unloaded.ensures, λ e. c.in-Err.ensures.cause (ap Err e)))
+returns-in-Err g c = inl (not_loaded _ _ _ _ c.in-Err.fault _ c.in-Err.ensures.cause c.in-Err.ensures.version c.load.ensures.kept c.unloaded.ensures, refl)
 
 pub returns : goal.returns
 returns g c = inr (record {
@@ -14,7 +15,7 @@ returns g c = inr (record {
   more = c.load.ensures.counts;
   after = c.serve-served.new.desk.state;
   served = c.serve-served.result;
-  serves = serves (λ d. (d.0.state, g.P.Keeper.faults d.1)) _ TurnOf (λ d call o e t. t) _ _ _ _ _ _ _ _ c.serve-served.ensures.serves;
+  serves = serves (λ d. (d.0.state, g.P.Keeper.faults d.1, g.C.Clock.given d.2)) _ TurnOf (λ d call o e t. t) _ _ _ _ _ _ _ _ c.serve-served.ensures.serves;
   still = c.serve-served.ensures.fits;
   is_end = c.end_of.ensures;
 })

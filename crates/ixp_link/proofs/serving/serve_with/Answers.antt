@@ -10,7 +10,7 @@ returns-in-Some-clause-serves g c =
     let told = g.S.Stream in
     let out = g.K.Stream in
     let run = c.loop-served.invariant in
-    run_ends g.D.Desk.turn (c.args.desk.now, c.args.store.now) (c.loop-served.desk, c.loop-served.store) (c.exchange.new.desk, c.exchange.new.store) (told.left c.args.input.now) (told.left c.loop-served.input)
+    run_ends g.D.Desk.turn (c.args.desk.now, c.args.store.now, c.args.clock.now) (c.loop-served.desk, c.loop-served.store, c.loop-served.clock) (c.exchange.new.desk, c.exchange.new.store, c.exchange.new.clock) (told.left c.args.input.now) (told.left c.loop-served.input)
     (told.left c.exchange.new.input) c.loop-served.buf c.exchange.new.buf (out.written c.args.output.now) (out.written c.loop-served.output)
     (out.written c.exchange.new.output) c.loop-served.answered
     (Rose (told.read_faults c.loop-served.input) (told.read_faults c.exchange.new.input))
@@ -30,7 +30,7 @@ loop-served-preserved g c =
     let step = c.in-None.ensures.steps in
     record {
       run =
-          run_on g.D.Desk.turn (c.args.desk.now, c.args.store.now) (c.loop-served.desk, c.loop-served.store) (c.exchange.new.desk, c.exchange.new.store) (told.left c.args.input.now) (told.left c.loop-served.input)
+          run_on g.D.Desk.turn (c.args.desk.now, c.args.store.now, c.args.clock.now) (c.loop-served.desk, c.loop-served.store, c.loop-served.clock) (c.exchange.new.desk, c.exchange.new.store, c.exchange.new.clock) (told.left c.args.input.now) (told.left c.loop-served.input)
           (told.left c.exchange.new.input) c.loop-served.buf c.exchange.new.buf (out.written c.args.output.now) (out.written c.loop-served.output)
           (out.written c.exchange.new.output) c.loop-served.answered step.0 run.run step.1 step.3 step.4;
       few = few_on step.0.request.closes c.loop-served.answered run.few step.2;

@@ -1,7 +1,11 @@
-use Rattle.std.proofs.Common.{List, IfOk, subst}
+use Rattle.std.proofs.Common.{◌≡◌, false, List, [], None, IfOk, map, subst}
+use Rattle.ixp_io.specs.Tables.{row_entry}
 use Rattle.ixp_io.specs.declared.keeper.Row.{Row}
-use Rattle.ixp_load.specs.Opening.{IsFirstOrOf, SaysVersion}
+use Rattle.ixp_opening.specs.Openings.{first_state}
+use Rattle.ixp_load.specs.Answers.{IsLoaded, empty_registry}
+use Rattle.ixp_load.specs.Opening.{AreAllRows, IsFirstOrOf, SaysVersion, is_old}
 use Rattle.ixp_load.proofs.VersionRow.{answer_told, version_told}
+use Rattle.ixp_load.proofs.WholeStates.{fresh_loaded, none_loaded}
 use Rattle.ixp_load.proofs.opened.load.Goals as goal
 
 pub returns-clause-state : goal.returns-clause-state
@@ -13,3 +17,13 @@ pub returns-clause-version : goal.returns-clause-version
 returns-clause-version g c =
     version_told _ c.in_ok-rows.rows.items c.in_ok-rows.beyond c.opened.result c.in_ok-rows.ensures.front c.in_ok-rows.ensures.all c.in_ok-rows.ensures.some
     (subst (λ (rs : List Row). SaysVersion c.opened.result rs) c.as_slice.ensures.value c.opened.ensures.version)
+
+pub returns-clause-fresh : goal.returns-clause-fresh
+returns-clause-fresh g c = λ s v fresh is.
+    fresh_loaded _ c.in_ok-rows.rows.items c.in_ok-rows.beyond c.opened.result s v fresh is c.in_ok-rows.ensures.front c.in_ok-rows.ensures.all c.in_ok-rows.ensures.many
+    (subst (λ (rs : List Row). AreAllRows s (map row_entry rs) → is_old rs ≡ false → c.in_ok-rows.beyond ≡ None → IsLoaded s c.opened.result) c.as_slice.ensures.value (c.opened.ensures.complete s v fresh))
+
+pub returns-clause-nothing : goal.returns-clause-nothing
+returns-clause-nothing g c = λ is.
+    none_loaded _ c.in_ok-rows.rows.items c.in_ok-rows.beyond c.opened.result is c.in_ok-rows.ensures.all c.in_ok-rows.ensures.many
+    (subst (λ (rs : List Row). rs ≡ [] → c.in_ok-rows.beyond ≡ None → IsLoaded (first_state empty_registry) c.opened.result) c.as_slice.ensures.value c.opened.ensures.nothing)

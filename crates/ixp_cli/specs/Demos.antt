@@ -1,0 +1,13 @@
+-- What `demo` writes, and the numbers of members that it takes.
+use Rattle.std.specs.Prelude.{◌==◌, ℕ, List, Option, Some, None, option_and_then, if◌then◌else◌}
+use Rattle.ixp_paths.specs.Numbers.{number_upto}
+use Rattle.ixp_demo.specs.Demo.{demo}
+use Rattle.ixp_demo_counts.specs.Counts.{counts_of, counts_text}
+
+-- the number of members that a word is: a decimal number from 1 to 4000
+abbrev pub members_in : List ℕ → Option ℕ
+members_in word = option_and_then (λ n. if n == 0 then None else Some n) (number_upto 4000 word)
+
+-- how many members, sessions and patterns the demo exchange with n members has
+abbrev pub demo_text : ℕ → List ℕ
+demo_text n = counts_text (counts_of (demo n))

@@ -1,0 +1,37 @@
+//! The command `demo`: how large the demo exchange is.
+ghost use Rattle.std.specs.Prelude.{◌≡◌, ◌≤◌, IfOk};
+ghost use Rattle.ixp_cli.specs.Demos.{demo_text};
+ghost use Rattle.ixp_cli.specs.Runs.{DemoEnds, Flow};
+
+use crate::end::End;
+use ixp_demo::demo_registry;
+use ixp_demo_counts::{counts, put_counts};
+use ixp_io::{Sink, write_all};
+use std::alloc::{AllocError, Global};
+
+/// What is written of the demo exchange with so many members.
+fn demo_text(alloc: Global, members: u32) -> Result<Vec<u8>, AllocError>
+    requires { members ≤ 4000 }
+    ensures { IfOk result (λ text. text.items ≡ demo_text members) }
+{
+    let registry = demo_registry(alloc, members)?;
+    let counted = counts(alloc, &registry)?;
+    let mut text = Vec::new(alloc);
+    put_counts(&mut text, &counted)?;
+    Ok(text)
+}
+
+/// Makes the demo exchange with so many members, and writes how large it is.
+pub(crate) fn run_demo<K: Sink>(alloc: Global, output: &mut K, members: u32) -> End
+    requires { members ≤ 4000 }
+    ensures { DemoEnds members (record { bytes = K.written output.old; faults = K.write_faults output.old })
+        (record { bytes = K.written output.new; faults = K.write_faults output.new }) result }
+{
+    let Ok(text) = demo_text(alloc, members) else {
+        return End::NoMemory;
+    };
+    match write_all(output, text.as_slice()) {
+        Ok(()) => End::Done,
+        Err(_) => End::WriteFault,
+    }
+}
