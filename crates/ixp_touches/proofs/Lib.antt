@@ -1,0 +1,11 @@
+pub mod Equalities
+pub mod Sources
+pub mod Accepted
+pub mod RowFrames
+pub mod RouterFrames
+pub mod Frames
+pub mod Listing
+pub mod Steady
+pub mod Untouched
+pub mod ListedOnce
+pub mod Nearness
