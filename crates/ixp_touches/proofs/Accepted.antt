@@ -1,5 +1,5 @@
 -- What frames need of an edit: that the row that it adds is new. No more of an edit's tests, and nothing of validity.
-use Rattle.std.proofs.Common.{◌≡◌, List, [], ◌∷◌, Option, None}
+use Rattle.std.proofs.Common.{◌≡◌, [], ◌∷◌, None}
 use Rattle.ixp_tables.specs.Tables.{find}
 use Rattle.ixp_registry.specs.declared.refusal.RowKey.TheVariants.{Number, Handle}
 use Rattle.ixp_registry.specs.declared.registry.Registry.{Registry}

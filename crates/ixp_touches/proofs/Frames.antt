@@ -1,5 +1,5 @@
 -- Each kind of edits leaves the parts and the headers that it doesn't reach.
-use Rattle.std.proofs.Common.{◌≡◌, ℕ, true, false, List, [], ◌∷◌, Option, Some, None, option_map, refl, ap}
+use Rattle.std.proofs.Common.{◌≡◌, ℕ, false, List, [], ◌∷◌, Option, Some, None, option_map, refl, ap}
 use Rattle.ixp_num.specs.AddressForms.{version_of}
 use Rattle.ixp_tables.specs.Tables.{Ascends, find, if_there}
 use Rattle.ixp_registry.specs.declared.lists.IrrList.{IrrList}

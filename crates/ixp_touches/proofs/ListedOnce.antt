@@ -3,7 +3,7 @@ use Rattle.std.proofs.Common.{◌≡◌, ℕ, ◌≤◌, ◌+◌, Bool, true, fa
 use Rattle.std.specs.declared.cmp.Ordering.TheVariants.{Equal}
 use Rattle.std.specs.Option.{is_some}
 use Rattle.std.proofs.lemmas.Bool.{eqb-true, and_parts}
-use Rattle.ixp_tables.specs.Sums.{total, count, one_if, Often}
+use Rattle.ixp_tables.specs.Sums.{count, one_if, Often}
 use Rattle.ixp_tables.specs.Tables.{order, Ascends, find, if_there, same}
 use Rattle.ixp_tables.proofs.Counts.{same_is}
 use Rattle.ixp_tables.proofs.Orders.{order_same}

@@ -1,9 +1,8 @@
 -- Interfaces at which nothing is reached.
-use Rattle.std.proofs.Common.{◌≡◌, Bool, true, false, ◌&&◌, ◌==◌, List, [], ◌∷◌, ◌++◌, Some, None, filter, filter_map, flat_map, refl, ap, ◌∙◌, if◌then◌else◌}
+use Rattle.std.proofs.Common.{◌≡◌, false, List, [], ◌∷◌, ◌++◌, filter_map, flat_map, refl, ap}
 use Rattle.ixp_registry.specs.declared.network.Interface.{Interface}
 use Rattle.ixp_registry.specs.declared.registry.Registry.{Registry}
 use Rattle.ixp_registry.specs.declared.router.Router.{Router}
-use Rattle.ixp_registry.specs.Sessions.{is_session}
 use Rattle.ixp_touches.specs.declared.reach.Reach.{Reach}
 use Rattle.ixp_touches.specs.declared.reach.Reach.TheVariants.{Nowhere, OfMember, InVlan, OfFamily, OfRouter, Everywhere}
 use Rattle.ixp_touches.specs.Reaches.{may_take_in, takes_in}

@@ -24,16 +24,15 @@ use Rattle.ixp_registry.specs.declared.rules.MemberRule.{MemberRule}
 use Rattle.ixp_registry.specs.Keys.{member_key, interface_key, router_key}
 use Rattle.ixp_registry.specs.Lookups.{is_connected}
 use Rattle.ixp_registry.specs.Sessions.{address_of, ascending, listed_address, origins_in, prefixes_in, rules_of, session_at, session_with}
-use Rattle.ixp_compile.specs.declared.inputs.Inputs.{Inputs}
 use Rattle.ixp_compile.specs.Generated.{inputs}
-use Rattle.ixp_edits.specs.Interfaces.{addressed, new_interface, with_address, with_interface, without_interface}
+use Rattle.ixp_edits.specs.Interfaces.{addressed, new_interface, with_interface, without_interface}
 use Rattle.ixp_edits.specs.Lists.{put_unless_empty}
 use Rattle.ixp_edits.specs.Members.{new_member, with_member, with_status}
 use Rattle.ixp_edits.specs.Tests.{changed}
 use Rattle.ixp_edits.proofs.Numbers.{apart}
 use Rattle.ixp_generate.specs.Answers.{inputs_at}
 use Rattle.ixp_touches.specs.Reaches.{beside, takes_in}
-use Rattle.ixp_touches.proofs.Sources.{addresses_beside, by_sources, from_sources, inputs_from, of_interface, of_number, same_at_interface, same_at_key, same_at_number, sits, standing, standing_in, SameSources}
+use Rattle.ixp_touches.proofs.Sources.{addresses_beside, by_sources, from_sources, inputs_from, of_interface, of_number, same_at_interface, same_at_key, same_at_number, sits, standing, standing_in}
 use Rattle.ixp_touches.proofs.Equalities.{eq_itself}
 
 -- Members.

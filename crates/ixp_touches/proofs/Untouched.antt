@@ -1,7 +1,6 @@
 -- What isn't listed stays: it isn't reached, or there is no such session before and after.
-use Rattle.std.proofs.Common.{◌≡◌, ℕ, Bool, true, false, not, ◌&&◌, ◌||◌, ◌==◌, List, [], ◌∷◌, ◌++◌, Option, Some, None, ◌⊎◌, inl, inr, option_map, filter, refl, sym, ap, ◌∙◌, subst}
+use Rattle.std.proofs.Common.{◌≡◌, ℕ, Bool, true, false, not, ◌==◌, List, [], ◌∷◌, Option, Some, None, ◌⊎◌, inl, inr, option_map, filter, refl, sym, ◌∙◌, subst}
 use Rattle.std.specs.List.{list_any}
-use Rattle.std.specs.Option.{is_some}
 use Rattle.std.proofs.lemmas.Bool.{eqb-true, and_parts, or_parts}
 use Rattle.ixp_tables.specs.Tables.{Ascends, find, if_there, same}
 use Rattle.ixp_tables.proofs.Counts.{same_is}

@@ -1,5 +1,5 @@
 -- How far an edit reaches: to which sessions, to which headers, and whether to the ROAs.
-use Rattle.std.specs.Prelude.{ℕ, ◌==◌, ◌&&◌, not, Bool, true, false, List, [], ◌∷◌, Option, Some, None}
+use Rattle.std.specs.Prelude.{◌==◌, ◌&&◌, not, Bool, true, false, [], ◌∷◌, Option, Some, None}
 use Rattle.ixp_num.specs.Families.{same_family}
 use Rattle.ixp_tables.specs.Tables.{find, same}
 use Rattle.ixp_registry.specs.declared.network.Interface.{Interface}

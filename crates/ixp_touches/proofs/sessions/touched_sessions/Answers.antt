@@ -1,4 +1,4 @@
-use Rattle.std.proofs.Common.{◌≡◌, not, List, [], ◌++◌, filter, refl, sym, ap, ◌∙◌, subst}
+use Rattle.std.proofs.Common.{◌≡◌, not, List, [], ◌++◌, filter, refl, sym, ◌∙◌}
 use Rattle.ixp_registry.specs.declared.registry.Registry.{Registry}
 use Rattle.ixp_touches.specs.declared.reach.Reach.{Reach}
 use Rattle.ixp_touches.specs.declared.reach.Reach.TheVariants.{Nowhere}
