@@ -76,7 +76,7 @@ gathered r q i b (Some a) None = mapped_choice (inputs r q) (b && false) (sessio
 gathered r q i b None (Some m) = mapped_choice (inputs r q) (b && is_connected m.status) (session_with r q i None (Some m))
 gathered r q i b None None = mapped_choice (inputs r q) (b && false) (session_with r q i None None)
 
--- a session's part is a function of seven values, each of one table
+-- a session's part is a function of six values beside the router and the interface, each of one table
 pub by_sources : (r : Registry) (q : Router) (i : Interface)
     → of_interface r q i ≡ from_sources q i (standing_in r.members i.member) (prefixes_in r i.member q.family) (origins_in r i.member q.family) (rules_of r i.member) (addresses_beside r.interfaces q.family i.member i.vlan) r.public.transit
 by_sources r q i = gathered r q i (i.vlan == q.vlan && if_there (address_of q.family i) false (λ a. a.rs)) (address_of q.family i) (find member_key (i.member ∷ []) r.members)
