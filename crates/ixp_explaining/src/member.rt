@@ -30,7 +30,7 @@ fn is_own(registry: &Registry, member: u32, interface: u32) -> bool
 }
 
 /// The session's own text.
-#[tactic(auto, using(ixp_texts::proofs::Generating::high_fits))]
+#[tactic(auto, using(ixp_generate::proofs::Bounds::high_fits))]
 fn own_part(
     alloc: Global,
     registry: &Registry,

@@ -3,3 +3,4 @@ pub mod Ascending
 pub mod SessionTexts
 pub mod WholeParts
 pub mod Bodies
+pub mod Bounds

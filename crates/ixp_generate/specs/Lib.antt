@@ -1,4 +1,5 @@
 pub mod Made
+pub mod Parts
 pub mod Addresses
 pub mod Items
 pub mod Sessions

@@ -87,7 +87,7 @@ fn put_header(alloc: Global, out: &mut Vec<u8>, h: &HeaderInputs) -> Result<(), 
 }
 
 /// Adds the text of a session's part, by these prefixes of its member.
-fn put_part(
+pub(crate) fn put_part(
     alloc: Global,
     out: &mut Vec<u8>,
     i: &Inputs,

@@ -69,7 +69,7 @@ pub(crate) fn inputs_of(
 }
 
 /// What the head of the router's text depends on.
-pub(crate) fn header_inputs_of(
+pub fn header_inputs_of(
     alloc: Global,
     registry: &Registry,
     router: &Router,

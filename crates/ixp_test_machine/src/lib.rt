@@ -7,6 +7,8 @@
 #[cfg(test)]
 mod accepted;
 #[cfg(test)]
+mod builds;
+#[cfg(test)]
 mod changes;
 #[cfg(test)]
 mod details;

@@ -1,0 +1,9 @@
+pub mod Putting
+pub mod Looks
+pub mod Settling
+pub mod PartRows
+pub mod Wholly
+pub mod Orderly
+pub mod Pending
+pub mod OpenedTexts
+pub mod OrderedRuns

@@ -1,0 +1,245 @@
+//! Texts of route servers that follow edits: what each kind of edits touches, and that with it made anew they are those of full
+//! generation.
+ghost use Rattle.ixp_registry.specs.Valid.{Valid};
+
+use crate::changes::{Change, edit_of};
+use crate::lists::Listed;
+use crate::samples::{LINES, Plays, STAFF, is_wanted, told};
+use crate::sending::put_request;
+use ixp_build::{Bundle, InstallFault, Made, make, orders_have_bounds};
+use ixp_num::{Family, Name};
+use ixp_registry::{Action, Registry, Status, Way};
+use ixp_steps::State;
+use ixp_text::{put, put_number};
+use ixp_texts::text_of;
+use ixp_touches::{Touch, touched};
+use std::alloc::{AllocError, Global};
+use std::process::Abort;
+use std::test::Fail;
+
+fn put_key(key: &(Name, u32), out: &mut Vec<u8>) -> Result<(), AllocError> {
+    put(out, b"part ")?;
+    put(out, key.0.as_bytes())?;
+    put(out, b" ")?;
+    put_number(out, u64::from(key.1))?;
+    put(out, b"\n")
+}
+
+fn put_handle(handle: &Name, out: &mut Vec<u8>) -> Result<(), AllocError> {
+    put(out, b"head ")?;
+    put(out, handle.as_bytes())?;
+    put(out, b"\n")
+}
+
+fn put_touch(touch: &Touch, out: &mut Vec<u8>) -> Result<(), AllocError> {
+    'heads: for handle in touch.headers.as_slice() {
+        put_handle(handle, out)?;
+    }
+    'parts: for key in touch.sessions.as_slice() {
+        put_key(key, out)?;
+    }
+    if touch.roas {
+        put(out, b"roas\n")?;
+    }
+    Ok(())
+}
+
+/// Whether the bundle gives the router's text as full generation does.
+fn is_router_full(
+    alloc: Global,
+    bundle: &Bundle,
+    registry: &Registry,
+    handle: &Name,
+) -> Result<bool, AllocError>
+    requires { Valid registry.now }
+{
+    let Some(made) = bundle.text(alloc, handle)? else {
+        return Ok(false);
+    };
+    let Some(full) = text_of(alloc, registry, handle)? else {
+        return Ok(false);
+    };
+    Ok(made.as_slice() == full.as_slice())
+}
+
+fn is_full(alloc: Global, bundle: &Bundle, registry: &Registry) -> Result<bool, AllocError>
+    requires { Valid registry.now }
+{
+    'routers: for router in registry.routers.as_slice() {
+        if !is_router_full(alloc, bundle, registry, &router.handle)? {
+            return Ok(false);
+        }
+    }
+    Ok(bundle.roas() == registry.public.roas.as_slice())
+}
+
+fn put_full(bundle: &Bundle, registry: &Registry, out: &mut Vec<u8>) -> Result<(), AllocError>
+    requires { Valid registry.now }
+{
+    let alloc = *out.allocator();
+    put(
+        out,
+        if is_full(alloc, bundle, registry)? {
+            b"full "
+        } else {
+            b"other"
+        },
+    )?;
+    put_number(out, bundle.made())?;
+    put(out, b"\n")
+}
+
+/// Adds how an installation ends.
+fn put_installed(bundle: &mut Bundle, made: Made, out: &mut Vec<u8>) -> Result<(), AllocError> {
+    match bundle.install(*out.allocator(), made) {
+        Ok(()) => put(out, b"installed\n"),
+        Err(InstallFault::NoMemory) => Err(AllocError),
+        Err(InstallFault::Stale { current, asked }) => {
+            put(out, b"stale ")?;
+            put_number(out, current)?;
+            put(out, b" ")?;
+            put_number(out, asked)?;
+            put(out, b"\n")
+        }
+    }
+}
+
+fn made_of(alloc: Global, bundle: &Bundle, state: &State, touch: &Touch) -> Result<Made, AllocError>
+    requires { Valid state.now.registry }
+{
+    orders_have_bounds();
+    let taken = bundle.order(alloc, state, touch)?;
+    make(alloc, taken)
+}
+
+/// Installs what was touched in a share of the bundle, twice, and compares its texts and those of the bundle with full generation.
+fn put_rebuilt(
+    bundle: &Bundle,
+    state: &State,
+    touch: &Touch,
+    out: &mut Vec<u8>,
+) -> Result<(), AllocError>
+    requires { Valid state.now.registry }
+{
+    let alloc = *out.allocator();
+    let mut share = bundle.share(alloc)?;
+    let made = made_of(alloc, bundle, state, touch)?;
+    let late = made_of(alloc, bundle, state, touch)?;
+    put_installed(&mut share, made, out)?;
+    put_full(&share, &state.registry, out)?;
+    put_installed(&mut share, late, out)
+}
+
+/// What the staff's edit touches, and what becomes of the texts.
+#[derive(Clone, Copy)]
+struct Built(Change);
+
+impl Plays for Built {
+    fn play(&self, state: &mut State, out: &mut Vec<u8>) -> Result<(), AllocError> {
+        let alloc = *out.allocator();
+        let bundle = Bundle::open(alloc, state)?;
+        let before = state.registry.copied(alloc)?;
+        put_request(state, (STAFF, 1, self.0), out)?;
+        put(out, b"\n")?;
+        let Some(edit) = edit_of(alloc, self.0) else {
+            return put(out, b"no edit");
+        };
+        let touch = touched(alloc, &before, &state.registry, &edit)?;
+        put_touch(&touch, out)?;
+        put_rebuilt(&bundle, state, &touch, out)
+    }
+}
+
+/// An edit, what it touches, and how many texts are made anew.
+type Case = (Change, &'static str, &'static str);
+
+const OF_MEMBERS: &[Case] = &[
+    (Change::AddMember(5, 65010, "E"), "", "0"),
+    (Change::RenameMember(1, "Ann"), "", "0"),
+    (
+        Change::MoveStatus(1, Status::Suspended),
+        "part rs1 1\npart rs2 1\n",
+        "2",
+    ),
+    (Change::MoveStatus(3, Status::Connected), "", "0"),
+    (
+        Change::SetRules(1, Some((Way::Advertise, None, "*", Action::AsIs)), None),
+        "part rs1 1\npart rs2 1\n",
+        "2",
+    ),
+    (
+        Change::PutIrr(1, Family::V4, "192.0.2.0/24"),
+        "part rs1 1\npart rs2 1\n",
+        "2",
+    ),
+    (Change::PutIrr(1, Family::V6, "2001:db8::/32"), "", "0"),
+    (
+        Change::PutOrigins(2, Family::V4, "65002"),
+        "part rs1 2\npart rs2 2\n",
+        "2",
+    ),
+];
+
+const OF_INTERFACES: &[Case] = &[
+    (
+        Change::AddInterface(4, 1, 2, 1),
+        "part rs1 1\npart rs2 1\n",
+        "2",
+    ),
+    (
+        Change::SetAddress(2, Family::V4, "10.1.0.7", ""),
+        "part rs1 2\npart rs2 2\n",
+        "2",
+    ),
+    (Change::DropInterface(2), "part rs1 2\npart rs2 2\n", "2"),
+];
+
+const OF_ROUTERS: &[Case] = &[
+    (
+        Change::AddRouter("rs9", 1, Family::V4, "10.1.0.252", (65500, 8, 24, "-", 0)),
+        "head rs9\npart rs9 1\npart rs9 2\n",
+        "3",
+    ),
+    (
+        Change::SetRouter("rs1", (65501, 8, 24, "-", 0)),
+        "head rs1\npart rs1 1\npart rs1 2\n",
+        "3",
+    ),
+    (Change::DropRouter("rs3"), "head rs3\n", "1"),
+    (
+        Change::PutPublic(Listed::Bogons, ""),
+        "head rs1\nhead rs2\nhead rs3\n",
+        "3",
+    ),
+    (
+        Change::PutPublic(Listed::Transit, "65001"),
+        "head rs1\nhead rs2\nhead rs3\npart rs1 1\npart rs2 1\npart rs1 2\npart rs2 2\n",
+        "7",
+    ),
+    (Change::PutPublic(Listed::Roas, ""), "roas\n", "0"),
+];
+
+fn wanted(alloc: Global, touched: &str, made: &str) -> Result<Vec<u8>, AllocError> {
+    let mut text = Vec::from_slice(alloc, b"ok\n")?;
+    put(&mut text, touched.as_bytes())?;
+    put(&mut text, b"installed\nfull ")?;
+    put(&mut text, made.as_bytes())?;
+    put(&mut text, b"\nstale 1 0\n")?;
+    Ok(text)
+}
+
+fn each_is_built(rt: &impl Abort, alloc: Global, cases: &[Case]) -> Result<(), Fail> {
+    for &(change, touched, made) in cases {
+        let want = wanted(alloc, touched, made)?;
+        let have = told(alloc, LINES.as_bytes(), &Built(change));
+        is_wanted(rt, have, want.as_slice(), touched);
+    }
+    Ok(())
+}
+
+#[test]
+fn texts_follow_edits(rt: HostRuntime) -> Result<(), Fail> {
+    each_is_built(&rt, rt.alloc(), OF_MEMBERS)?;
+    each_is_built(&rt, rt.alloc(), OF_INTERFACES)?;
+    each_is_built(&rt, rt.alloc(), OF_ROUTERS)
+}
