@@ -10,6 +10,7 @@ use ixp_build::{Bundle, InstallFault, Made, make, orders_have_bounds};
 use ixp_num::{Family, Name};
 use ixp_registry::{Action, Registry, Status, Way};
 use ixp_steps::State;
+use ixp_tables::Copied;
 use ixp_text::{put, put_number};
 use ixp_texts::text_of;
 use ixp_touches::{Touch, touched};
@@ -182,7 +183,7 @@ const OF_MEMBERS: &[Case] = &[
 
 const OF_INTERFACES: &[Case] = &[
     (
-        Change::AddInterface(4, 1, 2, 1),
+        Change::AddInterface(4, 1, 1, 1),
         "part rs1 1\npart rs2 1\n",
         "2",
     ),
