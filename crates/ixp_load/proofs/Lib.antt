@@ -1,5 +1,8 @@
 pub mod Batches
 pub mod Faults
+pub mod FewItems
+pub mod FewRows
+pub mod Gathered
 pub mod Keeping
 pub mod KindLines
 pub mod Nothing
@@ -9,5 +12,9 @@ pub mod RowsByKind
 pub mod SameRows
 pub mod SectionLines
 pub mod Sorting
+pub mod Spread
+pub mod Storable
+pub mod Subjects
 pub mod VersionRow
 pub mod WholeStates
+pub mod WordTexts

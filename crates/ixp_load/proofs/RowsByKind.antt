@@ -58,7 +58,7 @@ map_joined : {X Y : Type 0} (f : X → Y) (xs ys : List X) → map f (xs ++ ys) 
 map_joined f [] ys = refl
 map_joined f (x ∷ xs) ys = ap (λ l. f x ∷ l) (map_joined f xs ys)
 
-flat_mapped : {X Y : Type 0} (row : Y → Entry) (items : X → List Y) (xs : List X) → flat_map (λ x. map row (items x)) xs ≡ map row (flat_map items xs)
+pub flat_mapped : {X Y : Type 0} (row : Y → Entry) (items : X → List Y) (xs : List X) → flat_map (λ x. map row (items x)) xs ≡ map row (flat_map items xs)
 flat_mapped row items [] = refl
 flat_mapped row items (x ∷ xs) = ap (λ t. map row (items x) ++ t) (flat_mapped row items xs) ∙ sym (map_joined row (items x) (flat_map items xs))
 
@@ -166,12 +166,26 @@ rows_of_kind s kind =
     ∙ (append-nil (kind_rows (place_of kind) (registry_rows s.registry))
     ∙ (ap (kind_rows (place_of kind)) (all_rows s.registry) ∙ (by_kinds s.registry kind all_kinds ∙ picked s.registry kind))))))
 
--- of a state for whose owners nothing is kept there is one row behind those of lines
-pub rows_behind : (s : State) → Valid s.registry → s.kept ≡ [] → (k : ℕ) → 18 ≤ k → kind_rows k (stored_rows s) ≡ kind_rows k (count_row s.accepted ∷ [])
-rows_behind s v none k high =
-    let low : kind_rows k (registry_rows s.registry) ≡ [] =
-    none_pass k (registry_rows s.registry) (all_weaker (λ e. e.0.kind < 18) (λ e. e.0.kind ≢ k) (λ e less is. omega (arith, less, is, high)) (registry_rows s.registry) (registry_within s.registry v).below) in
-    rows_joined k (version_row ∷ []) (registry_rows s.registry ++ behind_registry s)
-    ∙ (ap (λ t. t ++ kind_rows k (registry_rows s.registry ++ behind_registry s)) (none_pass k (version_row ∷ []) ((λ is. omega (arith, high, is)), tt))
-    ∙ (rows_joined k (registry_rows s.registry) (behind_registry s)
-    ∙ (ap (λ t. t ++ kind_rows k (behind_registry s)) low ∙ ap (λ ks. kind_rows k (flat_map floor_rows ks ++ (flat_map kept_rows ks ++ count_row s.accepted ∷ []))) none)))
+-- there is one row of the last kind
+floor_below : (o : KeptOwner) → AllByRecursion (λ e. e.0.kind ≢ 20) (floor_rows o)
+floor_below o = by_floor (o.floor == 0)
+  where
+    by_floor : (b : Bool) → AllByRecursion (λ e. e.0.kind ≢ 20) (if b then [] else floor_row o ∷ [])
+    by_floor true = tt
+    by_floor false = ((λ is. omega (arith, is)), tt)
+
+kept_below : (o : KeptOwner) → AllByRecursion (λ e. e.0.kind ≢ 20) (kept_rows o)
+kept_below o = mapped_all (λ e. e.0.kind ≢ 20) (kept_row o.owner) o.numbers (all_true (λ k. (kept_row o.owner k).0.kind ≢ 20) (λ k is. omega (arith, is)) o.numbers)
+
+pub count_alone : (s : State) → Valid s.registry → kind_rows 20 (stored_rows s) ≡ count_row s.accepted ∷ []
+count_alone s v =
+    let last : List Entry = count_row s.accepted ∷ [] in
+    let registry : AllByRecursion (λ e. e.0.kind ≢ 20) (registry_rows s.registry) =
+    all_weaker (λ e. e.0.kind < 18) (λ e. e.0.kind ≢ 20) (λ e less is. omega (arith, less, is)) (registry_rows s.registry) (registry_within s.registry v).below in
+    let floors : AllByRecursion (λ e. e.0.kind ≢ 20) (flat_map floor_rows s.kept) = flat_all (λ e. e.0.kind ≢ 20) floor_rows s.kept (all_true (λ o. AllByRecursion (λ e. e.0.kind ≢ 20) (floor_rows o)) floor_below s.kept) in
+    let kept : AllByRecursion (λ e. e.0.kind ≢ 20) (flat_map kept_rows s.kept) = flat_all (λ e. e.0.kind ≢ 20) kept_rows s.kept (all_true (λ o. AllByRecursion (λ e. e.0.kind ≢ 20) (kept_rows o)) kept_below s.kept) in
+    let front : List Entry = version_row ∷ (registry_rows s.registry ++ (flat_map floor_rows s.kept ++ flat_map kept_rows s.kept)) in
+    let none : kind_rows 20 front ≡ [] =
+    none_pass 20 front ((λ is. omega (arith, is)), all_joined (λ e. e.0.kind ≢ 20) (registry_rows s.registry) _ registry (all_joined (λ e. e.0.kind ≢ 20) (flat_map floor_rows s.kept) (flat_map kept_rows s.kept) floors kept)) in
+    let parts : stored_rows s ≡ front ++ last = ap (λ t. version_row ∷ t) (sym (three (registry_rows s.registry) (flat_map floor_rows s.kept) (flat_map kept_rows s.kept) last)) in
+    ap (kind_rows 20) parts ∙ (rows_joined 20 front last ∙ ap (λ t. t ++ last) none)

@@ -178,7 +178,7 @@ module _ {X : Type 0} where
 
 -- items that are made of others
 module _ {X Y : Type 0} (f : X → Y) where
-  has_map : (xs : List X) (x : X) → Has xs x → Has (map f xs) (f x)
+  pub has_map : (xs : List X) (x : X) → Has xs x → Has (map f xs) (f x)
   has_map [] x has = absurd has
   has_map (z ∷ zs) x (inl e) = inl (ap f e)
   has_map (z ∷ zs) x (inr has) = inr (has_map zs x has)

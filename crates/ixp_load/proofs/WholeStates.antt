@@ -27,10 +27,11 @@ use Rattle.ixp_load.specs.Loading.{kind_rows, AreRowsOf}
 use Rattle.ixp_load.specs.Opening.{AreAllRows, entry_name, is_old}
 use Rattle.ixp_load.specs.Reading.{IsFront}
 use Rattle.ixp_load.specs.Sorting.{Has, Same}
-use Rattle.ixp_load.specs.Storing.{IsFresh}
-use Rattle.ixp_load.proofs.RowsByKind.{rows_of_kind, rows_behind}
+use Rattle.ixp_load.specs.Storing.{IsStorable}
+use Rattle.ixp_load.proofs.FewRows.{few_rows}
+use Rattle.ixp_load.proofs.RowsByKind.{rows_of_kind, count_alone}
 use Rattle.ixp_load.proofs.SameRows.{all_above, first_of, second_of}
-use Rattle.ixp_load.proofs.Sorting.{same_moved, same_filter, pairs_filter, one_item_alone, no_item}
+use Rattle.ixp_load.proofs.Sorting.{same_moved, same_filter, pairs_filter, one_item_alone}
 use Rattle.ixp_load.proofs.VersionRow.{less_of, old_told}
 
 -- the rows of a table ascend by their names
@@ -62,19 +63,11 @@ registry_rows_are s es all = record {
   each = λ kind. subst (Same (kind_rows (place_of kind) es)) (rows_of_kind s kind) (same_filter (λ e. e.0.kind == place_of kind) es (stored_rows s) all.same);
 }
 
--- and those behind them
-module _ (s : State) (v : ValidState s) (fresh : IsFresh s) (es : List Entry) (all : AreAllRows s es) where
-  behind : (k : ℕ) → 18 ≤ k → Same (kind_rows k es) (kind_rows k (count_row s.accepted ∷ []))
-  behind k high = subst (Same (kind_rows k es)) (rows_behind s v.registry fresh.kept k high) (same_filter (λ e. e.0.kind == k) es (stored_rows s) all.same)
-
-  pub no_floors : kind_rows 18 es ≡ []
-  no_floors = no_item (kind_rows 18 es) (behind 18 (omega arith))
-
-  pub no_kept : kind_rows 19 es ≡ []
-  no_kept = no_item (kind_rows 19 es) (behind 19 (omega arith))
-
-  pub one_count : kind_rows 20 es ≡ count_row s.accepted ∷ []
-  one_count = one_item_alone (count_row s.accepted) (kind_rows 20 es) (pairs_filter (λ a b. a ≢ b) (λ e. e.0.kind == 20) es (up_apart es all.order)) (behind 20 (omega arith))
+-- and of the count
+pub one_count : (s : State) → ValidState s → (es : List Entry) → AreAllRows s es → kind_rows 20 es ≡ count_row s.accepted ∷ []
+one_count s v es all =
+    one_item_alone (count_row s.accepted) (kind_rows 20 es) (pairs_filter (λ a b. a ≢ b) (λ e. e.0.kind == 20) es (up_apart es all.order))
+    (subst (Same (kind_rows 20 es)) (count_alone s v.registry) (same_filter (λ e. e.0.kind == 20) es (stored_rows s) all.same))
 
 -- a valid state is what its parts make
 pub same_state : (s : State) → ValidState s → (registry : Registry) (kept : List KeptOwner) (accepted : ℕ) → registry ≡ s.registry → kept ≡ s.kept → accepted ≡ s.accepted
@@ -99,21 +92,21 @@ never_old s v rows front = by_test (is_old rows) refl
     by_test false e = e
     by_test true e = absurd (let bad : 50 ≡ 49 = ap first_byte (sym (rows_held s v).0 ∙ old_told (tables s) rows front e) in omega (arith, bad))
 
-never_many : (s : State) → ValidState s → IsFresh s → 8000000 < len (tables s) → ⊥
-never_many s v fresh many =
+never_many : (s : State) → ValidState s → 8000000 < len (tables s) → ⊥
+never_many s v many =
     let counted = len-entries (tables s) in
     let long = length_permutation (entries (tables s)) (stored_rows s) (rows_are s v) in
-    let few = fresh.few in
+    let few = few_rows s v in
     omega (arith, counted, long, few, many)
 
 -- what rows that were read are loaded as
-pub fresh_loaded :
-    (o : Option Table) (rows : List Row) (beyond : Option RowName) (r : Result State LoadFault) (s : State) → ValidState s → IsFresh s → o ≡ Some (tables s) → WhereTold o (λ t. IsFront t rows)
+pub state_loaded :
+    (o : Option Table) (rows : List Row) (beyond : Option RowName) (r : Result State LoadFault) (s : State) → ValidState s → IsStorable s → o ≡ Some (tables s) → WhereTold o (λ t. IsFront t rows)
     → (beyond ≡ None → WhereTold o (λ t. map row_entry rows ≡ entries t)) → (IsSome beyond → WhereTold o (λ t. 8000000 < len t))
     → (AreAllRows s (map row_entry rows) → is_old rows ≡ false → beyond ≡ None → IsLoaded s r) → IsLoaded s r
-fresh_loaded o rows None r s v fresh is front all many done =
+state_loaded o rows None r s v stores is front all many done =
     done (state_rows s v rows (subst (λ o. WhereTold o (λ t. map row_entry rows ≡ entries t)) is (all refl))) (never_old s v rows (subst (λ o. WhereTold o (λ t. IsFront t rows)) is front)) refl
-fresh_loaded o rows (Some name) r s v fresh is front all many done = absurd (never_many s v fresh (subst (λ o. WhereTold o (λ t. 8000000 < len t)) is (many refl)))
+state_loaded o rows (Some name) r s v stores is front all many done = absurd (never_many s v (subst (λ o. WhereTold o (λ t. 8000000 < len t)) is (many refl)))
 
 no_rows : (rows : List Row) → length (map row_entry rows) ≡ 0 → rows ≡ []
 no_rows [] e = refl

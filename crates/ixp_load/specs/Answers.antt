@@ -1,14 +1,16 @@
 -- What a store is the store of.
-use Rattle.std.specs.Prelude.{◌≡◌, ◌≢◌, ◌⊎◌, [], Some, codes, Result, Ok, Err}
+use Rattle.std.specs.Prelude.{◌≡◌, ◌≢◌, ◌⊎◌, [], Option, Some, codes, Result, Ok, Err}
 use Rattle.std.specs.FinMap.{empty, get}
 use Rattle.ixp_io.specs.Tables.{Table}
 use Rattle.ixp_registry.specs.declared.registry.Registry.{Registry}
 use Rattle.ixp_opening.specs.Openings.{first_state}
 use Rattle.ixp_steps.specs.declared.state.State.{State}
+use Rattle.ixp_steps.specs.States.{ValidState}
 use Rattle.ixp_stored.specs.Names.{version_name}
 use Rattle.ixp_stored.specs.States.{tables}
 use Rattle.ixp_load.specs.declared.fault.LoadFault.{LoadFault}
 use Rattle.ixp_load.specs.declared.fault.LoadFault.TheVariants.{KeeperFault, Damaged, OldVersion, NoMemory}
+use Rattle.ixp_load.specs.Storing.{IsStorable}
 
 -- the registry without rows; its site has the numbers 0 and no name
 abbrev pub empty_registry : Registry
@@ -46,3 +48,9 @@ IsLoaded s (Ok r) = r ≡ s
 IsLoaded s (Err KeeperFault) = Unit {0}
 IsLoaded s (Err NoMemory) = Unit {0}
 IsLoaded s (Err fault) = ⊥
+
+-- What can be loaded is: the rows of a state that requests lead to as that state, and no row as the first state of the registry
+-- without rows.
+pub record LoadsAll (rows : Option Table) (r : Result State LoadFault) : Type 0 where
+  pub whole : (s : State) → ValidState s → IsStorable s → rows ≡ Some (tables s) → IsLoaded s r
+  pub nothing : rows ≡ Some empty → IsLoaded (first_state empty_registry) r

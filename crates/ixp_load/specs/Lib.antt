@@ -1,5 +1,6 @@
 pub mod Answers
 pub mod Faults
+pub mod Gathering
 pub mod Keeping
 pub mod Loading
 pub mod Opening

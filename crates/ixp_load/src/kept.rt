@@ -1,16 +1,10 @@
-//! What a store keeps of requests.
-ghost use Rattle.std.specs.Prelude.{◌≡◌, ◌<◌, [], IfOk, IfSome, OnOk, IsTrue, Some, false, map, true};
-ghost use Rattle.std.specs.List.{AllByRecursion};
-ghost use Rattle.ixp_registry.specs.Words.{is_staff_number};
-ghost use Rattle.ixp_steps.specs.Kept.{ValidKept};
-ghost use Rattle.ixp_io.specs.Tables.{row_entry};
-ghost use Rattle.ixp_load.specs.Keeping.{AreKept};
-ghost use Rattle.ixp_load.specs.Loading.{kind_rows};
+//! The rows of what a store keeps of requests: the first of them that is wrong.
+ghost use Rattle.std.specs.Prelude.{◌<◌, IsTrue};
 
 use crate::decode::{damaged, sets};
 use crate::fault::NoState;
+use crate::gathering::{MOST_KEPT, NUMBERS_END, floor_said, number_said};
 use crate::lines::Left;
-use crate::words::{first_word, kind_of, last_word, number_of, owner_of, subject_of};
 use ixp_io::{Row, RowName};
 use ixp_lists::Items;
 use ixp_registry::{Kind, Owner};
@@ -19,12 +13,6 @@ use ixp_stored::{FLOORS, KEPT, place_of, set_floor, set_kept};
 use ixp_tables::Table;
 use ixp_text::put_number;
 use std::alloc::{AllocError, Global};
-
-/// Numbers of requests are below this, and a floor is at most this.
-const NUMBERS_END: u64 = 10_000_000_000_000_000;
-
-/// How many numbers are kept for an owner.
-const MOST_KEPT: usize = 1024;
 
 fn has_member(alloc: Global, rows: &[Row], number: u32) -> Result<bool, AllocError> {
     let mut key = Vec::new(alloc);
@@ -37,9 +25,7 @@ fn has_member(alloc: Global, rows: &[Row], number: u32) -> Result<bool, AllocErr
 }
 
 /// Whether the store knows the owner: staff are 1 to 16, a member has a row.
-fn is_owner(alloc: Global, rows: &[Row], owner: Owner) -> Result<bool, AllocError>
-    ensures { IfOk result (λ is. IsTrue is → is_staff_number owner ≡ true) }
-{
+fn is_owner(alloc: Global, rows: &[Row], owner: Owner) -> Result<bool, AllocError> {
     match owner {
         Owner::Staff(number) => Ok(1 <= number && number <= 16),
         Owner::Member(number) => has_member(alloc, rows, number),
@@ -47,13 +33,8 @@ fn is_owner(alloc: Global, rows: &[Row], owner: Owner) -> Result<bool, AllocErro
 }
 
 /// The owner and the floor that a row says.
-fn floor_of(alloc: Global, row: &Row, _accepted: u64) -> Result<Option<KeptOwner>, AllocError>
-    ensures { IfOk result (λ o. IfSome o (ValidKept _accepted)) }
-{
-    let Some(owner) = owner_of(row.name.key.as_slice()) else {
-        return Ok(None);
-    };
-    let Some(floor) = number_of(row.body.as_slice()) else {
+fn floor_of(alloc: Global, row: &Row) -> Result<Option<KeptOwner>, AllocError> {
+    let Some((owner, floor)) = floor_said(row) else {
         return Ok(None);
     };
     if floor == 0 || floor > NUMBERS_END {
@@ -72,222 +53,121 @@ fn floor_of(alloc: Global, row: &Row, _accepted: u64) -> Result<Option<KeptOwner
     }
 }
 
-/// Adds what is kept for an owner.
-#[tactic(auto, using(crate::proofs::Keeping::owner_put))]
-fn add(kept: &mut Table<KeptOwner>, owner: KeptOwner, _accepted: u64) -> Result<(), AllocError>
-    requires kept { AreKept _accepted kept.old }
-    requires valid { ValidKept _accepted owner }
-    requires staff { is_staff_number owner.owner ≡ true }
-    ensures { OnOk result (AreKept _accepted kept.new) }
-{
-    kept.put(owner)?;
-    Ok(())
-}
-
 /// The floors of the rows that stand first.
 fn floors<'a>(
     alloc: Global,
     rows: &[Row],
     left: Left<'a>,
-    accepted: u64,
-) -> Result<(Table<KeptOwner>, Left<'a>), NoState>
-    ensures { IfOk result (λ x. AreKept accepted x.0) }
-{
-    let mut kept = Table::new(alloc);
+) -> Result<(Table<KeptOwner>, Left<'a>), NoState> {
+    let mut kept: Table<KeptOwner> = Table::new(alloc);
     let mut left = left;
     'rows: while let Some((row, others)) = left.split_first() {
         if row.name.kind != FLOORS {
             break;
         }
-        let Some(owner) = floor_of(alloc, row, accepted)? else {
+        let Some(owner) = floor_of(alloc, row)? else {
             return Err(damaged(alloc, &row.name));
         };
         if !is_owner(alloc, rows, owner.owner)? {
             return Err(damaged(alloc, &row.name));
         }
-        add(&mut kept, owner, accepted)?;
+        kept.put(owner)?;
         left = others;
     }
     Ok((kept, left))
 }
 
-/// The number that a row of the owner says.
-fn number_in(alloc: Global, owner: &Owner, row: &Row) -> Result<Option<KeptNumber>, AllocError>
-    ensures { IfOk result (λ o. IfSome o (λ kept. 0 < kept.number)) }
-{
-    let (_, number) = last_word(row.name.key.as_slice());
-    let (word, rest) = first_word(row.body.as_slice());
-    let (subject, place) = last_word(rest);
-    let (Some(number), Some(kind), Some(place)) = (
-        number_of(number),
-        kind_of(word),
-        number_of(place),
-    ) else {
+/// The owner and the number that a row says.
+fn number_in(alloc: Global, row: &Row) -> Result<Option<(Owner, KeptNumber)>, AllocError> {
+    let Some((owner, kept)) = number_said(alloc, row)? else {
         return Ok(None);
     };
-    if number == 0 || number >= NUMBERS_END {
+    if kept.number == 0 {
         return Ok(None);
     }
-    let Some(subject) = subject_of(alloc, kind, subject)? else {
-        return Ok(None);
-    };
-    let kept = KeptNumber {
-        number,
-        kind,
-        subject,
-        place,
-    };
-    let change = set_kept(alloc, owner, &kept)?;
+    let change = set_kept(alloc, &owner, &kept)?;
     if sets(&change, row) {
-        Ok(Some(kept))
+        Ok(Some((owner, kept)))
     } else {
         Ok(None)
     }
 }
 
-/// Keeps one number more, where there is room, the floor isn't above it, and its place is one of those that were accepted.
-fn keep(kept: &mut KeptOwner, number: KeptNumber, accepted: u64) -> Result<bool, AllocError>
-    requires valid { ValidKept accepted kept.old }
-    requires counted { 0 < number.number }
-    ensures valid { OnOk result (ValidKept accepted kept.new) }
-    ensures owner { OnOk result (kept.new.owner ≡ kept.old.owner) }
+/// The floor of an owner, 0 where there is no row of it.
+fn floor_in(floors: &Table<KeptOwner>, owner: Owner) -> u64 {
+    match floors.find(&owner) {
+        Some(row) => row.floor,
+        None => 0,
+    }
+}
+
+/// Whether a number may be kept for an owner for whom so many are kept already: there is room, the floor isn't above it, and its
+/// place is one of those that were accepted.
+fn may_follow(count: usize, floor: u64, number: &KeptNumber, accepted: u64) -> bool
+    ensures { IsTrue result → count < 1024 }
 {
-    if kept.numbers.len() >= MOST_KEPT || number.number < kept.floor || number.place > accepted {
-        return Ok(false);
-    }
-    kept.numbers.put(number)?;
-    Ok(true)
+    count < MOST_KEPT && floor <= number.number && number.place <= accepted
 }
 
-/// The owner that the name of a kept number says.
-fn owner_in(row: &Row) -> Option<Owner> {
-    let (owner, _) = last_word(row.name.key.as_slice());
-    owner_of(owner)
+/// The owner of the rows that came last, and how many of them came. An owner's rows stand together.
+#[derive(Clone, Copy)]
+struct Run {
+    owner: Option<Owner>,
+    count: usize,
 }
 
-/// Keeps the numbers of an owner that stand first.
-fn numbers_of<'a>(
-    alloc: Global,
-    kept: &mut KeptOwner,
-    left: Left<'a>,
-    accepted: u64,
-) -> Result<Left<'a>, NoState>
-    requires valid { ValidKept accepted kept.old }
-    ensures valid { OnOk result (ValidKept accepted kept.new) }
-    ensures owner { OnOk result (kept.new.owner ≡ kept.old.owner) }
-{
-    let owner = kept.owner;
-    let mut left = left;
-    'rows: while let Some((row, others)) = left.split_first() {
-        if row.name.kind != KEPT || owner_in(row) != Some(owner) {
-            break;
-        }
-        let Some(number) = number_in(alloc, &owner, row)? else {
-            return Err(damaged(alloc, &row.name));
-        };
-        if !keep(kept, number, accepted)? {
-            return Err(damaged(alloc, &row.name));
-        }
-        left = others;
-    }
-    Ok(left)
-}
-
-/// What is kept for the owner so far, which is taken out.
-#[tactic(auto, using(crate::proofs::Keeping::owner_out, crate::proofs::Keeping::found_valid))]
-fn taken(alloc: Global, kept: &mut Table<KeptOwner>, owner: Owner, _accepted: u64) -> KeptOwner
-    requires kept { AreKept _accepted kept.old }
-    ensures rest { AreKept _accepted kept.new }
-    ensures valid { ValidKept _accepted result }
-    ensures owner { result.owner ≡ owner }
-{
-    match kept.take(&owner) {
-        Some(row) => KeptOwner {
-            owner,
-            floor: row.floor,
-            numbers: row.numbers,
-        },
-        None => KeptOwner {
-            owner,
-            floor: 0,
-            numbers: Table::new(alloc),
-        },
-    }
-}
-
-/// Whether rows tell floors or kept numbers.
-fn tell_kept(rows: &[Row]) -> bool
-    ensures { kind_rows 18 (map row_entry rows.now) ≡ [] → kind_rows 19 (map row_entry rows.now) ≡ [] → result ≡ false }
-{
-    let mut left = rows;
-    'rows: while let Some((row, others)) = left.split_first() {
-        if row.name.kind == FLOORS || row.name.kind == KEPT {
-            return true;
-        }
-        left = others;
-    }
-    false
-}
-
-/// The rows behind those of lines.
-fn behind_lines(rows: &[Row]) -> Left<'_> {
-    let mut left = rows;
-    'rows: while let Some((row, others)) = left.split_first() {
-        if row.name.kind >= FLOORS {
-            break;
-        }
-        left = others;
-    }
-    left
-}
-
-/// What is kept of requests, by the rows of a store that say so.
-pub(crate) fn kept_told(
+/// The rows that came last together with this one; None where it is no row of a kept number, or none that may follow them.
+fn followed(
     alloc: Global,
     rows: &[Row],
+    floors: &Table<KeptOwner>,
+    run: Run,
+    row: &Row,
     accepted: u64,
-) -> Result<Option<Table<KeptOwner>>, AllocError>
-    ensures kept { IfOk result (λ o. IfSome o (AreKept accepted)) }
-    ensures none { kind_rows 18 (map row_entry rows.now) ≡ [] → kind_rows 19 (map row_entry rows.now) ≡ [] → IfOk result (λ o. o ≡ Some []) }
-{
-    if !tell_kept(rows) {
-        return Ok(Some(Table::new(alloc)));
+) -> Result<Option<Run>, AllocError> {
+    let Some((owner, number)) = number_in(alloc, row)? else {
+        return Ok(None);
+    };
+    if !is_owner(alloc, rows, owner)? {
+        return Ok(None);
     }
-    match kept_rows(alloc, rows, behind_lines(rows), accepted) {
-        Ok((kept, _)) => Ok(Some(kept)),
-        Err(NoState::NoMemory) => Err(AllocError),
-        Err(NoState::Damaged { .. }) => Ok(None),
+    let count = if run.owner == Some(owner) {
+        run.count
+    } else {
+        0
+    };
+    if may_follow(count, floor_in(floors, owner), &number, accepted) {
+        Ok(Some(Run {
+            owner: Some(owner),
+            count: count + 1,
+        }))
+    } else {
+        Ok(None)
     }
 }
 
-/// What is kept of requests, by the rows that stand first, and the rows behind them. `rows` are all rows of the store, and
-/// `accepted` is how many requests were accepted.
-pub(crate) fn kept_rows<'a>(
+/// Goes through the rows of floors and kept numbers that stand first, and gives the rows behind them. `rows` are all rows of the
+/// store, and `accepted` is how many requests were accepted.
+pub(crate) fn behind_kept<'a>(
     alloc: Global,
     rows: &[Row],
     left: Left<'a>,
     accepted: u64,
-) -> Result<(Table<KeptOwner>, Left<'a>), NoState>
-    ensures { IfOk result (λ x. AreKept accepted x.0) }
-{
-    let (mut kept, mut left) = floors(alloc, rows, left, accepted)?;
-    'owners: while let Some((row, _)) = left.split_first() {
+) -> Result<Left<'a>, NoState> {
+    let (floors, mut left) = floors(alloc, rows, left)?;
+    let mut run = Run {
+        owner: None,
+        count: 0,
+    };
+    'rows: while let Some((row, others)) = left.split_first() {
         if row.name.kind != KEPT {
             break;
         }
-        let Some(owner) = owner_in(row) else {
+        let Some(next) = followed(alloc, rows, &floors, run, row, accepted)? else {
             return Err(damaged(alloc, &row.name));
         };
-        if !is_owner(alloc, rows, owner)? {
-            return Err(damaged(alloc, &row.name));
-        }
-        let mut numbers = taken(alloc, &mut kept, owner, accepted);
-        let behind = numbers_of(alloc, &mut numbers, left, accepted)?;
-        if behind.len() >= left.len() {
-            return Err(damaged(alloc, &row.name));
-        }
-        add(&mut kept, numbers, accepted)?;
-        left = behind;
+        run = next;
+        left = others;
     }
-    Ok((kept, left))
+    Ok(left)
 }

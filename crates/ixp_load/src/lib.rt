@@ -4,22 +4,25 @@
 //! there is none: the first row, in the keeper's order, that is no row of a state, or the lowest rule of a registry that the
 //! rows break and the row that breaks it.
 //!
-//! Proved are the state that is answered; that the rows of a valid state for which nothing is kept of requests are loaded, as are
+//! Proved are the state that is answered; that the rows of each state that requests lead to are loaded (`specs/Storing.antt`), as are
 //! those of an empty store; that an older version is told exactly where the row of the version says so; and that a keeper's fault
-//! is told exactly where one came. Which row is told, and that the rows of states with kept numbers are loaded, no clause says: it is
-//! tested alone.
+//! is told exactly where one came. So damage is told only where the rows are those of no such state. Which row is told no clause says:
+//! it is tested alone.
 #![tactic(auto)]
 
 mod checking;
 mod decode;
 mod dumped;
 mod fault;
+mod gathering;
 mod keeper;
 mod kept;
+mod laws;
 mod lines;
 mod opened;
 mod sections;
 mod words;
 
 pub use fault::{Damage, LoadFault};
+pub use laws::{requests_keep_states_storable, valid_states_have_few_rows};
 pub use opened::load;

@@ -19,7 +19,7 @@ ghost use Rattle.ixp_load.specs.Answers.{IsLoaded, IsStoreOf, TellsVersion, empt
 ghost use Rattle.ixp_load.specs.Loading.{kind_rows};
 ghost use Rattle.ixp_load.specs.Opening.{AreAllRows, IsFirstOrOf, IsTold, SaysVersion, is_count, is_old};
 ghost use Rattle.ixp_load.specs.Sorting.{Same};
-ghost use Rattle.ixp_load.specs.Storing.{IsFresh};
+ghost use Rattle.ixp_load.specs.Storing.{IsStorable};
 ghost use Rattle.ixp_load.specs.Keeping.{AreKept};
 ghost use Rattle.ixp_load.specs.declared.fault.LoadFault.TheVariants.{KeeperFault};
 
@@ -27,8 +27,9 @@ use crate::checking::are_rows_of;
 use crate::decode::damaged;
 use crate::dumped::registry_told;
 use crate::fault::{Damage, LoadFault, NoState};
+use crate::gathering::kept_told;
 use crate::keeper::read_rows;
-use crate::kept::{kept_rows, kept_told};
+use crate::kept::behind_kept;
 use crate::lines::{Left, dump_of, registry_rows, row_at};
 use crate::words::number_of;
 use ixp_io::{Keeper, Row, RowName};
@@ -172,7 +173,7 @@ fn joined(alloc: Global, registry: Registry, kept: Table<KeptOwner>, accepted: u
 /// The state that rows tell, if they tell one.
 fn told_by(alloc: Global, rows: &[Row]) -> Result<Option<State>, AllocError>
     ensures valid { IfOk result (λ o. IfSome o ValidState) }
-    ensures complete { (s : Whole) → ValidState s → IsFresh s → AreAllRows s (map row_entry rows.now) → IfOk result (λ o. o ≡ Some s) }
+    ensures complete { (s : Whole) → ValidState s → IsStorable s → AreAllRows s (map row_entry rows.now) → IfOk result (λ o. o ≡ Some s) }
 {
     let Some(registry) = registry_told(alloc, rows)? else {
         return Ok(None);
@@ -200,7 +201,7 @@ fn sound_rows(alloc: Global, rows: &[Row]) -> Result<(), NoState> {
     let mut ordered = Vec::new(alloc);
     let left = registry_rows(alloc, left, &mut ordered)?;
     let count = count_in(rows);
-    let (_, left) = kept_rows(alloc, rows, left, count.unwrap_or(u64::MAX))?;
+    let left = behind_kept(alloc, rows, left, count.unwrap_or(u64::MAX))?;
     ends_with_count(alloc, left, count)?;
     sound_registry(alloc, ordered.as_slice())
 }
@@ -241,7 +242,7 @@ fn empty_registry(alloc: Global) -> Registry
 fn confirmed(alloc: Global, rows: &[Row]) -> Result<Option<State>, AllocError>
     ensures valid { IfOk result (λ o. IfSome o ValidState) }
     ensures same { IfOk result (λ o. IfSome o (λ s. IsPermutation (map set_row (stored_rows s)) (map set_row (map row_entry rows.now)))) }
-    ensures complete { (s : Whole) → ValidState s → IsFresh s → AreAllRows s (map row_entry rows.now) → IfOk result (λ o. o ≡ Some s) }
+    ensures complete { (s : Whole) → ValidState s → IsStorable s → AreAllRows s (map row_entry rows.now) → IfOk result (λ o. o ≡ Some s) }
 {
     match told_by(alloc, rows)? {
         None => Ok(None),
@@ -259,7 +260,7 @@ fn confirmed(alloc: Global, rows: &[Row]) -> Result<Option<State>, AllocError>
 fn state_of(alloc: Global, rows: &[Row]) -> Result<State, NoState>
     ensures valid { IfOk result ValidState }
     ensures same { IfOk result (λ s. IsPermutation (map set_row (stored_rows s)) (map set_row (map row_entry rows.now))) }
-    ensures complete { (s : Whole) → ValidState s → IsFresh s → AreAllRows s (map row_entry rows.now) → IsTold s result }
+    ensures complete { (s : Whole) → ValidState s → IsStorable s → AreAllRows s (map row_entry rows.now) → IsTold s result }
 {
     match confirmed(alloc, rows)? {
         Some(state) => Ok(state),
@@ -290,7 +291,7 @@ fn opened(alloc: Global, rows: &[Row], beyond: Option<RowName>) -> Result<State,
     ensures version { SaysVersion result rows.now }
     ensures cause { IsErrOf result KeeperFault → ⊥ }
     ensures nothing { rows.now ≡ [] → beyond ≡ None → IsLoaded (first_state empty_registry) result }
-    ensures complete { (s : Whole) → ValidState s → IsFresh s → AreAllRows s (map row_entry rows.now) → is_old rows.now ≡ false → beyond ≡ None → IsLoaded s result }
+    ensures complete { (s : Whole) → ValidState s → IsStorable s → AreAllRows s (map row_entry rows.now) → is_old rows.now ≡ false → beyond ≡ None → IsLoaded s result }
 {
     if is_old(rows) {
         return Err(LoadFault::OldVersion { found: 1 });
@@ -315,7 +316,7 @@ fn opened(alloc: Global, rows: &[Row], beyond: Option<RowName>) -> Result<State,
 pub fn load<P: Keeper>(alloc: Global, keeper: &mut P) -> Result<State, LoadFault>
     ensures valid { IfOk result ValidState }
     ensures state { IfOk result (λ s. WhereTold (P.table keeper.old) (IsStoreOf s)) }
-    ensures fresh { (s : Whole) → ValidState s → IsFresh s → P.table keeper.old ≡ Some (tables s) → IsLoaded s result }
+    ensures complete { (s : Whole) → ValidState s → IsStorable s → P.table keeper.old ≡ Some (tables s) → IsLoaded s result }
     ensures nothing { P.table keeper.old ≡ Some empty → IsLoaded (first_state empty_registry) result }
     ensures version { WhereTold (P.table keeper.old) (TellsVersion result) }
     ensures kept { P.table keeper.new ≡ P.table keeper.old }

@@ -1,5 +1,22 @@
 //! Words of names and bodies.
-ghost use Rattle.std.specs.Prelude.{◌≡◌, ◌<◌, ◌^◌, ℕ, Some, decimal};
+ghost use Rattle.std.specs.Prelude.{◌≡◌, ◌<◌, ◌^◌, ◌++◌, ◌∷◌, ℕ, List, Some, IfOk, decimal, find as first_with, false, true};
+ghost use Rattle.std.specs.List.{position, AllByRecursion};
+ghost use Rattle.ixp_lines.specs.Fields.{is_break};
+ghost use Rattle.ixp_lines.specs.Lines.{owner_word};
+ghost use Rattle.ixp_lines.specs.Reading.{parted_at};
+ghost use Rattle.ixp_registry.specs.declared.edit_kind.EditKind.{EditKind as Told};
+ghost use Rattle.ixp_registry.specs.declared.members.Owner.{Owner as By};
+ghost use Rattle.ixp_registry.specs.Alphabets.{is_handle};
+ghost use Rattle.ixp_registry.specs.Codes.{edit_word};
+ghost use Rattle.ixp_registry.specs.Widths.{IsNumber, owner_number};
+ghost use Rattle.ixp_steps.specs.declared.kept.KeptNumber.{KeptNumber as Number};
+ghost use Rattle.ixp_steps.specs.declared.subject.PublicKind.{PublicKind as Shared};
+ghost use Rattle.ixp_steps.specs.declared.subject.Subject.{Subject as About};
+ghost use Rattle.ixp_steps.specs.declared.subject.Subject.TheVariants.{Number as Single, Handle, Public};
+ghost use Rattle.ixp_steps.specs.Subjects.{public_word};
+ghost use Rattle.ixp_stored.specs.Names.{key_text, owner_fields, subject_text, kept_body};
+ghost use Rattle.ixp_tables.specs.Tables.{same};
+ghost use Rattle.ixp_load.specs.Storing.{form_of, HasForm, HasSubject};
 
 use ixp_num::Name;
 use ixp_places::is_handle;
@@ -8,20 +25,43 @@ use ixp_steps::{PublicKind, Subject};
 use std::alloc::{AllocError, Global};
 use std::str;
 
-/// The bytes up to the first blank, and those after it; none after it where there is no blank.
-pub(crate) fn first_word(text: &[u8]) -> (&[u8], &[u8]) {
-    match text.iter().position(|byte| *byte == b' ') {
-        Some(end) => (&text[..end], text.get(end + 1..).unwrap_or(&[])),
+fn is_break(byte: u8) -> bool
+    ensures { result ≡ is_break byte }
+{
+    byte == b' ' || byte == b'\n'
+}
+
+fn first_break(text: &[u8]) -> Option<usize>
+    ensures { result ≡ position is_break text.now }
+{
+    text.iter().position(|byte| is_break(*byte))
+}
+
+fn parted(text: &[u8]) -> (&[u8], &[u8])
+    ensures { (result.0.now, result.1.now) ≡ parted_at (position is_break text.now) text.now }
+{
+    match first_break(text) {
+        Some(end) => text.split_at(end),
         None => (text, &[]),
     }
 }
 
-/// The bytes up to the last blank, and those after it.
-pub(crate) fn last_word(text: &[u8]) -> (&[u8], &[u8]) {
-    match text.iter().rposition(|byte| *byte == b' ') {
-        Some(end) => (&text[..end], text.get(end + 1..).unwrap_or(&[])),
-        None => (&[], text),
+fn behind_one(text: &[u8]) -> &[u8]
+    ensures { (c : ℕ) (rest : List ℕ) → text.now ≡ c ∷ rest → result.now ≡ rest }
+{
+    match text {
+        [_, rest @ ..] => rest,
+        _ => text,
     }
+}
+
+/// The bytes up to the first blank or line's end, and those after it; none after it where there is neither.
+pub(crate) fn first_word(text: &[u8]) -> (&[u8], &[u8])
+    ensures word { (word rest : List ℕ) → AllByRecursion (λ c. is_break c ≡ false) word → text.now ≡ word ++ 32 ∷ rest → result.0.now ≡ word }
+    ensures rest { (word rest : List ℕ) → AllByRecursion (λ c. is_break c ≡ false) word → text.now ≡ word ++ 32 ∷ rest → result.1.now ≡ rest }
+{
+    let (word, behind) = parted(text);
+    (word, behind_one(behind))
 }
 
 /// The number that a text of decimal digits says.
@@ -38,14 +78,24 @@ pub(crate) fn number_of(text: &[u8]) -> Option<u64>
 }
 
 /// The same, where it fits in 32 bits.
-pub(crate) fn small_of(text: &[u8]) -> Option<u32> {
-    str::from_utf8(text).ok()?.parse().ok()
+pub(crate) fn small_of(text: &[u8]) -> Option<u32>
+    ensures { (n : ℕ) → n < 2 ^ 32 → text.now ≡ decimal n → result ≡ Some n }
+{
+    let Ok(digits) = str::from_utf8(text) else {
+        return None;
+    };
+    match digits.parse() {
+        Ok(number) => Some(number),
+        Err(_) => None,
+    }
 }
 
-/// The owner of `staff 1` or `member 1`.
-pub(crate) fn owner_of(text: &[u8]) -> Option<Owner> {
-    let (word, number) = first_word(text);
-    let number = small_of(number)?;
+fn owner_with(word: &[u8], number: &[u8]) -> Option<Owner>
+    ensures { (o : By) → IsNumber (owner_number o) → word.now ≡ owner_word o → number.now ≡ decimal (owner_number o) → result ≡ Some o }
+{
+    let Some(number) = small_of(number) else {
+        return None;
+    };
     if word == b"staff".as_slice() {
         Some(Owner::Staff(number))
     } else if word == b"member".as_slice() {
@@ -53,6 +103,31 @@ pub(crate) fn owner_of(text: &[u8]) -> Option<Owner> {
     } else {
         None
     }
+}
+
+/// The owner of `staff 1` or `member 1`.
+#[tactic(auto, using(crate::proofs::WordTexts::owner_unbroken))]
+pub(crate) fn owner_of(text: &[u8]) -> Option<Owner>
+    ensures { (o : By) → IsNumber (owner_number o) → text.now ≡ key_text (owner_fields o) → result ≡ Some o }
+{
+    let (word, number) = first_word(text);
+    owner_with(word, number)
+}
+
+/// The owner and the number of `staff 1 7`.
+#[tactic(auto, using(crate::proofs::WordTexts::small_unbroken, crate::proofs::WordTexts::owner_unbroken, crate::proofs::WordTexts::numbered_key))]
+pub(crate) fn numbered_of(text: &[u8]) -> Option<(Owner, u64)>
+    ensures { (o : By) (n : ℕ) → IsNumber (owner_number o) → n < 2 ^ 64 → text.now ≡ key_text (owner_fields o) ++ 32 ∷ decimal n → result ≡ Some (o, n) }
+{
+    let (word, rest) = first_word(text);
+    let (number, last) = first_word(rest);
+    let Some(owner) = owner_with(word, number) else {
+        return None;
+    };
+    let Some(last) = number_of(last) else {
+        return None;
+    };
+    Some((owner, last))
 }
 
 const KINDS: &[EditKind] = &[
@@ -84,6 +159,26 @@ const KINDS: &[EditKind] = &[
     EditKind::PutPublic,
 ];
 
+fn kind_among(kinds: &[EditKind], word: &[u8]) -> Option<EditKind>
+    ensures { result ≡ first_with (λ kind. same (edit_word kind) word.now) kinds.now }
+{
+    let mut left = kinds;
+    'each: while let Some((kind, others)) = left.split_first() {
+        if kind.word().as_bytes() == word {
+            return Some(*kind);
+        }
+        left = others;
+    }
+    None
+}
+
+/// The kind of edits that a word is.
+pub(crate) fn kind_of(word: &[u8]) -> Option<EditKind>
+    ensures { (kind : Told) → word.now ≡ edit_word kind → result ≡ Some kind }
+{
+    kind_among(KINDS, word)
+}
+
 const PUBLIC: &[PublicKind] = &[
     PublicKind::Bogons,
     PublicKind::BogonAs,
@@ -91,58 +186,157 @@ const PUBLIC: &[PublicKind] = &[
     PublicKind::Roas,
 ];
 
-/// The kind of edits that a word is.
-pub(crate) fn kind_of(word: &[u8]) -> Option<EditKind> {
-    for kind in KINDS {
+fn public_among(kinds: &[PublicKind], word: &[u8]) -> Option<PublicKind>
+    ensures { result ≡ first_with (λ kind. same (public_word kind) word.now) kinds.now }
+{
+    let mut left = kinds;
+    'each: while let Some((kind, others)) = left.split_first() {
         if kind.word().as_bytes() == word {
             return Some(*kind);
         }
+        left = others;
     }
     None
 }
 
-fn public_of(word: &[u8]) -> Option<Subject> {
-    for kind in PUBLIC {
-        if kind.word().as_bytes() == word {
-            return Some(Subject::Public(*kind));
-        }
-    }
-    None
+fn public_of(word: &[u8]) -> Option<PublicKind>
+    ensures { (kind : Shared) → word.now ≡ public_word kind → result ≡ Some kind }
+{
+    public_among(PUBLIC, word)
 }
 
-fn handle_of(alloc: Global, text: &[u8]) -> Result<Option<Subject>, AllocError> {
-    if !is_handle(text) || !Name::is_name(text) {
+#[tactic(auto, using(ixp_edits::proofs::Numbers::handle_is_name))]
+fn handle_of(alloc: Global, text: &[u8]) -> Result<Option<Subject>, AllocError>
+    ensures { is_handle text.now ≡ true → IfOk result (λ o. o ≡ Some (Handle text.now)) }
+{
+    if !is_handle(text) {
         return Ok(None);
     }
     let name = Name::new(alloc, text)?;
     Ok(Some(Subject::Handle(name)))
 }
 
-/// Two numbers; the second is a family's, where only 4 and 6 may stand.
-fn pair_of(text: &[u8], of_family: bool) -> Option<Subject> {
-    let (first, second) = first_word(text);
-    let first = small_of(first)?;
-    let second = small_of(second)?;
-    if of_family && second != 4 && second != 6 {
-        return None;
-    }
-    Some(Subject::Pair(first, second))
+/// What an edit is about.
+#[derive(Clone, Copy, Debug, PartialEq, Eq)]
+pub enum Form {
+    OneNumber,
+    TwoNumbers,
+    /// A number and an IP version, 4 or 6.
+    WithFamily,
+    RouterHandle,
+    SharedList,
 }
 
-/// What an edit of the kind is about.
-pub(crate) fn subject_of(
-    alloc: Global,
-    kind: EditKind,
-    text: &[u8],
-) -> Result<Option<Subject>, AllocError> {
+fn form_of(kind: EditKind) -> Form
+    ensures { result ≡ form_of kind }
+{
     match kind {
-        EditKind::PutContact | EditKind::DropContact => Ok(pair_of(text, false)),
-        EditKind::SetAddress | EditKind::PutIrr | EditKind::PutOrigins => Ok(pair_of(text, true)),
-        EditKind::AddRouter | EditKind::SetRouter | EditKind::DropRouter => handle_of(alloc, text),
-        EditKind::PutPublic => Ok(public_of(text)),
-        _ => match small_of(text) {
-            Some(number) => Ok(Some(Subject::Number(number))),
+        EditKind::PutContact | EditKind::DropContact => Form::TwoNumbers,
+        EditKind::SetAddress | EditKind::PutIrr | EditKind::PutOrigins => Form::WithFamily,
+        EditKind::AddRouter | EditKind::SetRouter | EditKind::DropRouter => Form::RouterHandle,
+        EditKind::PutPublic => Form::SharedList,
+        _ => Form::OneNumber,
+    }
+}
+
+/// A number, and the place behind it.
+#[tactic(auto, using(crate::proofs::WordTexts::small_unbroken))]
+fn number_at(text: &[u8]) -> Option<(Subject, u64)>
+    ensures { (n place : ℕ) → IsNumber n → place < 2 ^ 64 → text.now ≡ decimal n ++ 32 ∷ decimal place → result ≡ Some (Single n, place) }
+{
+    let (word, last) = first_word(text);
+    let Some(number) = small_of(word) else {
+        return None;
+    };
+    let Some(place) = number_of(last) else {
+        return None;
+    };
+    Some((Subject::Number(number), place))
+}
+
+/// Two numbers, and the place behind them.
+#[tactic(auto, using(crate::proofs::WordTexts::small_unbroken, crate::proofs::WordTexts::pair_text))]
+fn pair_at(text: &[u8]) -> Option<(u32, u32, u64)>
+    ensures { (m n place : ℕ) → IsNumber m → IsNumber n → place < 2 ^ 64 → text.now ≡ (decimal m ++ 32 ∷ decimal n) ++ 32 ∷ decimal place → result ≡ Some (m, n, place) }
+{
+    let (word, rest) = first_word(text);
+    let Some(first) = small_of(word) else {
+        return None;
+    };
+    let (word, last) = first_word(rest);
+    let Some(second) = small_of(word) else {
+        return None;
+    };
+    let Some(place) = number_of(last) else {
+        return None;
+    };
+    Some((first, second, place))
+}
+
+/// A handle, and the place behind it.
+#[tactic(auto, using(crate::proofs::WordTexts::handle_unbroken))]
+fn handle_at(alloc: Global, text: &[u8]) -> Result<Option<(Subject, u64)>, AllocError>
+    ensures { (h : List ℕ) (place : ℕ) → is_handle h ≡ true → place < 2 ^ 64 → text.now ≡ h ++ 32 ∷ decimal place → IfOk result (λ o. o ≡ Some (Handle h, place)) }
+{
+    let (word, last) = first_word(text);
+    let Some(place) = number_of(last) else {
+        return Ok(None);
+    };
+    match handle_of(alloc, word)? {
+        Some(handle) => Ok(Some((handle, place))),
+        None => Ok(None),
+    }
+}
+
+/// The word of a public list, and the place behind it.
+fn public_at(text: &[u8]) -> Option<(Subject, u64)>
+    ensures { (p : Shared) (place : ℕ) → place < 2 ^ 64 → text.now ≡ public_word p ++ 32 ∷ decimal place → result ≡ Some (Public p, place) }
+{
+    let (word, last) = first_word(text);
+    match (public_of(word), number_of(last)) {
+        (Some(kind), Some(place)) => Some((Subject::Public(kind), place)),
+        _ => None,
+    }
+}
+
+/// What an edit is about, and the place behind it.
+fn subject_at(alloc: Global, form: Form, text: &[u8]) -> Result<Option<(Subject, u64)>, AllocError>
+    ensures { (s : About) (place : ℕ) → HasForm form s → place < 2 ^ 64 → text.now ≡ subject_text s ++ 32 ∷ decimal place → IfOk result (λ o. o ≡ Some (s, place)) }
+{
+    match form {
+        Form::OneNumber => Ok(number_at(text)),
+        Form::TwoNumbers => match pair_at(text) {
+            Some((first, second, place)) => Ok(Some((Subject::Pair(first, second), place))),
             None => Ok(None),
         },
+        Form::WithFamily => match pair_at(text) {
+            Some((first, second, place)) => {
+                if second == 4 || second == 6 {
+                    Ok(Some((Subject::Pair(first, second), place)))
+                } else {
+                    Ok(None)
+                }
+            }
+            None => Ok(None),
+        },
+        Form::RouterHandle => handle_at(alloc, text),
+        Form::SharedList => Ok(public_at(text)),
+    }
+}
+
+/// The kind of an edit, what it is about, and its place among those that were accepted.
+pub(crate) fn request_of(
+    alloc: Global,
+    text: &[u8],
+) -> Result<Option<(EditKind, Subject, u64)>, AllocError>
+    ensures { (k : Number) → HasSubject k → k.place < 2 ^ 64 → text.now ≡ kept_body k → IfOk result (λ o. o ≡ Some (k.kind, k.subject, k.place)) }
+{
+    let (word, rest) = first_word(text);
+    let Some(kind) = kind_of(word) else {
+        return Ok(None);
+    };
+    match subject_at(alloc, form_of(kind), rest)? {
+        Some((subject, place)) => Ok(Some((kind, subject, place))),
+        None => Ok(None),
     }
 }

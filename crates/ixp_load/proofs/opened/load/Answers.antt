@@ -5,7 +5,7 @@ use Rattle.ixp_opening.specs.Openings.{first_state}
 use Rattle.ixp_load.specs.Answers.{IsLoaded, empty_registry}
 use Rattle.ixp_load.specs.Opening.{AreAllRows, IsFirstOrOf, SaysVersion, is_old}
 use Rattle.ixp_load.proofs.VersionRow.{answer_told, version_told}
-use Rattle.ixp_load.proofs.WholeStates.{fresh_loaded, none_loaded}
+use Rattle.ixp_load.proofs.WholeStates.{state_loaded, none_loaded}
 use Rattle.ixp_load.proofs.opened.load.Goals as goal
 
 pub returns-clause-state : goal.returns-clause-state
@@ -18,10 +18,10 @@ returns-clause-version g c =
     version_told _ c.in_ok-rows.rows.items c.in_ok-rows.beyond c.opened.result c.in_ok-rows.ensures.front c.in_ok-rows.ensures.all c.in_ok-rows.ensures.some
     (subst (λ (rs : List Row). SaysVersion c.opened.result rs) c.as_slice.ensures.value c.opened.ensures.version)
 
-pub returns-clause-fresh : goal.returns-clause-fresh
-returns-clause-fresh g c = λ s v fresh is.
-    fresh_loaded _ c.in_ok-rows.rows.items c.in_ok-rows.beyond c.opened.result s v fresh is c.in_ok-rows.ensures.front c.in_ok-rows.ensures.all c.in_ok-rows.ensures.many
-    (subst (λ (rs : List Row). AreAllRows s (map row_entry rs) → is_old rs ≡ false → c.in_ok-rows.beyond ≡ None → IsLoaded s c.opened.result) c.as_slice.ensures.value (c.opened.ensures.complete s v fresh))
+pub returns-clause-complete : goal.returns-clause-complete
+returns-clause-complete g c = λ s v stores is.
+    state_loaded _ c.in_ok-rows.rows.items c.in_ok-rows.beyond c.opened.result s v stores is c.in_ok-rows.ensures.front c.in_ok-rows.ensures.all c.in_ok-rows.ensures.many
+    (subst (λ (rs : List Row). AreAllRows s (map row_entry rs) → is_old rs ≡ false → c.in_ok-rows.beyond ≡ None → IsLoaded s c.opened.result) c.as_slice.ensures.value (c.opened.ensures.complete s v stores))
 
 pub returns-clause-nothing : goal.returns-clause-nothing
 returns-clause-nothing g c = λ is.
