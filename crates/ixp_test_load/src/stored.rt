@@ -1,5 +1,5 @@
 //! Which rows a store has, and that they are loaded again.
-use crate::samples::{DUMP, Uses, put_loaded, put_name, told};
+use crate::samples::{DUMP, Uses, put_loaded, put_name, set, told};
 use ixp_io::{Keeper, MemKeeper, Row};
 use ixp_text::put;
 use std::alloc::AllocError;
@@ -85,5 +85,33 @@ fn a_stored_registry_is_loaded_again(rt: HostRuntime) -> Result<(), AllocError> 
         return Ok(());
     };
     assert!(rt; count == b"0".as_slice());
+    Ok(())
+}
+
+/// Rows of an owner with a floor and two kept numbers, of another with one, and of the count: kind, key and body.
+const KEPT: &[(u8, &str, &str)] = &[
+    (18, "staff 1", "5"),
+    (19, "member 2 3", "PutIrr 2 4 2"),
+    (19, "staff 1 10", "SetRouter rs1 3"),
+    (19, "staff 1 7", "AddMember 5 1"),
+    (20, "", "3"),
+];
+
+struct WithKept;
+
+impl Uses for WithKept {
+    fn apply(&self, keeper: &mut MemKeeper, out: &mut Vec<u8>) -> Result<(), AllocError> {
+        for &(kind, key, body) in KEPT {
+            set(*out.allocator(), keeper, kind, key, Some(body))?;
+        }
+        put_loaded(keeper, out)
+    }
+}
+
+#[test]
+fn kept_numbers_are_loaded_again(rt: HostRuntime) -> Result<(), AllocError> {
+    let loaded = told(rt.alloc(), &WithKept)?;
+    let count = loaded.as_slice().strip_prefix(DUMP.as_bytes());
+    assert!(rt; count == Some(b"3".as_slice()));
     Ok(())
 }
