@@ -15,8 +15,8 @@ returns c =
     let is : session_at r q c.args.interface.now ≡ Some s = search rules in
     let part : List ℕ = config_text (session_part (record c.in_ok-i.i { prefixes = c.in-Some.session.prefixes.now })) in
     let text : c.from_vec.result ≡ config_text (session_part (inputs r q s)) =
-        c.from_vec.ensures
-        ∙ c.in_ok-put_part.ensures
-        ∙ ap (λ (t : List ℕ). t ++ part) c.new-text.ensures.items
-        ∙ ap (λ (x : Inputs). config_text (session_part (record x { prefixes = c.in-Some.session.prefixes.now }))) c.in_ok-i.ensures in
+    c.from_vec.ensures
+    ∙ c.in_ok-put_part.ensures
+    ∙ ap (λ (t : List ℕ). t ++ part) c.new-text.ensures.items
+    ∙ ap (λ (x : Inputs). config_text (session_part (record x { prefixes = c.in-Some.session.prefixes.now }))) c.in_ok-i.ensures in
     ap (λ (t : List ℕ). Some (record { interface = c.args.interface.now.number; text = t })) text ∙ sym (ap (session_text_of r q c.args.interface.now) is)
