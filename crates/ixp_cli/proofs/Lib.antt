@@ -10,5 +10,6 @@ pub mod OneOutput
 pub mod Refusals
 pub mod ServedWhole
 pub mod Telling
+pub mod Loadable
 pub mod Loading
 pub mod Mapped

@@ -1,5 +1,6 @@
 -- What a run of the program does.
 use Rattle.std.specs.Prelude.{◌≡◌, ◌<◌, ◌≤◌, ◌⊎◌, ◌+◌, ℕ, ◌==◌, ◌&&◌, ◌||◌, Bool, true, false, List, [], ◌∷◌, ◌++◌, length, Option, Some, None, Result, Ok, Err, option_map, codes, decimal, IsTrue, if◌then◌else◌}
+use Rattle.std.specs.FinMap.{empty}
 use Rattle.ixp_causes.specs.declared.Cause.{Cause}
 use Rattle.ixp_causes.specs.declared.Code.TheVariants.{U5}
 use Rattle.ixp_causes.specs.declared.Place.TheVariants.{Byte}
@@ -30,14 +31,16 @@ use Rattle.ixp_replies.specs.declared.outcome.Outcome.{Outcome}
 use Rattle.ixp_lines.specs.declared.version.Version.TheVariants.{Two}
 use Rattle.ixp_link.specs.declared.ends.Served.{Served}
 use Rattle.ixp_link.specs.Links.{Serves}
-use Rattle.ixp_load.specs.Answers.{IsStoreOf, TellsVersion}
+use Rattle.ixp_load.specs.Answers.{IsStoreOf, LoadsAll, TellsVersion}
 use Rattle.ixp_load.specs.declared.fault.LoadFault.{LoadFault}
 use Rattle.ixp_load.specs.declared.fault.LoadFault.TheVariants.{KeeperFault as StoreFault}
+use Rattle.ixp_load.specs.Storing.{IsStorable}
 use Rattle.ixp_plain_desk.specs.Turns.{IsTurn}
 use Rattle.ixp_registry.specs.Registries.{rows_of}
 use Rattle.ixp_rows.specs.Texts.{dump_text}
 use Rattle.ixp_steps.specs.declared.state.State.{State}
 use Rattle.ixp_steps.specs.States.{ValidState}
+use Rattle.ixp_stored.specs.States.{tables}
 use Rattle.ixp_cli.specs.Restores.{Store, IsDumpOf, Fills, IsFilled, Restores}
 use Rattle.ixp_cli.specs.Sessions.{code_word, Unloaded, end_of}
 
@@ -233,11 +236,16 @@ RestoreEnds input input' output output' store store' (OldVersion found) = ⊥
 RestoreEnds input input' output output' store store' (BadLink code requests) = ⊥
 
 -- The store couldn't be loaded: nothing was read or written, and its rows are as they were. A fault of the store came in this run; an older version is told
--- where the row of the version says so, and damage nowhere there.
+-- where the row of the version says so, and damage nowhere there, nor where the rows are those of a state that requests lead to, or none.
 abbrev pub NotLoaded : Flow → Flow → Flow → Flow → Store → Store → End → Type 0
 NotLoaded input input' output output' store store' end =
     (input' ≡ input) × (output' ≡ output) × (store'.rows ≡ store.rows)
-    × ((fault : LoadFault) × Unloaded fault end × (fault ≡ StoreFault → Rose store.faults store'.faults) × WhereTold store.rows (TellsVersion (Err fault)))
+    × ((fault : LoadFault) × Unloaded fault end × (fault ≡ StoreFault → Rose store.faults store'.faults) × WhereTold store.rows (TellsVersion (Err fault))
+    × LoadsAll store.rows (Err fault))
+
+-- the store has the rows of a state that requests lead to, or none
+abbrev pub CanBeLoaded : Store → Type 0
+CanBeLoaded store = (store.rows ≡ Some empty) ⊎ ((s : State) × ValidState s × IsStorable s × (store.rows ≡ Some (tables s)))
 
 -- the store has the rows of this valid state
 abbrev pub Holds : Store → State → Type 0

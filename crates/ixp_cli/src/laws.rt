@@ -11,7 +11,7 @@ ghost use Rattle.ixp_cli.specs.declared.command.Question.{Question};
 ghost use Rattle.ixp_cli.specs.declared.end.End.{End};
 ghost use Rattle.ixp_cli.specs.Evals.{Evaluates};
 ghost use Rattle.ixp_cli.specs.Restores.{IsDumpOf};
-ghost use Rattle.ixp_cli.specs.Runs.{Answers, AsksInVain, IsAnswered, IsLongEnd, IsRestored, IsTold, Outside, Runs, input_limit, reads_whole};
+ghost use Rattle.ixp_cli.specs.Runs.{Answers, AsksInVain, CanBeLoaded, IsAnswered, IsLongEnd, IsRestored, IsTold, Outside, Runs, input_limit, reads_whole};
 ghost use Rattle.ixp_cli.specs.Served.{IsServed, IsUnloaded};
 
 /// An input of `eval` has one output.
@@ -58,4 +58,11 @@ pub fn dumps_are_restored()
 pub fn sessions_are_answered()
     ensures { (before after : Outside) (status : Option ℕ) (bytes : List ℕ) → before.input.bytes ≡ Some bytes → Runs (Some Session) before after status →
         IsUnloaded before after status ⊎ IsServed before after status bytes }
+{}
+
+/// Damage is told of no store that has the rows of a state that requests lead to, or none; nor is such a store told to be old.
+#[tactic(auto, using(crate::proofs::Loadable::never_damaged, crate::proofs::Loadable::never_old))]
+pub fn what_was_stored_is_loaded()
+    ensures damaged { (command : Option Command) (before after : Outside) (status : Option ℕ) → CanBeLoaded before.store → Runs command before after status → ¬ (status ≡ Some 6) }
+    ensures old { (command : Option Command) (before after : Outside) (status : Option ℕ) → CanBeLoaded before.store → Runs command before after status → ¬ (status ≡ Some 10) }
 {}
