@@ -2,3 +2,4 @@ pub mod Export
 pub mod Moments
 pub mod Texts
 pub mod Views
+pub mod Rows

@@ -4,8 +4,8 @@ ghost use Rattle.ixp_ixf.specs.Texts as spec;
 ghost use Rattle.ixp_ixf.specs.Views.{ixf_text_of};
 
 use crate::fabric::put_exchange;
-use crate::lists::{put_name, put_picked_member};
-use crate::members::Connected;
+use crate::lists::{put_name, put_shown_member};
+use crate::members::{Wiring, connected};
 use crate::moment::moment_text;
 use ixp_json::put_text_member;
 use ixp_registry::Registry;
@@ -25,16 +25,12 @@ fn put_exchange_list(out: &mut Vec<u8>, registry: &Registry) -> Result<(), Alloc
 fn put_export(out: &mut Vec<u8>, registry: &Registry, second: u64) -> Result<(), AllocError>
     ensures { OnOk result (out.new.items ≡ out.old.items ++ spec.export_text registry.now second) }
 {
-    let moment = moment_text(*out.allocator(), second)?;
-    let connected = Connected { registry };
+    let alloc = *out.allocator();
+    let moment = moment_text(alloc, second)?;
+    let wiring = Wiring::of(alloc, registry)?;
+    let members = connected(alloc, registry.members.as_slice())?;
     put_exchange_list(out, registry)?;
-    put_picked_member(
-        out,
-        b",",
-        b"member_list",
-        &connected,
-        registry.members.as_slice(),
-    )?;
+    put_shown_member(out, b",", b"member_list", &wiring, members.as_slice())?;
     put_text_member(out, b",", b"timestamp", moment.as_bytes())?;
     put_text_member(out, b",", b"version", b"1.0")?;
     put(out, b"}")

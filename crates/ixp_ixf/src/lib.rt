@@ -6,6 +6,7 @@
 
 mod export;
 mod fabric;
+mod index;
 mod lists;
 mod members;
 mod moment;

@@ -1,6 +1,7 @@
 //! Lists and members of objects (RFC 8259 sections 4 and 5).
-ghost use Rattle.std.specs.Prelude.{◌≡◌, ◌++◌, ℕ, List, Bool, OnOk, codes, filter};
+ghost use Rattle.std.specs.Prelude.{◌≡◌, ◌++◌, ℕ, List, OnOk, codes};
 ghost use Rattle.ixp_text.specs.Joined.{joined};
+ghost use Rattle.ixp_ixf.specs.Rows.{shown};
 ghost use Rattle.ixp_ixf.specs.Texts.{name_text, list_text, list_member, flag_member};
 
 use ixp_json::put_quoted;
@@ -47,52 +48,44 @@ pub(crate) fn put_list_member<W: Writes>(
     put(out, b"]")
 }
 
-/// One way to write those items that are meant.
-pub(crate) trait Picks {
+/// One way to write items.
+pub(crate) trait Shows {
     type Item;
 
-    ghost meant: { Self → Self.Item → Bool };
-
     ghost text_of: { Self → Self.Item → List ℕ };
-
-    /// Whether the item is meant.
-    fn is_meant(&self, item: &Self::Item) -> bool
-        ensures { result ≡ meant self.now item.now };
 
     /// Adds the text of an item.
     fn write(&self, item: &Self::Item, out: &mut Vec<u8>) -> Result<(), AllocError>
         ensures { OnOk result (out.new.items ≡ out.old.items ++ text_of self.now item.now) };
 }
 
-fn put_picked<P: Picks>(out: &mut Vec<u8>, picks: &P, items: &[P::Item]) -> Result<(), AllocError>
-    ensures { OnOk result (out.new.items ≡ out.old.items ++ joined (codes ",") (P.text_of picks.now) (filter (P.meant picks.now) items.now)) }
+fn put_shown<S: Shows>(out: &mut Vec<u8>, shows: &S, items: &[&S::Item]) -> Result<(), AllocError>
+    ensures { OnOk result (out.new.items ≡ out.old.items ++ joined (codes ",") (S.text_of shows.now) (shown items.now)) }
 {
     let mut is_first = true;
     for item in items {
-        if picks.is_meant(item) {
-            if !is_first {
-                put(out, b",")?;
-            }
-            is_first = false;
-            picks.write(item, out)?;
+        if !is_first {
+            put(out, b",")?;
         }
+        is_first = false;
+        shows.write(item, out)?;
     }
     Ok(())
 }
 
-/// Adds a member that is the list of the items that are meant.
+/// Adds a member that is the list of the items that references show.
 #[tactic(auto, unfolding(crate::specs::Texts::list_member))]
-pub(crate) fn put_picked_member<P: Picks>(
+pub(crate) fn put_shown_member<S: Shows>(
     out: &mut Vec<u8>,
     mark: &[u8],
     name: &[u8],
-    picks: &P,
-    items: &[P::Item],
+    shows: &S,
+    items: &[&S::Item],
 ) -> Result<(), AllocError>
-    ensures { OnOk result (out.new.items ≡ out.old.items ++ list_member mark.now name.now (P.text_of picks.now) (filter (P.meant picks.now) items.now)) }
+    ensures { OnOk result (out.new.items ≡ out.old.items ++ list_member mark.now name.now (S.text_of shows.now) (shown items.now)) }
 {
     put_name(out, mark, name)?;
     put(out, b"[")?;
-    put_picked(out, picks, items)?;
+    put_shown(out, shows, items)?;
     put(out, b"]")
 }

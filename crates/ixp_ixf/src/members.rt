@@ -1,15 +1,18 @@
 //! Members and their connections.
-ghost use Rattle.std.specs.Prelude.{◌≡◌, ◌++◌, ◌==◌, [], OnOk, codes};
+ghost use Rattle.std.specs.Prelude.{◌≡◌, ◌++◌, [], IfOk, OnOk, codes, filter};
 ghost use Rattle.ixp_registry.specs.Lookups.{is_connected};
+ghost use Rattle.ixp_ixf.specs.Rows.{shown};
 ghost use Rattle.ixp_ixf.specs.Texts as spec;
 ghost use Rattle.ixp_ixf.specs.Export as tree;
 
-use crate::lists::{Picks, put_flag_member, put_name, put_picked_member};
+use crate::index::{Index, Owned, put_owned_member};
+use crate::lists::{Shows, put_flag_member, put_name};
 use ixp_json::{put_number_member, put_text_member};
 use ixp_num::print_addr;
 use ixp_registry::{IfAddr, Interface, Member, Port, Registry, Status};
 use ixp_text::put;
-use std::alloc::AllocError;
+use std::alloc::{AllocError, Global};
+use std::marker::Model;
 
 #[tactic(auto, unfolding(crate::specs::Texts::text_if_any))]
 fn put_text_if_any(
@@ -74,23 +77,16 @@ fn put_address_member(
     }
 }
 
-/// The interfaces on a port.
+/// The interfaces of a member that has an AS-SET.
 #[derive(Clone, Copy)]
-struct OnPort<'a> {
-    port: u32,
+struct InterfaceJson<'a> {
     as_macro: &'a [u8],
 }
 
-impl<'a> Picks for OnPort<'a> {
+impl<'a> Shows for InterfaceJson<'a> {
     type Item = Interface;
 
-    ghost meant = { λ on i. i.port == on.port };
-
-    ghost text_of = { λ on i. spec.interface_text on.as_macro.now i };
-
-    fn is_meant(&self, item: &Interface) -> bool {
-        item.port == self.port
-    }
+    ghost text_of = { λ json i. spec.interface_text json.as_macro.now i };
 
     fn write(&self, item: &Interface, out: &mut Vec<u8>) -> Result<(), AllocError> {
         put(out, b"{")?;
@@ -119,79 +115,136 @@ fn put_port_list(out: &mut Vec<u8>, port: &Port) -> Result<(), AllocError>
     put(out, b"]")
 }
 
-/// The ports of a member.
-#[derive(Clone, Copy)]
-struct OfMember<'a> {
-    registry: &'a Registry,
-    member: &'a Member,
+impl Owned for Port {
+    ghost owner = { λ p. p.member };
+
+    fn owner(&self) -> u32 {
+        self.member
+    }
 }
 
-impl<'a> Picks for OfMember<'a> {
+impl Owned for Interface {
+    ghost owner = { λ i. i.port };
+
+    fn owner(&self) -> u32 {
+        self.port
+    }
+}
+
+/// A registry, with its ports by their members and its interfaces by their ports. Contracts see it as the registry.
+#[derive(Drop)]
+pub(crate) struct Wiring<'a> {
+    registry: &'a Registry,
+    ports: Index<'a, Port>,
+    interfaces: Index<'a, Interface>,
+}
+
+impl<'a> Model for Wiring<'a> {
+    ghost use Rattle.std.specs.Prelude.{◌≡◌, ◌==◌, ℕ, filter};
+    ghost use Rattle.ixp_registry.specs.declared.registry.Registry.{Registry};
+    ghost use Rattle.ixp_ixf.specs.Rows.{rows_of};
+
+    ghost Value = { Registry };
+
+    ghost view = { λ w. w.registry.now };
+
+    ghost invariant = { λ w. ((n : ℕ) → rows_of w.ports n ≡ filter (λ p. p.member == n) w.registry.now.ports) × ((n : ℕ) → rows_of w.interfaces n ≡ filter (λ i. i.port == n) w.registry.now.interfaces) };
+}
+
+impl<'a> Wiring<'a> {
+    /// By one pass over the ports, and one over the interfaces.
+    pub(crate) fn of(alloc: Global, registry: &'a Registry) -> Result<Wiring<'a>, AllocError>
+        ensures { IfOk result (λ wiring. wiring ≡ registry.now) }
+    {
+        let ports = Index::of(alloc, registry.ports.as_slice())?;
+        let interfaces = Index::of(alloc, registry.interfaces.as_slice())?;
+        Ok(Wiring {
+            registry,
+            ports,
+            interfaces,
+        })
+    }
+}
+
+/// The connections of a member.
+#[derive(Clone, Copy)]
+struct ConnectionJson<'w, 'a> {
+    wiring: &'w Wiring<'a>,
+    member: &'w Member,
+}
+
+impl<'w, 'a> Shows for ConnectionJson<'w, 'a> {
     type Item = Port;
 
-    ghost meant = { λ of p. p.member == of.member.now.number };
-
-    ghost text_of = { λ of p. spec.connection_text of.registry.now of.member.now p };
-
-    fn is_meant(&self, item: &Port) -> bool {
-        item.member == self.member.number
-    }
+    ghost text_of = { λ json p. spec.connection_text json.wiring.now json.member.now p };
 
     fn write(&self, item: &Port, out: &mut Vec<u8>) -> Result<(), AllocError> {
-        let on_port = OnPort {
-            port: item.number,
+        let interface_json = InterfaceJson {
             as_macro: self.member.as_macro.as_slice(),
         };
+        let wiring = self.wiring;
+        let interfaces = &wiring.interfaces;
         put_port_list(out, item)?;
-        put_number_member(out, b",", b"ixp_id", u64::from(self.registry.site.ixp_id))?;
-        put_picked_member(
+        put_number_member(out, b",", b"ixp_id", u64::from(wiring.registry.site.ixp_id))?;
+        put_owned_member(
             out,
             b",",
             b"vlan_list",
-            &on_port,
-            self.registry.interfaces.as_slice(),
+            &interface_json,
+            interfaces,
+            item.number,
         )?;
         put(out, b"}")
     }
 }
 
 #[tactic(auto, unfolding(crate::specs::Texts::connections_member))]
-fn put_connections(
-    out: &mut Vec<u8>,
-    registry: &Registry,
-    member: &Member,
-) -> Result<(), AllocError>
-    ensures { OnOk result (out.new.items ≡ out.old.items ++ spec.connections_member registry.now member.now) }
+fn put_connections(out: &mut Vec<u8>, wiring: &Wiring, member: &Member) -> Result<(), AllocError>
+    ensures { OnOk result (out.new.items ≡ out.old.items ++ spec.connections_member wiring.now member.now) }
 {
-    let ports = registry.ports.as_slice();
-    let of_member = OfMember { registry, member };
-    put_picked_member(out, b",", b"connection_list", &of_member, ports)
+    let connection_json = ConnectionJson { wiring, member };
+    let ports = &wiring.ports;
+    put_owned_member(
+        out,
+        b",",
+        b"connection_list",
+        &connection_json,
+        ports,
+        member.number,
+    )
 }
 
-/// The members that are connected.
-#[derive(Clone, Copy)]
-pub(crate) struct Connected<'a> {
-    pub registry: &'a Registry,
-}
-
-impl<'a> Picks for Connected<'a> {
+impl<'a> Shows for Wiring<'a> {
     type Item = Member;
 
-    ghost meant = { λ c m. is_connected m.status };
-
-    ghost text_of = { λ c m. spec.member_text c.registry.now m };
-
-    fn is_meant(&self, item: &Member) -> bool {
-        match item.status {
-            Status::Connected => true,
-            Status::Noted | Status::Suspended | Status::Left => false,
-        }
-    }
+    ghost text_of = { λ wiring m. spec.member_text wiring m };
 
     fn write(&self, item: &Member, out: &mut Vec<u8>) -> Result<(), AllocError> {
         put_number_member(out, b"{", b"asnum", u64::from(item.asn.0))?;
-        put_connections(out, self.registry, item)?;
+        put_connections(out, self, item)?;
         put_text_member(out, b",", b"name", item.name.as_slice())?;
         put(out, b"}")
     }
+}
+
+fn is_member_connected(member: &Member) -> bool
+    ensures { result ≡ is_connected member.now.status }
+{
+    match member.status {
+        Status::Connected => true,
+        Status::Noted | Status::Suspended | Status::Left => false,
+    }
+}
+
+/// The members that are connected.
+pub(crate) fn connected(alloc: Global, members: &[Member]) -> Result<Vec<&Member>, AllocError>
+    ensures { IfOk result (λ found. shown found.items ≡ filter (λ m. is_connected m.status) members.now) }
+{
+    let mut found = Vec::new(alloc);
+    for member in members {
+        if is_member_connected(member) {
+            found.push(member)?;
+        }
+    }
+    Ok(found)
 }
