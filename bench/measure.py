@@ -15,10 +15,10 @@ RUNS = 5
 
 
 class Measured:
-    """A run's processor time and its time on the clock in seconds, its peak memory in bytes, and its output."""
+    """A run's processor time and its time on the clock in seconds, its peak memory in bytes, and what it wrote on its output and on its standard error."""
 
-    def __init__(self, used, clock, memory, output):
-        self.used, self.clock, self.memory, self.output = used, clock, memory, output
+    def __init__(self, used, clock, memory, output, errors):
+        self.used, self.clock, self.memory, self.output, self.errors = used, clock, memory, output, errors
 
 
 def processor_time(ran):
@@ -33,8 +33,11 @@ def run(words, given):
     """Runs a program on a file."""
     given.seek(0)
     with tempfile.NamedTemporaryFile("r") as taken:
-        output = subprocess.run([sys.executable, __file__, taken.name] + words, stdin=given, stdout=subprocess.PIPE, check=True).stdout
-        return Measured(*json.load(taken), output.decode())
+        ran = subprocess.run([sys.executable, __file__, taken.name] + words, stdin=given, stdout=subprocess.PIPE, stderr=subprocess.PIPE)
+        if ran.returncode != 0:
+            sys.stderr.write(ran.stderr.decode())
+            ran.check_returncode()
+        return Measured(*json.load(taken), ran.stdout.decode(), ran.stderr.decode())
 
 
 def take(result, words):

@@ -4,10 +4,15 @@ ghost use Rattle.std.specs.Prelude.{◌≡◌, ◌<◌};
 use ixp_board::{BoardName, Note, Opened, Pen, Publish, Seat, Story, begin, open};
 use ixp_lists::{Held, Items};
 use std::alloc::{AllocError, Global};
+use std::rt::Clock;
 use std::sync::Wait;
 use std::sync::atomic::{AtomicU64, Ordering};
 use std::thread;
 use std::thread::{Threads, for_each_mut, join};
+use std::time::Duration;
+
+/// Bytes that all views share. A view counts its own owners, in the outer part.
+type Bytes = Held<Held<Items<u8>>>;
 
 /// Each turn publishes the bytes of the beginning again.
 pub struct Again;
@@ -15,26 +20,26 @@ pub struct Again;
 impl Story for Again {
     ghost use Rattle.std.specs.Prelude.{ℕ, List};
 
-    type First = Held<Items<u8>>;
+    type First = Bytes;
 
     type Op = ();
 
-    type View = Held<Items<u8>>;
+    type View = Bytes;
 
     ghost legal = { λ first turns. Unit {0} };
 
     ghost fold = { λ first turns. first };
 
-    fn step(
-        _alloc: Global,
-        view: &Held<Items<u8>>,
-        _op: &(),
-    ) -> Result<Held<Items<u8>>, AllocError> {
+    fn step(_alloc: Global, view: &Bytes, _op: &()) -> Result<Bytes, AllocError> {
         view.shared()
     }
 
-    fn share(_alloc: Global, view: &Held<Items<u8>>) -> Result<Held<Items<u8>>, AllocError> {
+    fn share(_alloc: Global, view: &Bytes) -> Result<Bytes, AllocError> {
         view.shared()
+    }
+
+    fn apart(alloc: Global, view: &Bytes) -> Result<Bytes, AllocError> {
+        Held::new(alloc, view.get().shared()?)
     }
 }
 
@@ -42,7 +47,8 @@ impl Story for Again {
 pub fn begun(alloc: Global, bytes: usize) -> Result<Opened<Again>, AllocError> {
     let mut items = Vec::new(alloc);
     items.resize(bytes, 0)?;
-    let first = Held::new(alloc, Items::from_vec(items))?;
+    let bytes = Held::new(alloc, Items::from_vec(items))?;
+    let first = Held::new(alloc, bytes)?;
     let view = first.shared()?;
     Ok(begin(&first, view))
 }
@@ -103,43 +109,69 @@ fn turn<N: BoardName, W: Publish<Note<Again, N>>, R: Wait>(rt: &R, pen: &mut Pen
     let _ = pen.put(rt, &());
 }
 
-/// Makes turns until so many readers are done.
-fn make_turns<N: BoardName, W: Publish<Note<Again, N>>, R: Wait>(
-    rt: &R,
-    pen: &mut Pen<Again, N, W>,
-    readers: u64,
-    done: &AtomicU64,
-) {
-    for _ in 0..u64::MAX {
-        if done.load(Ordering::SeqCst) == readers {
-            return;
-        }
-        turn(rt, pen);
+/// Rests between two turns.
+fn rest<R: Clock>(rt: &R, pause: Duration) {
+    if pause.is_zero() {
         thread::yield_now();
+    } else {
+        thread::sleep(rt, pause);
     }
 }
 
-/// So many readers look so many times each while the pen makes turns. Whether no memory was wanted.
-pub fn looks_beside_turns<N: BoardName + Send + Sync, R: Threads + Wait + Sync>(
+/// Makes turns until so many readers are done, and tells how many it made.
+fn make_turns<N: BoardName, W: Publish<Note<Again, N>>, R: Wait + Clock>(
+    rt: &R,
+    pen: &mut Pen<Again, N, W>,
+    pause: Duration,
+    readers: u64,
+    done: &AtomicU64,
+) -> u64 {
+    for made in 0..u64::MAX {
+        if done.load(Ordering::SeqCst) == readers {
+            return made;
+        }
+        turn(rt, pen);
+        rest(rt, pause);
+    }
+    u64::MAX
+}
+
+/// How a board is looked at.
+#[derive(Clone, Copy)]
+pub struct Trial {
+    pub readers: u32,
+    pub way: Way,
+    /// How often each reader looks.
+    pub times: u64,
+    /// How long the pen rests after each turn.
+    pub pause: Duration,
+}
+
+/// The readers look while the pen makes turns. How many turns it made, or none where a look had no memory.
+pub fn looks_beside_turns<N: BoardName + Send + Sync, R: Threads + Wait + Clock + Sync>(
     rt: &R,
     alloc: Global,
     opened: Opened<Again>,
-    readers: u32,
-    way: Way,
-    times: u64,
-) -> bool
+    trial: Trial,
+) -> Option<u64>
     requires name { opened.0 ≡ N.book }
-    requires readers { 0 < readers }
+    requires readers { 0 < trial.readers }
 {
-    let Ok((mut pen, mut seats)) = open::<Again, N>(alloc, opened, readers) else {
-        return false;
+    let Ok((mut pen, mut seats)) = open::<Again, N>(alloc, opened, trial.readers) else {
+        return None;
     };
+    let Trial {
+        readers,
+        way,
+        times,
+        pause,
+    } = trial;
     let done = AtomicU64::new(0);
     let failed = AtomicU64::new(0);
-    join(
+    let (made, _) = join(
         rt,
-        || make_turns(rt, &mut pen, u64::from(readers), &done),
+        || make_turns(rt, &mut pen, pause, u64::from(readers), &done),
         || look_all(rt, seats.as_mut_slice(), way, times, &done, &failed),
     );
-    failed.load(Ordering::SeqCst) == 0
+    (failed.load(Ordering::SeqCst) == 0).then_some(made)
 }

@@ -77,6 +77,18 @@ impl<S: Story, N: BoardName> Note<S, N> {
             front: self.front.again(),
         })
     }
+
+    /// A note of the same history for a seat, with a view whose shares count their owners apart.
+    pub(crate) fn apart(&self) -> Result<Note<S, N>, AllocError>
+        ensures { IfOk result (λ note. note ≡ self.now) }
+    {
+        let view = S::apart(self.alloc, &self.view)?;
+        Ok(Note {
+            alloc: self.alloc,
+            view,
+            front: self.front.again(),
+        })
+    }
 }
 
 /// An operation of the writer sets the whole.

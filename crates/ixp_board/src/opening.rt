@@ -140,7 +140,7 @@ fn take_seats<S: Story, N: BoardName>(
     let mut taken = Vec::new(alloc);
     'each: for _ in 0..seats {
         let reader = copies.writer.factory().reader().ok();
-        taken.push(Seat::new(last.again()?, reader))?;
+        taken.push(Seat::new(last.apart()?, reader))?;
     }
     Ok(taken)
 }

@@ -75,7 +75,7 @@ impl<S: Story, N: BoardName, W: Publish<Note<S, N>>> Pen<S, N, W> {
     pub fn tell(&self) -> Result<Note<S, N>, AllocError>
         ensures { IfOk result (λ note. note ≡ self.now) }
     {
-        self.last.again()
+        self.last.apart()
     }
 
     /// Whether the history is all that there is; then it begins with what the seat has seen. As the pen alone makes turns, it
@@ -86,13 +86,13 @@ impl<S: Story, N: BoardName, W: Publish<Note<S, N>>> Pen<S, N, W> {
         self.last.front().is_whole(&self.head, seat.last().front())
     }
 
-    /// Shows the seat the history, by a share of the view and no note.
+    /// Shows the seat the history, by an equal view and no note.
     pub fn teach(&self, seat: &mut Seat<S, N>) -> Result<(), AllocError>
         requires { IsPrefix seat.old self.now }
         ensures ok { OnOk result (seat.new ≡ self.now) }
         ensures err { OnErr result (seat.new ≡ seat.old) }
     {
-        let note = self.last.again()?;
+        let note = self.last.apart()?;
         seat.set_last(note);
         Ok(())
     }
@@ -113,7 +113,7 @@ fn next<S: Story, N: BoardName>(
 {
     let view = last.next_view(op)?;
     let published = S::share(alloc, &view)?;
-    let told = S::share(alloc, &view)?;
+    let told = S::apart(alloc, &view)?;
     let mut front = last.front().again();
     if !front.add(head, op) {
         return Err(AllocError);

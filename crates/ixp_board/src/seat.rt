@@ -15,11 +15,15 @@ use std::marker::Model;
 type NoteReader<S, N> = Reader<Note<S, N>, (), Unruled>;
 
 /// A reader of the board. Contracts see it as the history that it has seen.
+///
+/// Each look writes in its seat. So that seats which lie side by side don't slow each other, the next one begins 128 bytes later.
 #[derive(Drop)]
+#[repr(C)]
 pub struct Seat<S: Story, N: BoardName> {
     last: Note<S, N>,
     /// None where `left_right` gave no reader: then the seat sees what it learns.
     reader: Option<NoteReader<S, N>>,
+    _room: [u64; 16],
 }
 
 impl<S: Story, N: BoardName> Model for Seat<S, N> {
@@ -35,7 +39,11 @@ impl<S: Story, N: BoardName> Seat<S, N> {
     pub(crate) fn new(last: Note<S, N>, reader: Option<NoteReader<S, N>>) -> Seat<S, N>
         ensures { result ≡ last }
     {
-        Seat { last, reader }
+        Seat {
+            last,
+            reader,
+            _room: [0; 16],
+        }
     }
 
     pub(crate) fn last(&self) -> &Note<S, N>
@@ -68,8 +76,9 @@ impl<S: Story, N: BoardName> Seat<S, N> {
         }
     }
 
-    /// Looks at what was published last, and gives its view, or that of what the seat has seen where that is more. It waits for
-    /// nobody. Where memory runs out nothing was seen.
+    /// Looks at what was published last, and gives its view, or that of what the seat has seen where that is more. The view is a share
+    /// of the seat's own, so that its owners are counted in memory that no other seat writes. It waits for nobody. Where memory
+    /// runs out nothing was seen.
     pub fn look(&mut self) -> Result<S::View, AllocError>
         ensures view { IfOk result (λ view. IsViewOf S.legal S.fold self.new view) }
         ensures seen { IsPrefix self.old self.new }
@@ -138,6 +147,6 @@ fn newer<S: Story, N: BoardName>(
     if !last.front().is_before(published.front()) {
         return Ok(None);
     }
-    let note = published.again()?;
+    let note = published.apart()?;
     Ok(Some(note))
 }

@@ -28,4 +28,9 @@ pub trait Story {
     /// An equal view. It should cost the same whatever the view holds.
     fn share(alloc: Global, view: &Self::View) -> Result<Self::View, AllocError>
         ensures { IfOk result (λ same. same ≡ view.now) };
+
+    /// An equal view whose shares count their owners apart from those of other views, so that whoever takes them writes no memory
+    /// that others write. It should cost the same whatever the view holds. A seat takes one for each newer view.
+    fn apart(alloc: Global, view: &Self::View) -> Result<Self::View, AllocError>
+        ensures { IfOk result (λ same. same ≡ view.now) };
 }

@@ -57,6 +57,10 @@ impl<T: Adds> Story for Sum<T> {
     fn share(_alloc: Global, view: &Held<u64>) -> Result<Held<u64>, AllocError> {
         view.shared()
     }
+
+    fn apart(alloc: Global, view: &Held<u64>) -> Result<Held<u64>, AllocError> {
+        Held::new(alloc, *view.get())
+    }
 }
 
 /// Makes the turn, if the sum stays below 2^64.
