@@ -19,7 +19,7 @@ use Rattle.ixp_edits.specs.Routers.{new_router, with_settings}
 use Rattle.ixp_edits.proofs.Numbers.{apart}
 use Rattle.ixp_generate.specs.Answers.{header_inputs_at, inputs_at}
 use Rattle.ixp_compile.specs.Generated.{header_inputs}
-use Rattle.ixp_touches.specs.Reaches.{reach, reaches_header, takes_in}
+use Rattle.ixp_touches.specs.Reaches.{header_reach, reach, takes_header, takes_in}
 use Rattle.ixp_touches.proofs.Accepted.{Fits}
 use Rattle.ixp_touches.proofs.RouterFrames.{header_added, header_dropped, header_of_list, header_set, router_added, router_dropped, router_set}
 use Rattle.ixp_touches.proofs.RowFrames.{address_set, interface_added, interface_dropped, list_kept, member_added, moved, on_members, one_list, standing_kept}
@@ -103,11 +103,11 @@ part_frame r (PutPublic (Roas xs)) h n up fits un new = refl
 
 -- the handle is of no router whose header the edit reaches
 abbrev pub HeaderUnreached : Registry → Edit → List ℕ → Type 0
-HeaderUnreached r e h = (q : Router) → find router_key h r.routers ≡ Some q → reaches_header e q ≡ false
+HeaderUnreached r e h = (q : Router) → find router_key h r.routers ≡ Some q → takes_header (header_reach e) q.handle ≡ false
 
 -- nor of one that comes
 abbrev pub HeaderUnentered : Registry → Edit → List ℕ → Type 0
-HeaderUnentered r e h = (q : Router) → find router_key h r.routers ≡ None → find router_key h (next r e).routers ≡ Some q → reaches_header e q ≡ false
+HeaderUnentered r e h = (q : Router) → find router_key h r.routers ≡ None → find router_key h (next r e).routers ≡ Some q → takes_header (header_reach e) q.handle ≡ false
 
 pub header_frame : (r : Registry) (e : Edit) (h : List ℕ) → Fits r e → HeaderUnreached r e h → HeaderUnentered r e h → header_inputs_at r h ≡ header_inputs_at (next r e) h
 header_frame r (AddMember number asn name) h fits un new = refl

@@ -8,4 +8,5 @@ pub mod Listing
 pub mod Steady
 pub mod Untouched
 pub mod ListedOnce
+pub mod TwoSteps
 pub mod Nearness

@@ -19,7 +19,7 @@ use Rattle.ixp_edits.specs.Edits.{next, refusal, IsLawful}
 use Rattle.ixp_edits.proofs.AllEdits.{still_valid}
 use Rattle.ixp_edits.proofs.Numbers.{differ}
 use Rattle.ixp_touches.specs.declared.reach.Reach.{Reach}
-use Rattle.ixp_touches.specs.Reaches.{reach, reaches_header, takes_in}
+use Rattle.ixp_touches.specs.Reaches.{header_reach, reach, takes_header, takes_in}
 use Rattle.ixp_touches.specs.Touched.{SessionKey, handle_within, has_router, has_session, headers_within, is_key, key_within, sessions_within, touch, touched_headers, touched_sessions, ListsOnce}
 use Rattle.ixp_touches.proofs.Listing.{as_flat, as_list}
 
@@ -85,26 +85,26 @@ other_handle : (k : List ℕ) (q : Router) (b : Bool) → same k q.handle ≡ fa
 other_handle k q false e = refl
 other_handle k q true e = rw e refl
 
-headers_counted : (e : Edit) (r : Registry) (k : List ℕ) → Ascends router_key r.routers
-    → count (λ h. same k h) (headers_within e r) ≡ if_there (find router_key k r.routers) 0 (λ q. count (λ h. same k h) (as_list (handle_within e q)))
-headers_counted e r k up = counted_mapped router_key (λ h. same k h) (handle_within e) k r.routers up (λ q far. other_handle k q (reaches_header e q) (not_same k q.handle far))
+headers_counted : (x : Reach) (r : Registry) (k : List ℕ) → Ascends router_key r.routers
+    → count (λ h. same k h) (headers_within x r) ≡ if_there (find router_key k r.routers) 0 (λ q. count (λ h. same k h) (as_list (handle_within x q)))
+headers_counted x r k up = counted_mapped router_key (λ h. same k h) (handle_within x) k r.routers up (λ q far. other_handle k q (takes_header x q.handle) (not_same k q.handle far))
 
-headers_once : (e : Edit) (r : Registry) (k : List ℕ) → Ascends router_key r.routers → count (λ h. same k h) (headers_within e r) ≤ 1
-headers_once e r k up = subst (λ z. z ≤ 1) (sym (headers_counted e r k up)) (at_most (find router_key k r.routers)) where
-  at_most : (o : Option Router) → if_there o 0 (λ q. count (λ h. same k h) (as_list (handle_within e q))) ≤ 1
+headers_once : (x : Reach) (r : Registry) (k : List ℕ) → Ascends router_key r.routers → count (λ h. same k h) (headers_within x r) ≤ 1
+headers_once x r k up = subst (λ z. z ≤ 1) (sym (headers_counted x r k up)) (at_most (find router_key k r.routers)) where
+  at_most : (o : Option Router) → if_there o 0 (λ q. count (λ h. same k h) (as_list (handle_within x q))) ≤ 1
   at_most None = omega arith
-  at_most (Some q) = one_handle k q (reaches_header e q)
+  at_most (Some q) = one_handle k q (takes_header x q.handle)
 
-no_header : (e : Edit) (r : Registry) (k : List ℕ) → Ascends router_key r.routers → has_router r k ≡ false → count (λ h. same k h) (headers_within e r) ≡ 0
-no_header e r k up none = headers_counted e r k up ∙ by_found (find router_key k r.routers) none where
-  by_found : (o : Option Router) → is_some o ≡ false → if_there o 0 (λ q. count (λ h. same k h) (as_list (handle_within e q))) ≡ 0
+no_header : (x : Reach) (r : Registry) (k : List ℕ) → Ascends router_key r.routers → has_router r k ≡ false → count (λ h. same k h) (headers_within x r) ≡ 0
+no_header x r k up none = headers_counted x r k up ∙ by_found (find router_key k r.routers) none where
+  by_found : (o : Option Router) → is_some o ≡ false → if_there o 0 (λ q. count (λ h. same k h) (as_list (handle_within x q))) ≡ 0
   by_found None x = refl
   by_found (Some q) x = absurd (let bad : ⊥ = cc in bad)
 
 headers_listed_once : (before after : Registry) (e : Edit) → Ascends router_key before.routers → Ascends router_key after.routers → Often 1 (λ h. h) (touched_headers before after e)
 headers_listed_once before after e up up' k =
-    once_in_both (λ h. same k h) (λ h. not (has_router before h)) (headers_within e before) (headers_within e after) (headers_once e before k up) (headers_once e after k up') (has_router before k)
-    (no_header e before k up)
+    once_in_both (λ h. same k h) (λ h. not (has_router before h)) (headers_within (header_reach e) before) (headers_within (header_reach e) after) (headers_once (header_reach e) before k up) (headers_once (header_reach e) after k up') (has_router before k)
+    (no_header (header_reach e) before k up)
     (λ there h x. ap not (ap (has_router before) (sym (same_is k h x)) ∙ there))
 
 -- Sessions.
@@ -132,7 +132,7 @@ other_interface h n q i e = rw e (nothing (same q.handle h)) where
   nothing true = refl
   nothing false = refl
 
-at_interface : (x : Reach) (r : Registry) (h : List ℕ) (n : ℕ) (i : Interface) → Ascends router_key r.routers
+pub at_interface : (x : Reach) (r : Registry) (h : List ℕ) (n : ℕ) (i : Interface) → Ascends router_key r.routers
     → count (is_key h n) (filter_map (key_within x r i) r.routers) ≡ if_there (find router_key h r.routers) 0 (λ q. count (is_key h n) (as_list (key_within x r i q)))
 at_interface x r h n i up = counted_mapped router_key (is_key h n) (key_within x r i) h r.routers up (λ q far. other_key h n q i (takes_in x q i && is_session r q i) (other_router h n q i far))
 
@@ -142,7 +142,7 @@ at_others x r h n i up far = at_interface x r h n i up ∙ by_found (find router
   by_found None = refl
   by_found (Some q) = other_key h n q i (takes_in x q i && is_session r q i) (other_interface h n q i (differ i.number n far))
 
-sessions_counted : (x : Reach) (r : Registry) (h : List ℕ) (n : ℕ) → Ascends router_key r.routers → Ascends interface_key r.interfaces
+pub sessions_counted : (x : Reach) (r : Registry) (h : List ℕ) (n : ℕ) → Ascends router_key r.routers → Ascends interface_key r.interfaces
     → count (is_key h n) (sessions_within x r) ≡ if_there (find interface_key (n ∷ []) r.interfaces) 0 (λ i. count (is_key h n) (filter_map (key_within x r i) r.routers))
 sessions_counted x r h n qs is = counted_flat interface_key (is_key h n) (λ i. filter_map (key_within x r i) r.routers) (n ∷ []) r.interfaces is (λ i far. at_others x r h n i qs far)
 
@@ -173,7 +173,7 @@ no_key x r h n qs is none = sessions_counted x r h n qs is ∙ by_interface (fin
   by_interface None fi = refl
   by_interface (Some i) fi = at_interface x r h n i qs ∙ by_router i (find router_key h r.routers) fi refl
 
-key_is : (h : List ℕ) (n : ℕ) (k : SessionKey) → is_key h n k ≡ true → (r : Registry) → has_session r k ≡ has_session r (h, n)
+pub key_is : (h : List ℕ) (n : ℕ) (k : SessionKey) → is_key h n k ≡ true → (r : Registry) → has_session r k ≡ has_session r (h, n)
 key_is h n k e r = let t = and_parts (same k.0 h) (k.1 == n) e in rw (same_is k.0 h t.0, eqb-true k.1 n t.1) refl
 
 sessions_listed_once : (before after : Registry) (e : Edit) → Ascends router_key before.routers → Ascends interface_key before.interfaces → Ascends router_key after.routers → Ascends interface_key after.interfaces

@@ -13,9 +13,8 @@ use Rattle.ixp_registry.specs.declared.registry.Registry.{Registry}
 use Rattle.ixp_registry.specs.declared.router.Router.{Router}
 use Rattle.ixp_registry.specs.Keys.{interface_key, router_key}
 use Rattle.ixp_registry.specs.Sessions.{is_session}
-use Rattle.ixp_edits.specs.declared.edit.Edit.{Edit}
 use Rattle.ixp_touches.specs.declared.reach.Reach.{Reach}
-use Rattle.ixp_touches.specs.Reaches.{reaches_header, takes_in}
+use Rattle.ixp_touches.specs.Reaches.{takes_header, takes_in}
 use Rattle.ixp_touches.specs.Touched.{handle_within, headers_within, is_key, key_within, sessions_within}
 use Rattle.ixp_touches.proofs.Equalities.{any_of_both, eq_itself, or_true}
 
@@ -74,7 +73,7 @@ session_listed r x h n q i fq fi reached is =
           let b : i.number ≡ n = head_same i.number n [] [] (find-key interface_key (n ∷ []) i r.interfaces fi) in
           subst (λ z. (same z h && i.number == n) ≡ true) (sym a) (subst (λ z. (same h h && z == n) ≡ true) (sym b) (rw (same_itself h, eq_itself n) refl))
 
-pub header_listed : (r : Registry) (e : Edit) (h : List ℕ) (q : Router) → find router_key h r.routers ≡ Some q → reaches_header e q ≡ true → list_any (λ k. same k h) (headers_within e r) ≡ true
-header_listed r e h q fq hit =
+pub header_listed : (r : Registry) (x : Reach) (h : List ℕ) (q : Router) → find router_key h r.routers ≡ Some q → takes_header x q.handle ≡ true → list_any (λ k. same k h) (headers_within x r) ≡ true
+header_listed r x h q fq hit =
     let at : q.handle ≡ h = order_equal q.handle h (find-key router_key h q r.routers fq) in
-    any_mapped router_key (λ k. same k h) (handle_within e) h q r.routers q.handle fq (rw hit refl) (subst (λ z. same q.handle z ≡ true) at (same_itself q.handle))
+    any_mapped router_key (λ k. same k h) (handle_within x) h q r.routers q.handle fq (rw hit refl) (subst (λ z. same q.handle z ≡ true) at (same_itself q.handle))

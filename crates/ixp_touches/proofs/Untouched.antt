@@ -17,7 +17,7 @@ use Rattle.ixp_edits.specs.Edits.{next, refusal, IsLawful}
 use Rattle.ixp_compile.specs.declared.inputs.Inputs.{Inputs}
 use Rattle.ixp_compile.specs.Generated.{inputs}
 use Rattle.ixp_generate.specs.Answers.{header_inputs_at, inputs_at}
-use Rattle.ixp_touches.specs.Reaches.{reach, reaches_header, takes_in}
+use Rattle.ixp_touches.specs.Reaches.{header_reach, reach, takes_header, takes_in}
 use Rattle.ixp_touches.specs.Touched.{SessionKey, has_router, has_session, headers_within, is_key, lists_header, lists_session, sessions_within, touch}
 use Rattle.ixp_touches.proofs.Accepted.{Fits, accepted}
 use Rattle.ixp_touches.proofs.Equalities.{any_of_both, false_unless, one_value}
@@ -63,7 +63,7 @@ reached_gone r e h n q i fits none fq fi hit =
 
       after : (p : Router) (k : Interface) → find router_key h (next r e).routers ≡ Some p → find interface_key (n ∷ []) (next r e).interfaces ≡ Some k → is_session (next r e) p k ≡ false
       after p k gq gi = false_unless (is_session (next r e) p k) (λ is.
-          let there = session_listed (next r e) (reach r e) h n p k gq gi (reach_is_steady r e h n fits q p i k fq fi gq gi hit) is in
+          let there = session_listed (next r e) (reach r e) h n p k gq gi (sym (reach_is_steady r e h n fits q p i k fq fi gq gi) ∙ hit) is in
           let kept = any_kept (is_key h n) (λ k. not (has_session r k)) (sessions_within (reach r e) (next r e)) fresh there in
           let no = none.1 in let bad : ⊥ = cc in bad)
 
@@ -107,13 +107,13 @@ unlisted_part r e h n up fits none = by_found (find router_key h r.routers) (fin
   by_found (Some q) (Some i) fq fi = by_reach q i (takes_in (reach r e) q i) fq fi refl
 
 unlisted_header : (r : Registry) (e : Edit) (h : List ℕ) → Fits r e → lists_header (touch r (next r e) e) h ≡ false → header_inputs_at r h ≡ header_inputs_at (next r e) h
-unlisted_header r e h fits un = header_frame r e h fits (λ q fq. false_unless (reaches_header e q) (λ hit.
-    let there = header_listed r e h q fq hit in let no = none.0 in let bad : ⊥ = cc in bad))
-    (λ q fq gq. false_unless (reaches_header e q) (λ hit.
-    let kept = any_kept (λ k. same k h) (λ k. not (has_router r k)) (headers_within e (next r e)) (λ k x. rw (same_is k h x, fq) refl) (header_listed (next r e) e h q gq hit) in
+unlisted_header r e h fits un = header_frame r e h fits (λ q fq. false_unless (takes_header (header_reach e) q.handle) (λ hit.
+    let there = header_listed r (header_reach e) h q fq hit in let no = none.0 in let bad : ⊥ = cc in bad))
+    (λ q fq gq. false_unless (takes_header (header_reach e) q.handle) (λ hit.
+    let kept = any_kept (λ k. same k h) (λ k. not (has_router r k)) (headers_within (header_reach e) (next r e)) (λ k x. rw (same_is k h x, fq) refl) (header_listed (next r e) (header_reach e) h q gq hit) in
     let no = none.1 in let bad : ⊥ = cc in bad)) where
-      none : (list_any (λ k. same k h) (headers_within e r) ≡ false) × (list_any (λ k. same k h) (filter (λ k. not (has_router r k)) (headers_within e (next r e))) ≡ false)
-      none = or_parts _ _ (sym (any_of_both (λ k. same k h) (headers_within e r) (filter (λ k. not (has_router r k)) (headers_within e (next r e)))) ∙ un)
+      none : (list_any (λ k. same k h) (headers_within (header_reach e) r) ≡ false) × (list_any (λ k. same k h) (filter (λ k. not (has_router r k)) (headers_within (header_reach e) (next r e))) ≡ false)
+      none = or_parts _ _ (sym (any_of_both (λ k. same k h) (headers_within (header_reach e) r) (filter (λ k. not (has_router r k)) (headers_within (header_reach e) (next r e)))) ∙ un)
 
 -- the laws
 

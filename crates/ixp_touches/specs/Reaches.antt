@@ -1,5 +1,5 @@
 -- How far an edit reaches: to which sessions, to which headers, and whether to the ROAs.
-use Rattle.std.specs.Prelude.{◌==◌, ◌&&◌, not, Bool, true, false, [], ◌∷◌, Option, Some, None}
+use Rattle.std.specs.Prelude.{ℕ, ◌==◌, ◌&&◌, Bool, true, false, List, [], ◌∷◌, Option, Some, None}
 use Rattle.ixp_num.specs.Families.{same_family}
 use Rattle.ixp_tables.specs.Tables.{find, same}
 use Rattle.ixp_registry.specs.declared.network.Interface.{Interface}
@@ -73,20 +73,44 @@ reach r (PutOrigins member family asns) = OfFamily member family
 reach r (SetRules member rules) = OfMember member
 reach r (PutPublic list) = reach_of_list list
 
+-- every header says the public lists but the ROAs
+abbrev pub header_reach_of_list : PublicList → Reach
+header_reach_of_list (Transit xs) = Everywhere
+header_reach_of_list (Bogons xs) = Everywhere
+header_reach_of_list (BogonAs xs) = Everywhere
+header_reach_of_list (Roas xs) = Nowhere
+
+-- the headers that an edit reaches: the router's own, or all where a public list other than the ROAs is put
+abbrev pub header_reach : Edit → Reach
+header_reach (AddRouter handle vlan family address settings) = OfRouter handle
+header_reach (SetRouter handle settings) = OfRouter handle
+header_reach (DropRouter handle) = OfRouter handle
+header_reach (PutPublic list) = header_reach_of_list list
+header_reach e = Nowhere
+
+-- which headers these are, by the handle of their router
+abbrev pub takes_header : Reach → List ℕ → Bool
+takes_header (OfRouter handle) h = same handle h
+takes_header Everywhere h = true
+takes_header x h = false
+
 abbrev pub is_roas : PublicList → Bool
 is_roas (Roas xs) = true
 is_roas (Bogons xs) = false
 is_roas (BogonAs xs) = false
 is_roas (Transit xs) = false
 
--- the headers that an edit reaches: the router's own, or all where a public list other than the ROAs is put
-abbrev pub reaches_header : Edit → Router → Bool
-reaches_header (AddRouter handle vlan family address settings) q = same handle q.handle
-reaches_header (SetRouter handle settings) q = same handle q.handle
-reaches_header (DropRouter handle) q = same handle q.handle
-reaches_header (PutPublic list) q = not (is_roas list)
-reaches_header e q = false
-
 abbrev pub touches_roas : Edit → Bool
 touches_roas (PutPublic list) = is_roas list
 touches_roas e = false
+
+-- whether there may be sessions after the edit that there weren't before, or routers
+abbrev pub may_bring : Edit → Bool
+may_bring (MoveStatus member to) = true
+may_bring (AddInterface number member port vlan) = true
+may_bring (SetAddress interface family address) = true
+may_bring (DropInterface interface) = true
+may_bring (AddRouter handle vlan family address settings) = true
+may_bring (SetRouter handle settings) = true
+may_bring (DropRouter handle) = true
+may_bring e = false

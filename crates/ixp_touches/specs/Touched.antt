@@ -11,8 +11,9 @@ use Rattle.ixp_registry.specs.Keys.{interface_key, router_key}
 use Rattle.ixp_registry.specs.Sessions.{is_session}
 use Rattle.ixp_edits.specs.declared.edit.Edit.{Edit}
 use Rattle.ixp_touches.specs.declared.reach.Reach.{Reach}
+use Rattle.ixp_touches.specs.declared.touch.Reached.{Reached}
 use Rattle.ixp_touches.specs.declared.touch.Touch.{Touch}
-use Rattle.ixp_touches.specs.Reaches.{reach, reaches_header, takes_in, touches_roas}
+use Rattle.ixp_touches.specs.Reaches.{header_reach, may_bring, reach, takes_header, takes_in, touches_roas}
 
 -- Sessions.
 
@@ -39,18 +40,19 @@ touched_sessions before after e =
 
 -- Headers.
 
-abbrev pub handle_within : Edit → Router → Option (List ℕ)
-handle_within e q = if reaches_header e q then Some q.handle else None
+abbrev pub handle_within : Reach → Router → Option (List ℕ)
+handle_within x q = if takes_header x q.handle then Some q.handle else None
 
-abbrev pub headers_within : Edit → Registry → List (List ℕ)
-headers_within e r = filter_map (handle_within e) r.routers
+abbrev pub headers_within : Reach → Registry → List (List ℕ)
+headers_within x r = filter_map (handle_within x) r.routers
 
 abbrev pub has_router : Registry → List ℕ → Bool
 has_router r handle = is_some (find router_key handle r.routers)
 
 -- the headers reached that there were, and those that come
 abbrev pub touched_headers : Registry → Registry → Edit → List (List ℕ)
-touched_headers before after e = headers_within e before ++ filter (λ h. not (has_router before h)) (headers_within e after)
+touched_headers before after e =
+    headers_within (header_reach e) before ++ filter (λ h. not (has_router before h)) (headers_within (header_reach e) after)
 
 -- All together.
 
@@ -61,6 +63,27 @@ touch before after e = record {
   sessions = touched_sessions before after e;
   roas = touches_roas e;
 }
+
+-- The same in two steps, for who makes the edit in place: what is reached before it, and then what there is after it.
+
+-- what an edit reaches in the registry that it meets
+abbrev pub reached : Registry → Edit → Reached
+reached r e = record {
+  headers = header_reach e;
+  sessions = reach r e;
+  may_bring = may_bring e;
+  before = record { headers = headers_within (header_reach e) r; sessions = sessions_within (reach r e) r; roas = touches_roas e };
+}
+
+-- that, and what is reached in the registry after the edit. A text may be listed twice.
+abbrev pub with_after : Reached → Registry → Touch
+with_after x after = if x.may_bring
+    then record {
+      headers = x.before.headers ++ headers_within x.headers after;
+      sessions = x.before.sessions ++ sessions_within x.sessions after;
+      roas = x.before.roas;
+    }
+    else x.before
 
 abbrev pub is_key : List ℕ → ℕ → SessionKey → Bool
 is_key handle n k = same k.0 handle && k.1 == n

@@ -2,20 +2,24 @@
 ghost use Rattle.std.specs.Prelude.{◌≡◌, ◌++◌, not, filter, IfOk, OnOk};
 ghost use Rattle.ixp_touches.specs.Touched.{has_router, headers_within, touched_headers};
 
-use crate::reach::reaches_header;
+use crate::reach::{Reach, header_reach};
 use ixp_edits::Edit;
 use ixp_num::{Items, Name};
 use ixp_registry::Registry;
 use std::alloc::{AllocError, Global};
 
-/// The handles of the registry's routers whose header the edit reaches.
-fn headers_within(alloc: Global, registry: &Registry, edit: &Edit) -> Result<Vec<Name>, AllocError>
-    ensures { IfOk result (λ hs. hs.items ≡ headers_within edit.now registry.now) }
+/// The handles of the registry's routers whose header is reached.
+pub(crate) fn headers_within(
+    alloc: Global,
+    registry: &Registry,
+    reach: &Reach,
+) -> Result<Vec<Name>, AllocError>
+    ensures { IfOk result (λ hs. hs.items ≡ headers_within reach.now registry.now) }
 {
     let mut handles = Vec::new(alloc);
     let mut left = registry.routers.as_slice();
     'each: while let Some((router, others)) = left.split_first() {
-        if reaches_header(edit, router) {
+        if reach.takes_header(router.handle.as_bytes()) {
             handles.push(router.handle.copied(alloc)?)?;
         }
         left = others;
@@ -51,8 +55,9 @@ pub(crate) fn touched_headers(
 ) -> Result<Items<Name>, AllocError>
     ensures { IfOk result (λ hs. hs ≡ touched_headers before.now after.now edit.now) }
 {
-    let mut handles = headers_within(alloc, before, edit)?;
-    let more = headers_within(alloc, after, edit)?;
+    let reach = header_reach(alloc, edit)?;
+    let mut handles = headers_within(alloc, before, &reach)?;
+    let more = headers_within(alloc, after, &reach)?;
     add_new(before, more, &mut handles)?;
     Ok(Items::from_vec(handles))
 }

@@ -12,7 +12,8 @@ mod sessions;
 mod touch;
 
 pub use laws::{
-    texts_are_listed_once, untouched_headers_stay, untouched_roas_stay, untouched_sessions_stay,
+    both_steps_list_what_is_touched, texts_are_listed_once, untouched_headers_stay,
+    untouched_roas_stay, untouched_sessions_stay,
 };
 pub use reach::Reach;
-pub use touch::{Touch, touched};
+pub use touch::{Reached, Touch, reached_by, touched};

@@ -3,14 +3,14 @@ ghost use Rattle.std.specs.Prelude.{◌≡◌, [], ◌∷◌, IfOk};
 ghost use Rattle.ixp_tables.specs.Tables.{find};
 ghost use Rattle.ixp_registry.specs.Keys.{interface_key};
 ghost use Rattle.ixp_touches.specs.declared.reach.Reach.TheVariants.{OfRouter};
-ghost use Rattle.ixp_touches.specs.Reaches.{beside, is_roas, may_take_in, reach, reach_of_list, reaches_header, takes_in, touches_roas};
+ghost use Rattle.ixp_touches.specs.Reaches.{beside, header_reach, header_reach_of_list, is_roas, may_bring, may_take_in, reach, reach_of_list, takes_header, takes_in, touches_roas};
 
 use ixp_edits::{Edit, PublicList};
 use ixp_num::{Family, Items};
 use ixp_registry::{Interface, Registry, Router};
 use std::alloc::{AllocError, Global};
 
-/// The sessions that an edit reaches.
+/// The sessions that an edit reaches, or the headers: these are none, one router's or all.
 #[derive(Debug, Drop)]
 pub enum Reach {
     Nowhere,
@@ -41,6 +41,17 @@ impl Reach {
             }
             Reach::OfRouter(handle) => handle.as_slice() == router.handle.as_bytes(),
             Reach::Everywhere => true,
+        }
+    }
+
+    /// Whether the header of the router with the handle is one of those that are reached.
+    pub(crate) fn takes_header(&self, handle: &[u8]) -> bool
+        ensures { result ≡ takes_header self.now handle.now }
+    {
+        match self {
+            Reach::OfRouter(of) => of.as_slice() == handle,
+            Reach::Everywhere => true,
+            _ => false,
         }
     }
 
@@ -121,6 +132,31 @@ pub(crate) fn reach_of(alloc: Global, before: &Registry, edit: &Edit) -> Result<
     Ok(reach)
 }
 
+fn header_reach_of_list(list: &PublicList) -> Reach
+    ensures { result ≡ header_reach_of_list list.now }
+{
+    match list {
+        PublicList::Transit(_numbers) => Reach::Everywhere,
+        PublicList::Bogons(_) => Reach::Everywhere,
+        PublicList::BogonAs(_) => Reach::Everywhere,
+        PublicList::Roas(_) => Reach::Nowhere,
+    }
+}
+
+/// The headers that an edit reaches.
+pub(crate) fn header_reach(alloc: Global, edit: &Edit) -> Result<Reach, AllocError>
+    ensures { IfOk result (λ x. x ≡ header_reach edit.now) }
+{
+    let reach = match edit {
+        Edit::AddRouter { handle, .. } => of_router(alloc, handle.as_slice())?,
+        Edit::SetRouter { handle: of, .. } => of_router(alloc, of.as_bytes())?,
+        Edit::DropRouter { handle } => of_router(alloc, handle.as_bytes())?,
+        Edit::PutPublic { list } => header_reach_of_list(list),
+        _ => Reach::Nowhere,
+    };
+    Ok(reach)
+}
+
 fn is_roas(list: &PublicList) -> bool
     ensures { result ≡ is_roas list.now }
 {
@@ -132,25 +168,28 @@ fn is_roas(list: &PublicList) -> bool
     }
 }
 
-/// Whether the edit reaches the header of the router.
-pub(crate) fn reaches_header(edit: &Edit, router: &Router) -> bool
-    ensures { result ≡ reaches_header edit.now router.now }
-{
-    match edit {
-        Edit::AddRouter { handle, .. } => handle.as_slice() == router.handle.as_bytes(),
-        Edit::SetRouter { handle, .. } => handle.as_bytes() == router.handle.as_bytes(),
-        Edit::DropRouter { handle } => handle.as_bytes() == router.handle.as_bytes(),
-        Edit::PutPublic { list } => !is_roas(list),
-        _ => false,
-    }
-}
-
 /// Whether the edit reaches the ROAs.
 pub(crate) fn touches_roas(edit: &Edit) -> bool
     ensures { result ≡ touches_roas edit.now }
 {
     match edit {
         Edit::PutPublic { list } => is_roas(list),
+        _ => false,
+    }
+}
+
+/// Whether there may be sessions or routers after the edit that there weren't before.
+pub(crate) fn may_bring(edit: &Edit) -> bool
+    ensures { result ≡ may_bring edit.now }
+{
+    match edit {
+        Edit::MoveStatus { .. } => true,
+        Edit::AddInterface { .. } => true,
+        Edit::SetAddress { .. } => true,
+        Edit::DropInterface { .. } => true,
+        Edit::AddRouter { .. } => true,
+        Edit::SetRouter { .. } => true,
+        Edit::DropRouter { .. } => true,
         _ => false,
     }
 }

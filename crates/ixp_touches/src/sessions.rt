@@ -98,6 +98,20 @@ fn sessions_within(
     Ok(keys)
 }
 
+/// The same, where an edit that reaches none costs nothing.
+pub(crate) fn reached_sessions(
+    alloc: Global,
+    registry: &Registry,
+    reach: &Reach,
+) -> Result<Vec<(Name, u32)>, AllocError>
+    ensures { IfOk result (λ keys. keys.items ≡ sessions_within reach.now registry.now) }
+{
+    match reach {
+        Reach::Nowhere => Ok(Vec::new(alloc)),
+        _ => sessions_within(alloc, registry, reach),
+    }
+}
+
 /// Adds those that weren't sessions before.
 fn add_new(
     before: &Registry,
