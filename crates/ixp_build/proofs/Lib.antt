@@ -4,6 +4,9 @@ pub mod Settling
 pub mod PartRows
 pub mod Wholly
 pub mod Orderly
-pub mod Pending
+pub mod AfterEdits
 pub mod OpenedTexts
 pub mod OrderedRuns
+pub mod Noting
+pub mod Steps
+pub mod Counted

@@ -13,7 +13,7 @@ use Rattle.ixp_build.specs.Keys.{part_key, texts_key}
 use Rattle.ixp_build.specs.Changes.{changed, parts_of, with_head}
 use Rattle.ixp_build.specs.Bundles.{head_in, part_in}
 
-unlike : (a b : List ℕ) → same a b ≡ false → order a b ≡ Equal → ⊥
+pub unlike : (a b : List ℕ) → same a b ≡ false → order a b ≡ Equal → ⊥
 unlike a b e o = let is = same_itself a in let at = order_equal a b o in let bad : ⊥ = cc in bad
 
 abbrev head_row : List ℕ → List ℕ → List RouterTexts → RouterTexts

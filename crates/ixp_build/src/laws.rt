@@ -1,14 +1,17 @@
 //! What bundles are worth. The functions do nothing: they are called for what they ensure.
-ghost use Rattle.std.specs.Prelude.{◌≡◌, ℕ, List, None};
+ghost use Rattle.std.specs.Prelude.{◌≡◌, ◌<◌, ◌==◌, not, ℕ, List, None, if◌then◌else◌};
 ghost use Rattle.ixp_registry.specs.declared.registry.Registry.{Registry};
 ghost use Rattle.ixp_registry.specs.Valid.{Valid};
 ghost use Rattle.ixp_edits.specs.declared.edit.Edit.{Edit};
 ghost use Rattle.ixp_edits.specs.Edits.{next, refusal, IsLawful};
 ghost use Rattle.ixp_steps.specs.Runs.{after_all};
 ghost use Rattle.ixp_touches.specs.declared.touch.Touch.{Touch};
-ghost use Rattle.ixp_touches.specs.Touched.{touch};
+ghost use Rattle.ixp_touches.specs.Touched.{lists_header, lists_session, reached, touch, with_after};
 ghost use Rattle.ixp_build.specs.declared.bundle.Bundle.{Bundle};
 ghost use Rattle.ixp_build.specs.Bundles.{AgreesBut, IsOf, full_text, text_of, untouched};
+ghost use Rattle.ixp_build.specs.declared.pending.Pending.{Pending};
+ghost use Rattle.ixp_build.specs.declared.texts.Texts.{Texts};
+ghost use Rattle.ixp_build.specs.Pendings.{Follows, InOrderOfKeys, header_count, later, later_count, listed, noted, session_count};
 ghost use Rattle.ixp_build.specs.Laws.{AllAccepted, Covers, joined, pending};
 ghost use Rattle.ixp_build.specs.Orders.{HasBounds, installed, made_from, order_of};
 
@@ -41,4 +44,27 @@ pub fn orders_have_bounds()
 /// registry's before them gives each router's text as full generation does after them.
 pub fn incremental_builds_are_full()
     ensures { (b : Bundle) (r : Registry) (es : List Edit) (upto : ℕ) (h : List ℕ) → Valid r → AllAccepted r es → IsOf b r → text_of (installed b (made_from (order_of b.built upto (after_all r es) (pending untouched r es)))) h ≡ full_text (after_all r es) h }
+{}
+
+/// After an edit each text that it touched has its count, and the others have theirs.
+pub fn noted_texts_have_the_count()
+    ensures headers { (c : ℕ) (t : Touch) (p : Pending) (h : List ℕ) → header_count (noted c t p) h ≡ (if lists_header t h then c else header_count p h) }
+    ensures sessions { (c : ℕ) (t : Touch) (p : Pending) (h : List ℕ) (n : ℕ) → session_count (noted c t p) h n ≡ (if lists_session t h n then c else session_count p h n) }
+{}
+
+/// What is listed is what has a count. The tables of what is pending keep their rows in order.
+pub fn what_is_listed_is_pending()
+    ensures headers { (p : Pending) (h : List ℕ) → InOrderOfKeys p → lists_header (listed p) h ≡ not (header_count p h == 0) }
+    ensures sessions { (p : Pending) (h : List ℕ) (n : ℕ) → InOrderOfKeys p → lists_session (listed p) h n ≡ not (session_count p h n == 0) }
+{}
+
+/// What was touched after a count stays pending where texts of that version are installed, and nothing else.
+pub fn later_touches_stay()
+    ensures headers { (upto : ℕ) (p : Pending) (h : List ℕ) → header_count (later upto p) h ≡ later_count upto (header_count p h) }
+    ensures sessions { (upto : ℕ) (p : Pending) (h : List ℕ) (n : ℕ) → InOrderOfKeys p → session_count (later upto p) h n ≡ later_count upto (session_count p h n) }
+{}
+
+/// After an accepted edit, with what it reached before it and after it noted, texts that followed the registry follow the next one.
+pub fn texts_follow_edits()
+    ensures { (t : Texts) (r : Registry) (e : Edit) (c : ℕ) → Valid r → IsLawful e → refusal r e ≡ None → 0 < c → Follows t r → Follows (record t { pending = noted c (with_after (reached r e) (next r e)) t.pending }) (next r e) }
 {}

@@ -13,13 +13,18 @@ mod laws;
 mod making;
 mod opening;
 mod orders;
+mod pending;
 mod rows;
+mod texts;
 
 pub use bundle::Bundle;
 pub use fault::InstallFault;
 pub use laws::{
     bundles_have_full_texts, edits_are_pending, incremental_builds_are_full,
-    installed_bundles_are_whole, listed_otherwise, orders_have_bounds,
+    installed_bundles_are_whole, later_touches_stay, listed_otherwise, noted_texts_have_the_count,
+    orders_have_bounds, texts_follow_edits, what_is_listed_is_pending,
 };
 pub use making::{Made, make};
 pub use orders::Order;
+pub use pending::{Pending, PendingRouter, PendingSession};
+pub use texts::Texts;

@@ -1,19 +1,20 @@
 //! Texts of route servers that follow edits: what each kind of edits touches, and that with it made anew they are those of full
 //! generation.
 ghost use Rattle.ixp_registry.specs.Valid.{Valid};
+ghost use Rattle.ixp_steps.specs.States.{ValidState};
 
 use crate::changes::{Change, edit_of};
 use crate::lists::Listed;
 use crate::samples::{LINES, Plays, STAFF, is_wanted, told};
 use crate::sending::put_request;
-use ixp_build::{Bundle, InstallFault, Made, make, orders_have_bounds};
+use ixp_build::{Bundle, InstallFault, Made, Pending, make, orders_have_bounds};
 use ixp_num::{Family, Name};
 use ixp_registry::{Action, Registry, Status, Way};
 use ixp_steps::State;
 use ixp_tables::Copied;
 use ixp_text::{put, put_number};
 use ixp_texts::text_of;
-use ixp_touches::{Touch, touched};
+use ixp_touches::{Touch, reached_by, touched};
 use std::alloc::{AllocError, Global};
 use std::process::Abort;
 use std::test::Fail;
@@ -243,4 +244,81 @@ fn texts_follow_edits(rt: HostRuntime) -> Result<(), Fail> {
     each_is_built(&rt, rt.alloc(), OF_MEMBERS)?;
     each_is_built(&rt, rt.alloc(), OF_INTERFACES)?;
     each_is_built(&rt, rt.alloc(), OF_ROUTERS)
+}
+
+/// Two edits of the staff, one after the other: what is pending after both, and after texts of the version between them are installed.
+#[derive(Clone, Copy)]
+struct Pended(Change, Change);
+
+/// Makes the staff's edit, and adds what it reached before and after.
+fn pend(
+    state: &mut State,
+    pending: &mut Pending,
+    number: u64,
+    change: Change,
+    out: &mut Vec<u8>,
+) -> Result<(), AllocError>
+    requires { ValidState state.old }
+    ensures { ValidState state.new }
+{
+    let alloc = *out.allocator();
+    let Some(edit) = edit_of(alloc, change) else {
+        return put(out, b"no edit");
+    };
+    let reached = reached_by(alloc, &state.registry, &edit)?;
+    put_request(state, (STAFF, number, change), out)?;
+    put(out, b"\n")?;
+    let touch = reached.with_after(alloc, &state.registry)?;
+    pending.note(alloc, &touch, number)
+}
+
+impl Plays for Pended {
+    fn play(&self, state: &mut State, out: &mut Vec<u8>) -> Result<(), AllocError> {
+        let alloc = *out.allocator();
+        let mut pending = Pending::new(alloc);
+        pend(state, &mut pending, 1, self.0, out)?;
+        pend(state, &mut pending, 2, self.1, out)?;
+        put_touch(&pending.listed(alloc)?, out)?;
+        put(out, b"later\n")?;
+        let later = pending.later(alloc, 1)?;
+        put_touch(&later.listed(alloc)?, out)
+    }
+}
+
+/// Two edits, and what is told of them.
+const PENDED: &[(Change, Change, &str)] = &[
+    (
+        Change::SetRules(1, Some((Way::Advertise, None, "*", Action::AsIs)), None),
+        Change::PutOrigins(2, Family::V4, "65002"),
+        "ok\nok\npart rs1 1\npart rs1 2\npart rs2 1\npart rs2 2\nlater\npart rs1 2\npart rs2 2\n",
+    ),
+    (
+        Change::PutPublic(Listed::Roas, ""),
+        Change::SetRouter("rs1", (65501, 8, 24, "-", 0)),
+        "ok\nok\nhead rs1\npart rs1 1\npart rs1 2\nroas\nlater\nhead rs1\npart rs1 1\npart rs1 2\n",
+    ),
+    (
+        Change::AddRouter("rs9", 1, Family::V4, "10.1.0.252", (65500, 8, 24, "-", 0)),
+        Change::SetRules(1, Some((Way::Advertise, None, "*", Action::AsIs)), None),
+        "ok\nok\nhead rs9\npart rs1 1\npart rs2 1\npart rs9 1\npart rs9 2\nlater\npart rs1 1\npart rs2 1\npart rs9 1\n",
+    ),
+    (
+        Change::MoveStatus(1, Status::Suspended),
+        Change::MoveStatus(1, Status::Connected),
+        "ok\nok\npart rs1 1\npart rs2 1\nlater\npart rs1 1\npart rs2 1\n",
+    ),
+    (
+        Change::PutPublic(Listed::Bogons, ""),
+        Change::DropRouter("rs3"),
+        "ok\nok\nhead rs1\nhead rs2\nhead rs3\nlater\nhead rs3\n",
+    ),
+];
+
+#[test]
+fn pending_texts_have_counts(rt: HostRuntime) -> Result<(), Fail> {
+    for &(first, second, wanted) in PENDED {
+        let have = told(rt.alloc(), LINES.as_bytes(), &Pended(first, second));
+        is_wanted(&rt, have, wanted.as_bytes(), wanted);
+    }
+    Ok(())
 }

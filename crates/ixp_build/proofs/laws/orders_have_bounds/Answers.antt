@@ -1,5 +1,5 @@
 use Rattle.ixp_generate.proofs.Bounds.{all_fit}
-use Rattle.ixp_build.proofs.Pending.{orders_bounded}
+use Rattle.ixp_build.proofs.AfterEdits.{orders_bounded}
 use Rattle.ixp_build.proofs.laws.orders_have_bounds.Goals as goal
 
 pub returns : goal.returns
