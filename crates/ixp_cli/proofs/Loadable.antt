@@ -1,5 +1,5 @@
 -- Of a store that can be loaded neither damage nor an older version is told.
-use Rattle.std.proofs.Common.{◌≡◌, ◌⊎◌, inl, inr, ℕ, List, Option, Some, None, Err, refl, sym, ◌∙◌, subst, arith}
+use Rattle.std.proofs.Common.{◌≡◌, inl, inr, ℕ, List, Option, Some, None, Err, refl, sym, ◌∙◌, subst, arith}
 use Rattle.ixp_link.specs.declared.ends.LinkEnd.{LinkEnd}
 use Rattle.ixp_link.specs.declared.ends.LinkEnd.TheVariants as link
 use Rattle.ixp_load.specs.Answers.{IsLoaded, LoadsAll, empty_registry}

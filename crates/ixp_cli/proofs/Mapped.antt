@@ -1,5 +1,5 @@
 -- What is done on a link, by a desk that is seen as something else: each turn of the one is a turn of the other.
-use Rattle.std.proofs.Common.{◌≡◌, ◌⊎◌, inl, inr, ℕ, ◌<◌, Result, Ok, Err, Option, List, [], ◌∷◌, length, ap}
+use Rattle.std.proofs.Common.{inl, inr, ℕ, Result, Ok, Err, Option, List, [], ◌∷◌, length, ap}
 use Rattle.ixp_http.specs.Messages.{Reading, message, closed, cut, bad}
 use Rattle.ixp_http.specs.declared.request.Request.{Request}
 use Rattle.ixp_json.specs.declared.pointer.CallFault.{CallFault}

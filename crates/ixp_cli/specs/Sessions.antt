@@ -1,7 +1,5 @@
 -- How `dump` and `session` end.
-use Rattle.std.specs.Prelude.{◌≡◌, ◌≤◌, ◌⊎◌, ℕ, ◌==◌, List, [], ◌∷◌, ◌++◌, codes, decimal, if◌then◌else◌}
-use Rattle.ixp_io.specs.Faults.{Rose}
-use Rattle.ixp_io.specs.Told.{WhereTold}
+use Rattle.std.specs.Prelude.{◌≡◌, ◌⊎◌, ℕ, ◌==◌, List, ◌∷◌, ◌++◌, codes, decimal, if◌then◌else◌}
 use Rattle.ixp_io.specs.declared.keeper.RowName.{RowName}
 use Rattle.ixp_lines.specs.Fields.{free_text}
 use Rattle.ixp_link.specs.declared.ends.LinkEnd.{LinkEnd}

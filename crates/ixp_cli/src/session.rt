@@ -71,7 +71,7 @@ pub(crate) fn run_session<S: Source, K: Sink, P: Keeper, C: Clock>(
         Ok(state) => state,
         Err(fault) => return unloaded(alloc, fault),
     };
-    let mut desk = PlainDesk { state };
+    let mut desk = PlainDesk::new(state);
     let served = serve(alloc, &mut desk, keeper, clock, input, output);
     end_of(served)
 }

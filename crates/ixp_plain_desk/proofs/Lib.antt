@@ -1,3 +1,4 @@
 pub mod Seconds
 pub mod StoredEdits
-pub mod Texts
+pub mod Configs
+pub mod Followed

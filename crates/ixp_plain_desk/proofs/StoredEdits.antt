@@ -1,6 +1,5 @@
 -- An edit that is stored.
-use Rattle.std.proofs.Common.{◌≡◌, ◌⊎◌, inl, inr, List, Option, Some, None, refl, sym, ap, subst, ◌∙◌}
-use Rattle.std.specs.FinMap.{empty}
+use Rattle.std.proofs.Common.{◌≡◌, inl, inr, List, Option, Some, None, sym, ap, subst, ◌∙◌}
 use Rattle.ixp_io.specs.declared.keeper.Change.{Change}
 use Rattle.ixp_io.specs.Tables.{Table, changed}
 use Rattle.ixp_io.specs.Told.{Told, WhereTold}
@@ -9,7 +8,7 @@ use Rattle.ixp_opening.specs.Openings.{first_state}
 use Rattle.ixp_steps.specs.declared.state.Entry.{Entry}
 use Rattle.ixp_steps.specs.declared.state.State.{State}
 use Rattle.ixp_steps.specs.States.{ValidState}
-use Rattle.ixp_steps.specs.Steps.{Verdict, Accepted, step, verdict}
+use Rattle.ixp_steps.specs.Steps.{Accepted, step, verdict}
 use Rattle.ixp_steps.proofs.Staying.{still_a_state}
 use Rattle.ixp_machine.specs.declared.preparing.Prepared.{Prepared}
 use Rattle.ixp_machine.specs.Prepared.{prepared}

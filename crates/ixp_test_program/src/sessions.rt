@@ -294,3 +294,36 @@ fn stores_of_no_registry_are_told(rt: HostRuntime) -> Result<(), Fail> {
     assert_eq!(rt; found.as_slice(), b":@@ixpm: old store 1^".as_slice());
     Ok(())
 }
+
+/// A session in which configurations are asked for before and after edits, at the end one of a router that is gone.
+const CONFIGS: &[&str] = &[
+    "GET /routers/rs1/config|staff00000000001||",
+    "PUT /members/1/rules|staff00000000001|1|[{'way':'advertise','peer':65002,'prefix':null,'action':'stop'}]",
+    "DELETE /interfaces/5|staff00000000001|2|",
+    "POST /routers|staff00000000001|3|{'handle':'rs9','vlan':1,'family':4,'address':'10.1.0.253','asn':65500,'id':'10.1.0.253','low':8,'high':24,'rpki':false}",
+    "GET /routers/rs1/config?seen=3|staff00000000001||",
+    "GET /routers/rs9/config|staff00000000001||",
+    "PUT /members/1/status|staff00000000001|4|{'to':'suspended'}",
+    "GET /routers/rs1/config|staff00000000001||",
+    "DELETE /routers/rs9|staff00000000001|5|",
+    "GET /routers/rs1/config?seen=5|staff00000000001||",
+    "GET /routers/rs9/config|staff00000000001||",
+];
+
+#[test]
+fn configurations_follow_edits(rt: HostRuntime) -> Result<(), Fail> {
+    let alloc = rt.alloc();
+    let mut keeper = exchange(alloc)?;
+    let mut input = Vec::new(alloc);
+    for request in CONFIGS {
+        put_request(alloc, &mut input, request)?;
+    }
+    let found = told(alloc, input, &mut keeper)?;
+    assert!(rt; found.as_slice().starts_with(b"0@HTTP/1.1 200 OK"));
+    assert!(rt;
+        found
+            .as_slice()
+            .ends_with(b"{\"detail\":\"\",\"rule\":\"Y3\"}@")
+    );
+    Ok(())
+}

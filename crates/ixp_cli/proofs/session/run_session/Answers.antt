@@ -1,4 +1,8 @@
-use Rattle.std.proofs.Common.{inl, inr, refl}
+use Rattle.std.proofs.Common.{inl, inr, refl, sym, subst}
+use Rattle.ixp_io.specs.Told.{WhereTold}
+use Rattle.ixp_load.specs.Answers.{IsStoreOf}
+use Rattle.ixp_steps.specs.declared.state.State.{State}
+use Rattle.ixp_steps.specs.States.{ValidState}
 use Rattle.ixp_cli.specs.Runs.{TurnOf}
 use Rattle.ixp_cli.proofs.Loading.{not_loaded}
 use Rattle.ixp_cli.proofs.Mapped.{serves}
@@ -9,13 +13,16 @@ returns-in-Err g c = inl (not_loaded _ _ _ _ c.in-Err.fault _ c.in-Err.ensures.c
 
 pub returns : goal.returns
 returns g c = inr (record {
-  before = c.in-Ok.state;
-  holds = (c.in-Ok.ensures.valid, c.in-Ok.ensures.state);
+  before = c.new-desk.result.state;
+  holds = (
+    subst ValidState (sym c.new-desk.ensures.state) c.in-Ok.ensures.valid,
+    subst (λ (s : State). WhereTold (g.P.Keeper.table c.args.keeper.now) (IsStoreOf s)) (sym c.new-desk.ensures.state) c.in-Ok.ensures.state,
+  );
   faults = g.P.Keeper.faults c.load.new.keeper;
   more = c.load.ensures.counts;
   after = c.serve-served.new.desk.state;
   served = c.serve-served.result;
   serves = serves (λ d. (d.0.state, g.P.Keeper.faults d.1, g.C.Clock.given d.2)) _ TurnOf (λ d call o e t. t) _ _ _ _ _ _ _ _ c.serve-served.ensures.serves;
-  still = c.serve-served.ensures.fits;
+  still = (c.serve-served.ensures.fits.0, c.serve-served.ensures.fits.1);
   is_end = c.end_of.ensures;
 })
