@@ -4,6 +4,7 @@ pub mod Families
 pub mod Filling
 pub mod Found
 pub mod Fronts
+pub mod Grouping
 pub mod Halves
 pub mod Least
 pub mod Matching

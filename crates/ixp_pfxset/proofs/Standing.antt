@@ -1,15 +1,15 @@
 -- Prefixes in order: what covers one stands before it, and covers all that stand between both.
-use Rattle.std.proofs.Common.{◌≡◌, ◌≤◌, ◌<◌, ◌+◌, ◌-◌, ◌*◌, ◌/◌, ◌%◌, ◌^◌, ◌⊎◌, inl, inr, ℕ, zero, suc, Bool, true, false, cond, List, [], ◌∷◌, ◌++◌, ◌&&◌, nat_lt, length, take, get_or, Option, Some, None, refl, sym, ap, ◌∙◌, subst, arith}
+use Rattle.std.proofs.Common.{◌≡◌, ◌≤◌, ◌<◌, ◌+◌, ◌-◌, ◌*◌, ◌/◌, ◌%◌, ◌^◌, ◌⊎◌, inl, inr, ℕ, zero, suc, Bool, true, false, List, ◌&&◌, nat_lt, length, drop, get_or, Option, Some, None, refl, sym, ap, ◌∙◌, subst, arith}
 use Rattle.std.specs.declared.cmp.Ordering.{Ordering}
 use Rattle.std.specs.declared.cmp.Ordering.TheVariants.{Less, Equal, Greater}
 use Rattle.std.specs.Ordering.{nat_cmp, ordering_then, is_lt}
 use Rattle.std.specs.Cmp.{ranked}
-use Rattle.std.specs.List.{Contains, filter}
+use Rattle.std.specs.List.{Contains}
 use Rattle.std.specs.List.Sorted.{IsSorted, IsSortedBy}
 use Rattle.std.proofs.Math.Nat.{mul-mod_left}
 use Rattle.std.proofs.lemmas.Bool.{and_parts, and_from, ltb-true, lt-ltb, cases_lt, false_from_ne_true, both_ways}
 use Rattle.std.proofs.lemmas.Cmp.{nat_list_cmp_total}
-use Rattle.std.proofs.lemmas.List.{get_or_default}
+use Rattle.std.proofs.lemmas.List.{get_or_default, get_or-drop}
 use Rattle.std.proofs.lemmas.List.Sorted.{ranks_by, sorted_far}
 use Rattle.std.proofs.lemmas.Nat.{div-add-mod', mod_below, pow_pos, pow-add, le-div, div_below}
 use Rattle.ixp_num.specs.AddressForms.{version_of}
@@ -78,15 +78,15 @@ inside b l m v x y short none_v none_x bits low high first = (by (cases_lt m l),
 abbrev pub IsUpto : Prefix → Prefix → Type 0
 IsUpto p q = ((p.family ≡ q.family) × (p.value ≤ q.value) × (p.value ≡ q.value → p.len ≤ q.len)) ⊎ ((p.family ≡ V4) × (q.family ≡ V6))
 
-then_not : (o r : Ordering) → is_lt (ordering_then o r) ≡ false → (o ≡ Greater) ⊎ ((o ≡ Equal) × (is_lt r ≡ false))
+pub then_not : (o r : Ordering) → is_lt (ordering_then o r) ≡ false → (o ≡ Greater) ⊎ ((o ≡ Equal) × (is_lt r ≡ false))
 then_not Less r e = absurd (let h : ⊥ = cc in h)
 then_not Equal r e = inr (refl, e)
 then_not Greater r e = inl refl
 
-greater : (x y : ℕ) → nat_cmp x y ≡ Greater → y < x
+pub greater : (x y : ℕ) → nat_cmp x y ≡ Greater → y < x
 greater x y e = ranked x y Greater (sym e)
 
-equal_to : (x y : ℕ) → nat_cmp x y ≡ Equal → x ≡ y
+pub equal_to : (x y : ℕ) → nat_cmp x y ≡ Equal → x ≡ y
 equal_to x y e = ranked x y Equal (sym e)
 
 families_before : (f g : Family) → version_of f < version_of g → (f ≡ V4) × (g ≡ V6)
@@ -154,6 +154,12 @@ no_cover_after p q (inl is) less over =
     let le = is.2 same in
     omega arith
 no_cover_after p q (inr is) less over = let same : V6 ≡ V4 = sym is.1 ∙ ((covers_says q p over).family ∙ is.0) in let bad : ⊥ = cc in bad
+
+-- a list that is the same from a place on has the same row there
+pub still_there : (xs ys : List Prefix) (i : ℕ) (r : Prefix) → drop i ys ≡ drop i xs → r ≡ get_or ys i r → get_or xs i r ≡ r
+still_there xs ys i r rest here =
+    let none : i + 0 ≡ i = omega arith in
+    ap (λ k. get_or xs k r) (sym none) ∙ (sym (get_or-drop i xs 0 r) ∙ (ap (λ zs. get_or zs 0 r) (sym rest) ∙ (get_or-drop i ys 0 r ∙ (ap (λ k. get_or ys k r) none ∙ sym here))))
 
 -- the last prefix that was taken
 
@@ -250,17 +256,3 @@ module _ (list : List Prefix) (sorted : IsSorted (prefix_ord.ghosts).cmp list) (
     by j d from to (inr ge) =
         let same : i ≡ j = omega arith in
         subst (λ n. is_within list (get_or list n d) ≡ true) same (subst (λ (y : Prefix). is_within list y ≡ true) (sym (here d)) (under_back (Some x) (k, low, is_x, kept, between_) e))
-
--- one more row of a filtered list
-module _ {X : Type 0} (test : X → Bool) where
-  onto : (b : Bool) (y : X) (new old end : List X) → new ≡ old ++ end → cond b (y ∷ new) new ≡ cond b (y ∷ old) old ++ end
-  onto true y new old end e = ap (λ zs. y ∷ zs) e
-  onto false y new old end e = e
-
-  more : (xs : List X) (i : ℕ) (x : X) → i < length xs → get_or xs i x ≡ x → filter test (take (suc i) xs) ≡ filter test (take i xs) ++ cond (test x) (x ∷ []) []
-  more [] i x less e = absurd (omega arith)
-  more (y ∷ ys) zero x less e = ap (λ z. cond (test z) (z ∷ []) []) e
-  more (y ∷ ys) (suc i) x less e = onto (test y) y (filter test (take (suc i) ys)) (filter test (take i ys)) (cond (test x) (x ∷ []) []) (more ys i x (omega arith) e)
-
-  pub filter_more : (xs : List X) (i : ℕ) (x : X) → i < length xs → get_or xs i x ≡ x → filter test (take (i + 1) xs) ≡ filter test (take i xs) ++ cond (test x) (x ∷ []) []
-  filter_more xs i x less e = let one : i + 1 ≡ suc i = omega arith in ap (λ n. filter test (take n xs)) one ∙ more xs i x less e

@@ -1,5 +1,5 @@
 pub mod BlockList
 pub mod Blocks
-pub mod Lengths
+pub mod Groups
 pub mod Plain
 pub mod Trie

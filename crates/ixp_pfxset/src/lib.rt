@@ -7,13 +7,14 @@
 
 mod derived;
 mod full;
+mod groups;
 mod laws;
-mod lengths;
 mod mode;
 mod ordered;
 mod plain;
 mod rows;
 mod sets;
+mod tops;
 mod trie;
 
 pub use laws::{

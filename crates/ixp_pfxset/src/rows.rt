@@ -21,14 +21,17 @@ pub(crate) fn has_prefix(list: &[Prefix], q: &Prefix) -> bool
     has(list, q)
 }
 
-/// The rows that aren't longer than the bound.
+/// The rows that aren't longer than the bound. Room is taken once.
 fn short_rows(alloc: Global, rows: &[Prefix], high: u8) -> Result<Vec<Prefix>, AllocError>
     ensures { IfOk result (λ short. short.items ≡ filter (λ r. nat_le r.len high) rows.now) }
 {
-    rows.iter()
-        .copied()
-        .filter(|r| r.len <= high)
-        .collect(alloc)
+    let mut short = Vec::with_capacity(alloc, rows.len())?;
+    for r in rows {
+        if r.len <= high {
+            short.push(*r)?;
+        }
+    }
+    Ok(short)
 }
 
 /// The same, sorted.
@@ -51,21 +54,23 @@ fn is_under(last: &Option<Prefix>, q: &Prefix) -> bool
     }
 }
 
-/// The prefixes of the sorted list that no shorter one covers, in the same order. What covers a prefix stands before it, and all
-/// between both lie in it; so the last one that was taken is the one to ask.
-fn outermost(alloc: Global, list: &[Prefix]) -> Result<Vec<Prefix>, AllocError>
-    requires { IsSorted ⟦<Prefix as Ord>⟧.cmp list.now }
-    ensures { IfOk result (λ outer. outer.items ≡ filter (λ r. not (is_within list.now r)) list.now) }
+/// Leaves the prefixes of the sorted list that no shorter one covers, in the same order. What covers a prefix stands before it, and
+/// all between both lie in it; so the last one that was left is the one to ask.
+fn leave_outermost(list: &mut Vec<Prefix>)
+    requires { IsSorted ⟦<Prefix as Ord>⟧.cmp list.old.items }
+    ensures { list.new.items ≡ filter (λ r. not (is_within list.old.items r)) list.old.items }
 {
-    let mut outer = Vec::new(alloc);
+    let mut left = 0;
     let mut last = None;
-    for r in list {
-        if !is_under(&last, r) {
-            outer.push(*r)?;
-            last = Some(*r);
+    'each: for i in 0..list.len() {
+        let r = list[i];
+        if !is_under(&last, &r) {
+            list[left] = r;
+            left += 1;
+            last = Some(r);
         }
     }
-    Ok(outer)
+    list.truncate(left);
 }
 
 /// The new prefixes, all of which are rows, sorted.
@@ -78,13 +83,13 @@ pub(crate) fn new_rows(
     ensures sorted { IfOk result (λ list. IsSorted ⟦<Prefix as Ord>⟧.cmp list.items) }
     ensures members { IfOk result (λ list. (q : Prefix) → Contains list.items q ↔ IsNew rows.now mode high q) }
 {
-    let short = sorted_rows(alloc, rows, high)?;
+    let mut list = sorted_rows(alloc, rows, high)?;
     match mode {
-        Mode::Exact => Ok(short),
+        Mode::Exact => Ok(list),
         Mode::More => {
             left_in_order::<Prefix>();
-            let outer = outermost(alloc, &short)?;
-            Ok(outer)
+            leave_outermost(&mut list);
+            Ok(list)
         }
     }
 }

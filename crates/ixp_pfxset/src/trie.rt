@@ -2,30 +2,30 @@
 //!
 //! A node of the trie is a prefix with the rows that lie in it, which are a part of the sorted rows: so it takes no
 //! memory, and the work is that of a few steps for each row and each of its bits.
-ghost use Rattle.std.specs.Prelude.{ℕ, List, ◌≡◌, ◌≤◌, ◌<◌, ◌↔◌, ◌⊎◌, ◌++◌, ◌&&◌, ◌==◌, true, IfOk, OnOk, IsTrue};
+ghost use Rattle.std.specs.Prelude.{[], ◌≡◌, ◌≤◌, ◌<◌, ◌↔◌, ◌⊎◌, ◌++◌, ◌&&◌, ◌==◌, true, IfOk, OnOk, IsTrue};
 ghost use Rattle.std.specs.List.{All, Contains, filter};
-ghost use Rattle.std.specs.List.Sorted.{IsNonDecreasingBy, IsPermutation};
+ghost use Rattle.std.specs.List.Sorted.{IsNonDecreasingBy};
 ghost use Rattle.ixp_num.specs.Families.{bits_of, same_family};
-ghost use Rattle.ixp_num.specs.declared.family.Family.TheVariants.{V4, V6};
 ghost use Rattle.ixp_num.specs.declared.pattern.Pattern.{Pattern};
 ghost use Rattle.ixp_num.specs.declared.prefix.Prefix.{Prefix};
 ghost use Rattle.ixp_pfxset.specs.BlockList.{blocks};
 ghost use Rattle.ixp_pfxset.specs.Blocks.{IsNew};
-ghost use Rattle.ixp_pfxset.specs.Lengths.{AreRows, rows_of};
+ghost use Rattle.ixp_pfxset.specs.Groups.{rank};
 ghost use Rattle.ixp_pfxset.specs.Plain.{Fills};
 ghost use Rattle.ixp_pfxset.specs.Trie.{AllWithin, IsMerged, IsMergedBelow, IsOfFamily};
 
 use crate::full::{first_half, second_half};
-use crate::lengths::ByLength;
+use crate::groups::{in_groups, rows_of};
 use crate::mode::Mode;
 use crate::ordered::in_order;
 use crate::plain::upper_bound;
 use crate::rows::new_rows;
+use crate::tops::tops_of_family;
 use ixp_num::{Family, Pattern, Prefix};
 use std::alloc::{AllocError, Global};
 
 /// The rows whose numbers are below `middle`, and the others.
-fn parted(list: &[Prefix], middle: u128) -> (&[Prefix], &[Prefix])
+pub(crate) fn parted(list: &[Prefix], middle: u128) -> (&[Prefix], &[Prefix])
     requires { IsNonDecreasingBy (λ r. r.value) list.now }
     ensures both { list.now ≡ result.0.now ++ result.1.now }
     ensures below { All (λ r. r.value < middle) result.0.now }
@@ -105,17 +105,8 @@ fn merge(
     Ok(low_full & upper_full)
 }
 
-/// The rows by their numbers.
-fn by_value(mut rows: Vec<Prefix>) -> Vec<Prefix>
-    ensures sorted { IsNonDecreasingBy (λ r. r.value) result.items }
-    ensures rows { IsPermutation rows.items result.items }
-{
-    rows.sort_unstable_by_key(|r| r.value);
-    rows
-}
-
 /// The prefix of length 0.
-fn whole(family: Family) -> Prefix
+pub(crate) fn whole(family: Family) -> Prefix
     ensures family { result.family ≡ family }
     ensures len { result.len ≡ 0 }
 {
@@ -129,58 +120,66 @@ fn whole(family: Family) -> Prefix
 /// Adds the patterns for the prefixes of a family and a length, of which these are the rows.
 fn merge_length(
     out: &mut Vec<Pattern>,
-    rows: Vec<Prefix>,
+    rows: &[Prefix],
     family: Family,
     l: u8,
     high: u8,
 ) -> Result<(), AllocError>
     requires short { l ≤ bits_of family }
-    requires alike { filter (λ r. same_family r.family family && r.len == l) rows.items ≡ rows.items }
-    ensures { OnOk result ((t : Pattern) → Contains out.new.items t ↔ (Contains out.old.items t ⊎ ((t.prefix.family ≡ family) × IsMerged rows.items l high t))) }
+    requires alike { filter (λ r. same_family r.family family && r.len == l) rows.now ≡ rows.now }
+    requires sorted { IsNonDecreasingBy (λ r. r.value) rows.now }
+    ensures { OnOk result ((t : Pattern) → Contains out.new.items t ↔ (Contains out.old.items t ⊎ ((t.prefix.family ≡ family) × IsMerged rows.now l high t))) }
 {
-    let ordered = by_value(rows);
     let whole = whole(family);
-    let full = merge(out, &ordered, l, high, &whole)?;
+    let full = merge(out, rows, l, high, &whole)?;
     push_if(out, full, &whole, l, high)?;
     Ok(())
 }
 
-/// Adds the patterns for the prefixes of a family, from its rows.
+/// Adds the patterns for the prefixes of a family.
 fn merge_family(
     out: &mut Vec<Pattern>,
-    alloc: Global,
-    mut lengths: ByLength,
+    list: &[Prefix],
     mode: Mode,
     high: u8,
     family: Family,
 ) -> Result<(), AllocError>
-    requires { (m : ℕ) → filter (λ r. same_family r.family family && r.len == m) (rows_of lengths m) ≡ rows_of lengths m }
-    ensures { (list : List Prefix) → AreRows list family lengths → OnOk result ((t : Pattern) → Contains out.new.items t ↔ (Contains out.old.items t ⊎ IsOfFamily list mode high family t)) }
+    requires { IsNonDecreasingBy rank list.now }
+    ensures { OnOk result ((t : Pattern) → Contains out.new.items t ↔ (Contains out.old.items t ⊎ IsOfFamily list.now mode high family t)) }
 {
     for l in 0..=high.min(family.bits()) {
-        let rows = lengths.take(alloc, l);
+        let rows = rows_of(list, family, l);
         merge_length(out, rows, family, l, upper_bound(mode, high, l))?;
     }
     Ok(())
 }
 
-/// The new prefixes, by family and length.
-fn new_by_length(
+/// The new prefixes by family and length.
+fn new_in_groups(
     alloc: Global,
     rows: &[Prefix],
     mode: Mode,
     high: u8,
-) -> Result<(ByLength, ByLength), AllocError>
-    ensures { IfOk result (λ x. (list : List Prefix) × ((q : Prefix) → Contains list q ↔ IsNew rows.now mode high q) × AreRows list V4 x.0 × AreRows list V6 x.1) }
+) -> Result<Vec<Prefix>, AllocError>
+    ensures sorted { IfOk result (λ list. IsNonDecreasingBy rank list.items) }
+    ensures members { IfOk result (λ list. (q : Prefix) → Contains list.items q ↔ IsNew rows.now mode high q) }
 {
     let list = new_rows(alloc, rows, mode, high)?;
-    let four = ByLength::of_family(alloc, &list, Family::V4)?;
-    let six = ByLength::of_family(alloc, &list, Family::V6)?;
-    Ok((four, six))
+    Ok(in_groups(list))
+}
+
+/// An empty list with room for the merged set of these rows alone.
+fn room_for(alloc: Global, list: &[Prefix]) -> Result<Vec<Pattern>, AllocError>
+    requires { IsNonDecreasingBy rank list.now }
+    ensures { IfOk result (λ ts. ts.items ≡ []) }
+{
+    let four = tops_of_family(list, Family::V4);
+    let six = tops_of_family(list, Family::V6);
+    Vec::with_capacity(alloc, four.saturating_add(six))
 }
 
 /// The merged set of the rows, in order: what they allow of lengths up to `high`, as `blocks_plain` gives it. The
-/// rows may be in any order. `AllocError` for want of memory.
+/// rows may be in any order. Beside the set it holds one copy of the rows. `AllocError` for want of memory.
 pub fn blocks_trie(
     alloc: Global,
     rows: &[Prefix],
@@ -189,9 +188,9 @@ pub fn blocks_trie(
 ) -> Result<Vec<Pattern>, AllocError>
     ensures { IfOk result (λ ts. ts.items ≡ blocks rows.now mode high) }
 {
-    let (four, six) = new_by_length(alloc, rows, mode, high)?;
-    let mut blocks = Vec::new(alloc);
-    merge_family(&mut blocks, alloc, four, mode, high, Family::V4)?;
-    merge_family(&mut blocks, alloc, six, mode, high, Family::V6)?;
+    let list = new_in_groups(alloc, rows, mode, high)?;
+    let mut blocks = room_for(alloc, &list)?;
+    merge_family(&mut blocks, &list, mode, high, Family::V4)?;
+    merge_family(&mut blocks, &list, mode, high, Family::V6)?;
     Ok(in_order(blocks))
 }

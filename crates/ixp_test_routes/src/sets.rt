@@ -143,28 +143,30 @@ fn neighbours_are_merged(rt: HostRuntime) {
     }
 }
 
-/// Nets, and whether the set of two rows matches them.
-const NETS: &[(&str, bool)] = &[
-    ("10.0.0.0/8", false),
-    ("10.0.0.0/9", true),
-    ("10.64.0.0/10", true),
-    ("10.1.2.0/25", false),
-    ("11.0.0.0/9", false),
-    ("a00::/9", false),
+/// Nets, and whether the set of two rows matches them, in `Exact` and in `More`.
+const NETS: &[(&str, bool, bool)] = &[
+    ("10.0.0.0/8", false, false),
+    ("10.0.0.0/9", true, true),
+    ("10.128.0.0/9", true, true),
+    ("10.64.0.0/10", false, true),
+    ("10.1.2.0/25", false, false),
+    ("11.0.0.0/9", false, false),
+    ("a00::/9", false, false),
 ];
 
 /// Whether the merged set of two rows matches the net.
-fn is_matched(alloc: Global, net: &str) -> Option<bool> {
+fn is_matched(alloc: Global, net: &str, mode: Mode) -> Option<bool> {
     let rows = rows_of(alloc, "10.0.0.0/9 10.128.0.0/9")?;
     let net = read_prefix(net.as_bytes()).ok()?;
-    let set = blocks_plain(alloc, &rows, Mode::More, 24).ok()?;
+    let set = blocks_plain(alloc, &rows, mode, 24).ok()?;
     Some(matches(&set, &net))
 }
 
 #[test]
 fn what_a_merged_set_matches(rt: HostRuntime) {
-    for &(net, want) in NETS {
-        assert!(rt; is_matched(rt.alloc(), net) == Some(want), "{net}");
+    for &(net, exact, more) in NETS {
+        assert!(rt; is_matched(rt.alloc(), net, Mode::Exact) == Some(exact), "{net}");
+        assert!(rt; is_matched(rt.alloc(), net, Mode::More) == Some(more), "{net}");
     }
 }
 
