@@ -1,8 +1,8 @@
 -- What covers a net covers all that stands between both.
-use Rattle.std.proofs.Common.{◌≡◌, ◌≤◌, ◌<◌, ◌+◌, ◌-◌, ◌*◌, ◌/◌, ◌%◌, ◌^◌, ◌⊎◌, inl, inr, ℕ, true, cond, ◌&&◌, ◌==◌, nat_le, refl, sym, ap, ◌∙◌, subst, arith, eq-eqb}
+use Rattle.std.proofs.Common.{◌≡◌, ◌≤◌, ◌<◌, ◌+◌, ◌-◌, ◌*◌, ◌/◌, ◌%◌, ◌^◌, ◌⊎◌, inl, inr, ℕ, true, false, cond, ◌&&◌, ◌==◌, nat_le, refl, sym, ap, ◌∙◌, subst, arith, eq-eqb}
 use Rattle.std.specs.declared.cmp.Ordering.{Ordering}
 use Rattle.std.specs.declared.cmp.Ordering.TheVariants.{Less, Equal, Greater}
-use Rattle.std.specs.Ordering.{nat_cmp, ordering_then}
+use Rattle.std.specs.Ordering.{nat_cmp, ordering_then, is_lt}
 use Rattle.std.specs.Cmp.{ranked}
 use Rattle.std.proofs.Math.Nat.{mul-mod_left}
 use Rattle.std.proofs.lemmas.Bool.{and_parts, and_from, eqb-true, leb-true, le-leb, cases_lt}
@@ -90,13 +90,13 @@ upto_says f g v w same upto =
 abbrev pub IsBefore : Prefix → Prefix → Type 0
 IsBefore p q = ((p.family ≡ q.family) × (p.value ≤ q.value) × (p.value ≡ q.value → p.len ≤ q.len)) ⊎ ((p.family ≡ V4) × (q.family ≡ V6))
 
-then_less : (o p : Ordering) → ordering_then o p ≡ Less → (o ≡ Less) ⊎ ((o ≡ Equal) × (p ≡ Less))
-then_less Less p e = inl refl
-then_less Equal p e = inr (refl, e)
-then_less Greater p e = absurd (let h : ⊥ = cc in h)
+then_not : (o p : Ordering) → is_lt (ordering_then o p) ≡ false → (o ≡ Greater) ⊎ ((o ≡ Equal) × (is_lt p ≡ false))
+then_not Less p e = absurd (let h : ⊥ = cc in h)
+then_not Equal p e = inr (refl, e)
+then_not Greater p e = inl refl
 
-less_than : (x y : ℕ) → nat_cmp x y ≡ Less → x < y
-less_than x y e = ranked x y Less (sym e)
+greater : (x y : ℕ) → nat_cmp x y ≡ Greater → y < x
+greater x y e = ranked x y Greater (sym e)
 
 equal_to : (x y : ℕ) → nat_cmp x y ≡ Equal → x ≡ y
 equal_to x y e = ranked x y Equal (sym e)
@@ -113,31 +113,31 @@ families_equal V4 V6 e = absurd (let h : ⊥ = omega arith in h)
 families_equal V6 V4 e = absurd (let h : ⊥ = omega arith in h)
 families_equal V6 V6 e = refl
 
-lengths : (m n : ℕ) (rest : Ordering) → ordering_then (nat_cmp m n) rest ≡ Less → m ≤ n
-lengths m n rest e = by (then_less (nat_cmp m n) rest e) where
-  by : (nat_cmp m n ≡ Less) ⊎ ((nat_cmp m n ≡ Equal) × (rest ≡ Less)) → m ≤ n
-  by (inl less) = let lt = less_than m n less in omega arith
-  by (inr equal) = let same = equal_to m n equal.0 in omega arith
+lengths : (m n : ℕ) (rest : Ordering) → is_lt (ordering_then (nat_cmp n m) rest) ≡ false → m ≤ n
+lengths m n rest e = by (then_not (nat_cmp n m) rest e) where
+  by : (nat_cmp n m ≡ Greater) ⊎ ((nat_cmp n m ≡ Equal) × (is_lt rest ≡ false)) → m ≤ n
+  by (inl more) = let lt = greater n m more in omega arith
+  by (inr equal) = let same = equal_to n m equal.0 in omega arith
 
-values : (v w m n : ℕ) (rest : Ordering) → ordering_then (nat_cmp v w) (ordering_then (nat_cmp m n) rest) ≡ Less → (v ≤ w) × (v ≡ w → m ≤ n)
-values v w m n rest e = by (then_less (nat_cmp v w) (ordering_then (nat_cmp m n) rest) e) where
-  by : (nat_cmp v w ≡ Less) ⊎ ((nat_cmp v w ≡ Equal) × (ordering_then (nat_cmp m n) rest ≡ Less)) → (v ≤ w) × (v ≡ w → m ≤ n)
-  by (inl less) = let lt = less_than v w less in (omega arith, λ same. absurd (let h : ⊥ = omega arith in h))
-  by (inr equal) = let same = equal_to v w equal.0 in (omega arith, λ x. lengths m n rest equal.1)
+values : (v w m n : ℕ) (rest : Ordering) → is_lt (ordering_then (nat_cmp w v) (ordering_then (nat_cmp n m) rest)) ≡ false → (v ≤ w) × (v ≡ w → m ≤ n)
+values v w m n rest e = by (then_not (nat_cmp w v) (ordering_then (nat_cmp n m) rest) e) where
+  by : (nat_cmp w v ≡ Greater) ⊎ ((nat_cmp w v ≡ Equal) × (is_lt (ordering_then (nat_cmp n m) rest) ≡ false)) → (v ≤ w) × (v ≡ w → m ≤ n)
+  by (inl more) = let lt = greater w v more in (omega arith, λ same. absurd (let h : ⊥ = omega arith in h))
+  by (inr equal) = let same = equal_to w v equal.0 in (omega arith, λ x. lengths m n rest equal.1)
 
-pub rows_before : (r s : Roa) → order (roa_key r) (roa_key s) ≡ Less → IsBefore r.prefix s.prefix
-rows_before r s e = by (then_less (nat_cmp (version_of r.prefix.family) (version_of s.prefix.family)) rest e) where
+pub rows_before : (r s : Roa) → is_lt (order (roa_key s) (roa_key r)) ≡ false → IsBefore r.prefix s.prefix
+rows_before r s e = by (then_not (nat_cmp (version_of s.prefix.family) (version_of r.prefix.family)) rest e) where
   last : Ordering
-  last = ordering_then (nat_cmp r.max s.max) (ordering_then (nat_cmp r.asn.0 s.asn.0) Equal)
+  last = ordering_then (nat_cmp s.max r.max) (ordering_then (nat_cmp s.asn.0 r.asn.0) Equal)
 
   rest : Ordering
-  rest = ordering_then (nat_cmp r.prefix.value s.prefix.value) (ordering_then (nat_cmp r.prefix.len s.prefix.len) last)
+  rest = ordering_then (nat_cmp s.prefix.value r.prefix.value) (ordering_then (nat_cmp s.prefix.len r.prefix.len) last)
 
-  by : (nat_cmp (version_of r.prefix.family) (version_of s.prefix.family) ≡ Less) ⊎ ((nat_cmp (version_of r.prefix.family) (version_of s.prefix.family) ≡ Equal) × (rest ≡ Less)) → IsBefore r.prefix s.prefix
-  by (inl less) = inr (families_before r.prefix.family s.prefix.family (less_than (version_of r.prefix.family) (version_of s.prefix.family) less))
+  by : (nat_cmp (version_of s.prefix.family) (version_of r.prefix.family) ≡ Greater) ⊎ ((nat_cmp (version_of s.prefix.family) (version_of r.prefix.family) ≡ Equal) × (is_lt rest ≡ false)) → IsBefore r.prefix s.prefix
+  by (inl more) = inr (families_before r.prefix.family s.prefix.family (greater (version_of s.prefix.family) (version_of r.prefix.family) more))
   by (inr equal) =
       let both = values r.prefix.value s.prefix.value r.prefix.len s.prefix.len last equal.1 in
-      inl (families_equal r.prefix.family s.prefix.family (equal_to (version_of r.prefix.family) (version_of s.prefix.family) equal.0), both.0, both.1)
+      inl (families_equal r.prefix.family s.prefix.family (sym (equal_to (version_of s.prefix.family) (version_of r.prefix.family) equal.0)), both.0, both.1)
 
 -- what stands before a prefix that begins no later than the net begins no later, either
 upto_back_of : (f g h : Family) (u v w : ℕ) → ((f ≡ g) × (u ≤ v)) ⊎ ((f ≡ V4) × (g ≡ V6)) → begins_upto g v h w ≡ true → begins_upto f u h w ≡ true

@@ -1,7 +1,6 @@
 -- Rows in order, their links, and what is known on the way up.
-use Rattle.std.proofs.Common.{◌≡◌, ◌≤◌, ◌<◌, ◌+◌, ◌⊎◌, inl, inr, ℕ, zero, suc, Bool, true, false, cond, List, [], ◌∷◌, ◌&&◌, ◌||◌, ◌==◌, nat_le, not, length, get_or, refl, sym, ap, ◌∙◌, subst, arith}
-use Rattle.std.specs.declared.cmp.Ordering.TheVariants.{Less}
-use Rattle.std.specs.List.{AllByRecursion, list_any}
+use Rattle.std.proofs.Common.{◌≡◌, ◌≤◌, ◌<◌, ◌+◌, ◌⊎◌, inl, inr, ℕ, suc, Bool, true, false, cond, List, ◌&&◌, ◌||◌, ◌==◌, nat_le, not, length, get_or, refl, sym, ap, ◌∙◌, subst, arith}
+use Rattle.std.specs.List.{list_any}
 use Rattle.std.specs.List.Sorted.{IsPartitionedBy, IsPartitionPoint}
 use Rattle.std.proofs.lemmas.Bool.{and_parts, cases_lt, both_ways}
 use Rattle.std.proofs.lemmas.List.{get_or_default}
@@ -11,9 +10,7 @@ use Rattle.ixp_num.specs.Roas.{is_covered, is_matched, validity}
 use Rattle.ixp_num.specs.declared.prefix.Prefix.{Prefix}
 use Rattle.ixp_num.specs.declared.roa.Roa.{Roa}
 use Rattle.ixp_num.specs.declared.roa.Validity.TheVariants.{Valid, Invalid, Unknown}
-use Rattle.ixp_sorted.specs.Keys.{roa_key}
-use Rattle.ixp_tables.specs.Tables.{Ascends, order}
-use Rattle.ixp_roa.specs.Climbs.{AreLinked, IsPlace, NoneFrom, StandsAt, is_match, is_upto}
+use Rattle.ixp_roa.specs.Climbs.{AreInOrder, AreLinked, IsPlace, NoneFrom, StandsAt, is_match, is_upto}
 use Rattle.ixp_roa.proofs.Between.{IsBefore, between, rows_before, upto_back, upto_covering}
 
 -- rows at places
@@ -24,28 +21,17 @@ stands rows i d less = (less, get_or_default rows i d (get_or rows i d) less)
 pub one_row : (rows : List Roa) (i : ℕ) (r s : Roa) → StandsAt rows i r → StandsAt rows i s → r ≡ s
 one_row rows i r s here there = here.1 ∙ (get_or_default rows i r s here.0 ∙ sym there.1)
 
-each_at : (P : Roa → Type 0) (rows : List Roa) (i : ℕ) (d : Roa) → AllByRecursion P rows → i < length rows → P (get_or rows i d)
-each_at P [] i d all less = absurd (let h : ⊥ = omega arith in h)
-each_at P (r ∷ rs) zero d all less = all.0
-each_at P (r ∷ rs) (suc i) d all less = each_at P rs i d all.1 (omega arith)
+pub before_at : (rows : List Roa) (i j : ℕ) (d : Roa) → AreInOrder rows → i < j → j < length rows → IsBefore (get_or rows i d).prefix (get_or rows j d).prefix
+before_at rows i j d up less short = rows_before (get_or rows i d) (get_or rows j d) (up i j d (omega arith) short)
 
-ordered_at : (rows : List Roa) (i j : ℕ) (d : Roa) → Ascends roa_key rows → i < j → j < length rows → order (roa_key (get_or rows i d)) (roa_key (get_or rows j d)) ≡ Less
-ordered_at [] i j d up less short = absurd (let h : ⊥ = omega arith in h)
-ordered_at (r ∷ rs) i zero d up less short = absurd (let h : ⊥ = omega arith in h)
-ordered_at (r ∷ rs) zero (suc j) d up less short = each_at (λ s. order (roa_key r) (roa_key s) ≡ Less) rs j d up.0 (omega arith)
-ordered_at (r ∷ rs) (suc i) (suc j) d up less short = ordered_at rs i j d up.1 (omega arith) (omega arith)
-
-pub before_at : (rows : List Roa) (i j : ℕ) (d : Roa) → Ascends roa_key rows → i < j → j < length rows → IsBefore (get_or rows i d).prefix (get_or rows j d).prefix
-before_at rows i j d up less short = rows_before (get_or rows i d) (get_or rows j d) (ordered_at rows i j d up less short)
-
-pub before : (rows : List Roa) (i j : ℕ) (r s : Roa) → Ascends roa_key rows → i < j → StandsAt rows i r → StandsAt rows j s → IsBefore r.prefix s.prefix
+pub before : (rows : List Roa) (i j : ℕ) (r s : Roa) → AreInOrder rows → i < j → StandsAt rows i r → StandsAt rows j s → IsBefore r.prefix s.prefix
 before rows i j r s up less here there =
     let same : get_or rows i s ≡ r = get_or_default rows i s r here.0 ∙ sym here.1 in
     subst (λ (x : Roa). IsBefore r.prefix x.prefix) (sym there.1) (subst (λ (x : Roa). IsBefore x.prefix (get_or rows j s).prefix) same (before_at rows i j s up less there.0))
 
 -- the place of a net
 
-pub partitioned : (rows : List Roa) (net : Prefix) → Ascends roa_key rows → IsPartitionedBy (λ r. is_upto r.prefix net) rows
+pub partitioned : (rows : List Roa) (net : Prefix) → AreInOrder rows → IsPartitionedBy (λ r. is_upto r.prefix net) rows
 partitioned rows net up i j d le less upto = by (cases_lt i j) where
   by : (i < j) ⊎ (j ≤ i) → is_upto (get_or rows i d).prefix net ≡ true
   by (inl lt) = upto_back (get_or rows i d).prefix (get_or rows j d).prefix net (before_at rows i j d up lt less) upto
@@ -61,12 +47,12 @@ placed rows net n within parts = (
 -- one step up
 
 -- a row before this one that covers the net stands before its link
-pub step : (rows : List Roa) (links : List ℕ) (net : Prefix) (i link : ℕ) (r : Roa) → Ascends roa_key rows → NoneFrom rows r.prefix link i → StandsAt rows i r → is_upto r.prefix net ≡ true
+pub step : (rows : List Roa) (links : List ℕ) (net : Prefix) (i link : ℕ) (r : Roa) → AreInOrder rows → NoneFrom rows r.prefix link i → StandsAt rows i r → is_upto r.prefix net ≡ true
     → (j : ℕ) (s : Roa) → StandsAt rows j s → j < i → covers s.prefix net ≡ true → j < link
 step rows links net i link r up none here upto j s there less over =
     none j s there less (between s.prefix r.prefix net (before rows j i s r up less there here) upto over)
 
-pub none_after : (rows : List Roa) (links : List ℕ) (net : Prefix) (at end i link : ℕ) (r : Roa) → at ≡ suc i → Ascends roa_key rows → NoneFrom rows r.prefix link i → StandsAt rows i r → is_upto r.prefix net ≡ true
+pub none_after : (rows : List Roa) (links : List ℕ) (net : Prefix) (at end i link : ℕ) (r : Roa) → at ≡ suc i → AreInOrder rows → NoneFrom rows r.prefix link i → StandsAt rows i r → is_upto r.prefix net ≡ true
     → covers r.prefix net ≡ false → NoneFrom rows net at end → NoneFrom rows net link end
 none_after rows links net at end i link r is up none here upto apart so_far j s there less over = by (cases_lt j i) where
   by : (j < i) ⊎ (i ≤ j) → j < link
@@ -120,7 +106,7 @@ or_cases : (a b : Bool) → (a || b) ≡ true → (a ≡ true) ⊎ (b ≡ true)
 or_cases true b e = inl refl
 or_cases false b e = inr e
 
-pub goes_on : (rows : List Roa) (links : List ℕ) (net : Prefix) (origin at i link : ℕ) (r : Roa) (covered : Bool) → at ≡ suc i → Ascends roa_key rows → link ≤ i → NoneFrom rows r.prefix link i → StandsAt rows i r
+pub goes_on : (rows : List Roa) (links : List ℕ) (net : Prefix) (origin at i link : ℕ) (r : Roa) (covered : Bool) → at ≡ suc i → AreInOrder rows → link ≤ i → NoneFrom rows r.prefix link i → StandsAt rows i r
     → is_match r net origin ≡ false → IsUpTo rows net origin at covered → IsUpTo rows net origin link (covered || covers r.prefix net)
 goes_on rows links net origin at i link r covered is up low none here apart so_far = record {
   within = let a = so_far.within in omega arith;

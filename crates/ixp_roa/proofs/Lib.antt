@@ -4,3 +4,5 @@ pub mod Between
 pub mod Climbing
 pub mod SameRows
 pub mod CsvTexts
+pub mod InOrder
+pub mod HalfNumbers

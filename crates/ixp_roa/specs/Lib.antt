@@ -1,2 +1,3 @@
 pub mod CsvRoas
 pub mod Climbs
+pub mod Compacts

@@ -5,13 +5,11 @@
 ghost use Rattle.std.specs.Prelude.{◌≡◌, ◌≤◌, ◌<◌, ℕ, true, length, IfOk};
 ghost use Rattle.ixp_num.specs.declared.roa.Roa.{Roa};
 ghost use Rattle.ixp_num.specs.Roas.{validity};
-ghost use Rattle.ixp_sorted.specs.Keys.{roa_key};
-ghost use Rattle.ixp_tables.specs.Tables.{Ascends};
-ghost use Rattle.ixp_roa.specs.Climbs.{AreLinked, IsPlace, NoneFrom, StandsAt, is_upto};
+ghost use Rattle.ixp_roa.specs.Climbs.{AreInOrder, AreLinked, NoneFrom, StandsAt, is_upto};
 
+use crate::ordered::OrderedRoas;
 use crate::rows::is_match;
-use ixp_num::{Asn, Family, Prefix, Roa, Validity};
-use ixp_sorted::Sorted;
+use ixp_num::{Asn, Prefix, Validity};
 use std::alloc::{AllocError, Global};
 use std::marker::Model;
 
@@ -19,7 +17,7 @@ use std::marker::Model;
 /// one included; 0 where none does.
 #[derive(Debug, Drop)]
 pub(crate) struct Index {
-    rows: Sorted<Roa>,
+    rows: OrderedRoas,
     links: Vec<usize>,
 }
 
@@ -35,28 +33,9 @@ impl Model for Index {
     ghost invariant = { λ i. AreLinked i.rows i.links.items × (length i.links.items ≡ length i.rows) };
 }
 
-/// Whether a prefix begins no later than another.
-fn is_upto(p: &Prefix, q: &Prefix) -> bool
-    ensures { result ≡ is_upto p.now q.now }
-{
-    match (p.family, q.family) {
-        (Family::V4, Family::V4) | (Family::V6, Family::V6) => p.value <= q.value,
-        (Family::V4, Family::V6) => true,
-        (Family::V6, Family::V4) => false,
-    }
-}
-
-/// How many rows begin no later than the net.
-fn place_of(rows: &[Roa], net: &Prefix) -> usize
-    requires { Ascends roa_key rows.now }
-    ensures { IsPlace rows.now net.now result }
-{
-    rows.partition_point(|r| is_upto(&r.prefix, net))
-}
-
 /// How many of the first `from` rows stand up to the last one that covers the net.
-fn upto_cover(rows: &[Roa], links: &[usize], net: &Prefix, from: usize) -> usize
-    requires ascends { Ascends roa_key rows.now }
+fn upto_cover(rows: &OrderedRoas, links: &[usize], net: &Prefix, from: usize) -> usize
+    requires ascends { AreInOrder rows.now }
     requires linked { AreLinked rows.now links.now }
     requires within { from ≤ length links.now }
     requires upto { (j : ℕ) (s : Roa) → StandsAt rows.now j s → j < from → is_upto s.prefix net.now ≡ true }
@@ -65,7 +44,7 @@ fn upto_cover(rows: &[Roa], links: &[usize], net: &Prefix, from: usize) -> usize
 {
     let mut at = from;
     'up: while at > 0 {
-        if rows[at - 1].prefix.covers(net) {
+        if rows.at(at - 1).prefix.covers(net) {
             return at;
         }
         at = links[at - 1];
@@ -74,12 +53,13 @@ fn upto_cover(rows: &[Roa], links: &[usize], net: &Prefix, from: usize) -> usize
 }
 
 /// The links of the rows.
-fn links_of(alloc: Global, rows: &[Roa]) -> Result<Vec<usize>, AllocError>
-    requires { Ascends roa_key rows.now }
+fn links_of(alloc: Global, rows: &OrderedRoas) -> Result<Vec<usize>, AllocError>
+    requires { AreInOrder rows.now }
     ensures { IfOk result (λ links. AreLinked rows.now links.items × (length links.items ≡ length rows.now)) }
 {
     let mut links = Vec::with_capacity(alloc, rows.len())?;
-    'rows: for row in rows {
+    'rows: for i in 0..rows.len() {
+        let row = rows.at(i);
         let link = upto_cover(rows, links.as_slice(), &row.prefix, links.len());
         links.push(link)?;
     }
@@ -87,17 +67,17 @@ fn links_of(alloc: Global, rows: &[Roa]) -> Result<Vec<usize>, AllocError>
 }
 
 /// What the rows say of a route to the net with the origin.
-fn climb(rows: &[Roa], links: &[usize], net: &Prefix, origin: Asn) -> Validity
-    requires ascends { Ascends roa_key rows.now }
+fn climb(rows: &OrderedRoas, links: &[usize], net: &Prefix, origin: Asn) -> Validity
+    requires ascends { AreInOrder rows.now }
     requires linked { AreLinked rows.now links.now }
     requires all { length links.now ≡ length rows.now }
     ensures { result ≡ validity rows.now net.now origin.0 }
 {
-    let mut at = place_of(rows, net);
+    let mut at = rows.place_of(net);
     let mut covered = false;
     'up: while at > 0 {
-        let roa = &rows[at - 1];
-        if is_match(roa, net, origin) {
+        let roa = rows.at(at - 1);
+        if is_match(&roa, net, origin) {
             return Validity::Valid;
         }
         covered |= roa.prefix.covers(net);
@@ -115,10 +95,11 @@ impl Index {
     ghost use Rattle.ixp_num.specs.Roas.{validity};
 
     /// The index of these ROAs.
-    pub(crate) fn new(alloc: Global, rows: Sorted<Roa>) -> Result<Index, AllocError>
+    pub(crate) fn new(alloc: Global, rows: OrderedRoas) -> Result<Index, AllocError>
         ensures { IfOk result (λ index. index ≡ rows) }
     {
-        let links = links_of(alloc, rows.as_slice())?;
+        rows.are_in_order();
+        let links = links_of(alloc, &rows)?;
         Ok(Index { rows, links })
     }
 
@@ -126,6 +107,7 @@ impl Index {
     pub(crate) fn validity(&self, net: &Prefix, origin: Asn) -> Validity
         ensures { result ≡ validity self.now net.now origin.0 }
     {
-        climb(self.rows.as_slice(), self.links.as_slice(), net, origin)
+        self.rows.are_in_order();
+        climb(&self.rows, self.links.as_slice(), net, origin)
     }
 }

@@ -5,10 +5,12 @@
 //! text, as validators export them.
 #![tactic(auto)]
 
+mod compact;
 mod csv_rows;
 mod csv_text;
 mod fault;
 mod index;
+mod ordered;
 mod rows;
 mod table;
 

@@ -1,8 +1,14 @@
 //! A table of ROAs.
+ghost use Rattle.std.specs.Prelude.{◌≡◌, IfOk};
+ghost use Rattle.std.specs.List.{Contains};
+ghost use Rattle.ixp_num.specs.declared.roa.Roa.{Roa};
+ghost use Rattle.ixp_roa.specs.Climbs.{at_places};
+
 use crate::csv_text::listed;
 use crate::fault::RoaFault;
 use crate::index::Index;
-use ixp_num::{Asn, Items, Prefix, Roa, Validity};
+use crate::ordered::OrderedRoas;
+use ixp_num::{Asn, Prefix, Roa, Validity};
 use ixp_sorted::Sorted;
 use std::alloc::{AllocError, Global};
 use std::marker::Model;
@@ -10,11 +16,11 @@ use std::marker::Model;
 /// The most distinct ROAs of a text.
 const MOST: usize = 1_000_000;
 
-/// A table of ROAs, as a filter's `roa_check` asks it. Beside the list that it was made of it holds an index by prefix, so that
-/// an answer takes a search for the net and then a step for each ROA on the way up from it.
+/// A table of ROAs, as a filter's `roa_check` asks it. It holds an index by prefix, so that an answer takes a search for the net and
+/// then a step for each ROA on the way up from it, and where in the index each ROA of the list stands that it was made of.
 #[derive(Debug, Drop)]
 pub struct RoaTable {
-    rows: Items<Roa>,
+    places: Vec<usize>,
     index: Index,
 }
 
@@ -22,13 +28,26 @@ impl Model for RoaTable {
     ghost use Rattle.std.specs.Prelude.{◌≡◌, Bool, List};
     ghost use Rattle.std.specs.List.{list_any};
     ghost use Rattle.ixp_num.specs.declared.roa.Roa.{Roa};
+    ghost use Rattle.ixp_roa.specs.Climbs.{at_places};
 
     ghost Value = { List Roa };
 
-    ghost view = { λ t. t.rows };
+    ghost view = { λ t. at_places t.index t.places.items };
 
     // a test that some ROA passes has one answer for both
-    ghost invariant = { λ t. (test : Roa → Bool) → list_any test t.rows ≡ list_any test t.index };
+    ghost invariant = { λ t. (test : Roa → Bool) → list_any test (at_places t.index t.places.items) ≡ list_any test t.index };
+}
+
+/// Where the ROAs stand among those in order.
+fn places_of(alloc: Global, ordered: &OrderedRoas, rows: &[Roa]) -> Result<Vec<usize>, AllocError>
+    requires { (x : Roa) → Contains rows.now x → Contains ordered.now x }
+    ensures { IfOk result (λ places. at_places ordered.now places.items ≡ rows.now) }
+{
+    let mut places = Vec::with_capacity(alloc, rows.len())?;
+    for row in rows {
+        places.push(ordered.place_of_roa(row))?;
+    }
+    Ok(places)
 }
 
 impl RoaTable {
@@ -40,10 +59,10 @@ impl RoaTable {
     pub fn new(alloc: Global, rows: &[Roa]) -> Result<RoaTable, AllocError>
         ensures { IfOk result (λ t. t ≡ rows.now) }
     {
-        let sorted = Sorted::from_items(Vec::from_slice(alloc, rows)?);
-        let index = Index::new(alloc, sorted)?;
-        let rows = Items::from_slice(alloc, rows)?;
-        Ok(RoaTable { rows, index })
+        let ordered = OrderedRoas::from_roas(alloc, rows)?;
+        let places = places_of(alloc, &ordered, rows)?;
+        let index = Index::new(alloc, ordered)?;
+        Ok(RoaTable { places, index })
     }
 
     /// The ROAs of a CSV text, in ascending order and each once. Its columns are an AS number with or without

@@ -9,12 +9,12 @@ up-preserved c =
     let rows = c.args.rows.now in
     let links = c.args.links.now in
     let net = c.args.net.now in
-    let row = c.index-rows-at.result in
+    let row = c.at-roa.result in
     let i = c.up.at - 1 in
     let some = c.up-test.true in
     let low = c.up.invariant.within in
     let all = c.requires.all in
-    let here : StandsAt rows i row = (omega arith, c.index-rows-at.is) in
+    let here : StandsAt rows i row = (omega arith, c.at-roa.ensures) in
     let link = c.requires.linked.1 i row (omega arith) here in
     let more = goes_on rows links net c.args.origin.0 c.up.at i (slice_index links i) row c.up.covered (omega arith) c.requires.ascends link.0 link.1 here (sym c.is_match.ensures ∙ c.if-is_match.false) c.up.invariant in
     subst (λ b. IsUpTo rows net c.args.origin.0 (slice_index links i) (c.up.covered || b)) (sym c.covers-covered.ensures) more

@@ -4,4 +4,4 @@ use Rattle.ixp_roa.proofs.index.links_of.Given as goal
 
 -- the links of the rows so far
 abbrev pub invariant-rows : goal.invariant-rows
-invariant-rows l = AreLinked l.fn.rows l.links.items × (length l.links.items ≡ l.row-index)
+invariant-rows l = AreLinked l.fn.rows l.links.items × (length l.links.items ≡ l.i)

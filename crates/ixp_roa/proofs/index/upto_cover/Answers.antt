@@ -1,6 +1,4 @@
-use Rattle.std.proofs.Common.{◌≡◌, ◌-◌, false, slice_index, sym, subst, ◌∙◌, arith}
-use Rattle.ixp_num.specs.Prefixes.{covers}
-use Rattle.ixp_num.specs.declared.roa.Roa.{Roa}
+use Rattle.std.proofs.Common.{◌-◌, slice_index, sym, ◌∙◌, arith}
 use Rattle.ixp_roa.specs.Climbs.{StandsAt}
 use Rattle.ixp_roa.proofs.Climbing.{none_after}
 use Rattle.ixp_roa.proofs.index.upto_cover.Goals as goal
@@ -14,10 +12,10 @@ up-preserved c =
     let low = c.up.invariant.0 in
     let within = c.requires.within in
     let few = c.requires.linked.0 in
-    let here : StandsAt rows i c.index-rows-at.result = (omega arith, c.index-rows-at.is) in
-    let link = c.requires.linked.1 i c.index-rows-at.result (omega arith) here in
+    let here : StandsAt rows i c.at.result = (omega arith, c.at.ensures) in
+    let link = c.requires.linked.1 i c.at.result (omega arith) here in
     let back = link.0 in (
       omega arith,
-      none_after rows links c.args.net.now c.up.at c.args.from i (slice_index links i) c.index-rows-at.result (omega arith) c.requires.ascends link.1 here (c.requires.upto i c.index-rows-at.result here (omega arith))
-          (subst (λ (x : Roa). covers x.prefix c.args.net.now ≡ false) (sym c.index-rows-at.is) (sym c.covers.ensures ∙ c.if-covers.false)) c.up.invariant.1,
+      none_after rows links c.args.net.now c.up.at c.args.from i (slice_index links i) c.at.result (omega arith) c.requires.ascends link.1 here (c.requires.upto i c.at.result here (omega arith))
+          (sym c.covers.ensures ∙ c.if-covers.false) c.up.invariant.1,
     )
