@@ -122,6 +122,52 @@ impl MemberAddresses {
     }
 }
 
+/// Puts one more address in.
+fn put_addr(addresses: &mut Table<Listed>, addr: Addr) -> Result<(), AllocError>
+    ensures { OnOk result (map (λ l. l.addr) addresses.new ≡ put addr_numbers addr (map (λ l. l.addr) addresses.old)) }
+{
+    addresses.put(Listed { addr })?;
+    Ok(())
+}
+
+/// Puts the interface's address in, if it is the member's, in the VLAN, and of the family.
+fn put_own(
+    addresses: &mut Table<Listed>,
+    family: Family,
+    vlan: u32,
+    member: u32,
+    interface: &Interface,
+) -> Result<(), AllocError>
+    ensures { OnOk result (map (λ l. l.addr) addresses.new ≡ onto (own_addresses family vlan member (interface.now ∷ [])) (map (λ l. l.addr) addresses.old)) }
+{
+    if interface.member != member || interface.vlan != vlan {
+        return Ok(());
+    }
+    if let Some(address) = address_of(family, interface) {
+        put_addr(addresses, address.addr)?;
+    }
+    Ok(())
+}
+
+/// A member's addresses of the family in the VLAN, in order, by one pass over the interfaces.
+pub(crate) fn addresses_of_member(
+    alloc: Global,
+    interfaces: &[Interface],
+    family: Family,
+    vlan: u32,
+    member: u32,
+) -> Result<Items<Addr>, AllocError>
+    ensures { IfOk result (λ it. it ≡ ascending (own_addresses family vlan member interfaces.now)) }
+{
+    let mut addresses = Table::new(alloc);
+    let mut left = interfaces;
+    'each: while let Some((interface, earlier)) = left.split_last() {
+        put_own(&mut addresses, family, vlan, member, interface)?;
+        left = earlier;
+    }
+    plain(alloc, addresses.as_slice())
+}
+
 fn plain(alloc: Global, listed: &[Listed]) -> Result<Items<Addr>, AllocError>
     ensures { IfOk result (λ it. it ≡ map (λ a. a.addr) listed.now) }
 {

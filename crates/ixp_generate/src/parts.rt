@@ -1,5 +1,5 @@
-//! The parts of a router's text one by one: the texts of all its sessions, and what those of some sessions depend on. The members'
-//! addresses in the router's VLAN are gathered once for all of them.
+//! The parts of a router's text one by one: the texts of all its sessions, and what those of some sessions depend on. For many sessions the
+//! members' addresses in the router's VLAN are gathered once.
 ghost use Rattle.std.specs.Prelude.{◌≡◌, ◌<◌, ◌^◌, IfOk, map, option_map};
 ghost use Rattle.ixp_compile.specs.Generated.{inputs};
 ghost use Rattle.ixp_generate.specs.Addresses.{AreInVlan};
@@ -8,7 +8,7 @@ ghost use Rattle.ixp_registry.specs.Sessions.{session};
 
 use crate::addresses::MemberAddresses;
 use crate::texts::put_part;
-use crate::values::inputs_with;
+use crate::values::{inputs_with, session_inputs};
 use ixp_compile::Inputs;
 use ixp_num::Items;
 use ixp_policy::{session, session_at};
@@ -90,9 +90,30 @@ fn inputs_among(
     Ok(Some(i))
 }
 
-/// What the parts of these sessions of the router depend on, each with the number of its interface, in the order in which these are
-/// named; None where there is no such session.
-pub fn inputs_of_each(
+/// So many sessions at most have their members' addresses looked up one by one.
+const FEW: usize = 8;
+
+/// What the parts of a few sessions depend on: the interfaces are gone over for each.
+fn inputs_of_few(
+    alloc: Global,
+    registry: &Registry,
+    router: &Router,
+    interfaces: &[u32],
+) -> Result<Vec<(u32, Option<Inputs>)>, AllocError>
+    ensures { IfOk result (λ v. v.items ≡ map (λ n. (n, option_map (inputs registry.now router.now) (session registry.now router.now n))) interfaces.now) }
+{
+    let mut found = Vec::new(alloc);
+    let mut left = interfaces;
+    'each: while let Some((number, others)) = left.split_first() {
+        let inputs = session_inputs(alloc, registry, router, *number)?;
+        found.push((*number, inputs))?;
+        left = others;
+    }
+    Ok(found)
+}
+
+/// What the parts of many sessions depend on: the interfaces are gone over once for all members' addresses.
+fn inputs_of_many(
     alloc: Global,
     registry: &Registry,
     router: &Router,
@@ -110,4 +131,21 @@ pub fn inputs_of_each(
         left = others;
     }
     Ok(found)
+}
+
+/// What the parts of these sessions of the router depend on, each with the number of its interface, in the order in which these are
+/// named; None where there is no such session.
+pub fn inputs_of_each(
+    alloc: Global,
+    registry: &Registry,
+    router: &Router,
+    interfaces: &[u32],
+) -> Result<Vec<(u32, Option<Inputs>)>, AllocError>
+    ensures { IfOk result (λ v. v.items ≡ map (λ n. (n, option_map (inputs registry.now router.now) (session registry.now router.now n))) interfaces.now) }
+{
+    if interfaces.len() <= FEW {
+        inputs_of_few(alloc, registry, router, interfaces)
+    } else {
+        inputs_of_many(alloc, registry, router, interfaces)
+    }
 }

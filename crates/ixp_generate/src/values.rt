@@ -1,12 +1,12 @@
 //! What the parts of a router's text depend on, taken from the rows of a registry.
-ghost use Rattle.std.specs.Prelude.{◌≡◌, IfOk};
-ghost use Rattle.ixp_registry.specs.Sessions.{member_addresses};
+ghost use Rattle.std.specs.Prelude.{◌≡◌, IfOk, option_map};
+ghost use Rattle.ixp_registry.specs.Sessions.{member_addresses, session};
 ghost use Rattle.ixp_policy.specs.Import.{is_listed};
 ghost use Rattle.ixp_compile.specs.Generated.{header_inputs, inputs};
 ghost use Rattle.ixp_generate.specs.Answers.{header_inputs_at, inputs_at};
 ghost use Rattle.ixp_policy.specs.Views.{session_of};
 
-use crate::addresses::MemberAddresses;
+use crate::addresses::addresses_of_member;
 use ixp_compile::{HeaderInputs, Inputs};
 use ixp_num::{Addr, Asn, Items, Name, Prefix};
 use ixp_policy::{SessionRows, session};
@@ -61,9 +61,9 @@ pub(crate) fn inputs_of(
     ensures { IfOk result (λ i. i ≡ inputs registry.now router.now (session_of session.now)) }
 {
     let interfaces = registry.interfaces.as_slice();
+    let member = session.interface.member;
     let vlan = session.interface.vlan;
-    let beside = MemberAddresses::in_vlan(alloc, interfaces, router.family, vlan)?;
-    let addresses = beside.of(alloc, session.interface.member)?;
+    let addresses = addresses_of_member(alloc, interfaces, router.family, vlan, member)?;
     let prefixes = Items::from_slice(alloc, session.prefixes)?;
     inputs_with(alloc, registry, router, session, addresses, prefixes)
 }
@@ -100,6 +100,21 @@ pub fn header_inputs(
 }
 
 /// What the part of the router's session at the interface depends on; None where there is no such session.
+pub(crate) fn session_inputs(
+    alloc: Global,
+    registry: &Registry,
+    router: &Router,
+    interface: u32,
+) -> Result<Option<Inputs>, AllocError>
+    ensures { IfOk result (λ o. o ≡ option_map (inputs registry.now router.now) (session registry.now router.now interface)) }
+{
+    match session(registry, router, interface) {
+        Some(session) => Ok(Some(inputs_of(alloc, registry, router, &session)?)),
+        None => Ok(None),
+    }
+}
+
+/// What the part of the router's session at the interface depends on; None where there is no such router or session.
 pub fn inputs(
     alloc: Global,
     registry: &Registry,
@@ -108,11 +123,8 @@ pub fn inputs(
 ) -> Result<Option<Inputs>, AllocError>
     ensures { IfOk result (λ i. i ≡ inputs_at registry.now router.now interface) }
 {
-    let Some(router) = registry.routers.find(router) else {
-        return Ok(None);
-    };
-    match session(registry, router, interface) {
-        Some(session) => Ok(Some(inputs_of(alloc, registry, router, &session)?)),
+    match registry.routers.find(router) {
+        Some(router) => session_inputs(alloc, registry, router, interface),
         None => Ok(None),
     }
 }

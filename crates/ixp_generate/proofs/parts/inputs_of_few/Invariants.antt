@@ -1,7 +1,7 @@
 use Rattle.std.proofs.Common.{◌≡◌, ◌++◌, map, option_map, length}
 use Rattle.ixp_compile.specs.Generated.{inputs}
 use Rattle.ixp_registry.specs.Sessions.{session}
-use Rattle.ixp_generate.proofs.parts.inputs_of_each.Given as goal
+use Rattle.ixp_generate.proofs.parts.inputs_of_few.Given as goal
 
 abbrev pub invariant-each : goal.invariant-each
 invariant-each l =
