@@ -24,7 +24,8 @@ session_count p h n = if_there (find pending_key h p.routers) 0 (λ q. if_there 
 abbrev pub nothing : Pending
 nothing = record { routers = []; roas = 0 }
 
--- What an edit adds, with its count.
+-- What an edit adds, with its count. This and what follows is how the tables hold it; what it means is said by look-up, in the laws of `laws.rt`
+-- (`noted_texts_have_the_count`, `what_is_listed_is_pending`, `later_touches_stay`).
 
 abbrev pub row_of : List PendingRouter → List ℕ → PendingRouter
 row_of ps h = if_there (find pending_key h ps) (record { handle = h; header = 0; sessions = [] }) (λ q. q)

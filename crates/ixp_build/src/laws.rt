@@ -50,18 +50,21 @@ pub fn incremental_builds_are_full()
 pub fn noted_texts_have_the_count()
     ensures headers { (c : ℕ) (t : Touch) (p : Pending) (h : List ℕ) → header_count (noted c t p) h ≡ (if lists_header t h then c else header_count p h) }
     ensures sessions { (c : ℕ) (t : Touch) (p : Pending) (h : List ℕ) (n : ℕ) → session_count (noted c t p) h n ≡ (if lists_session t h n then c else session_count p h n) }
+    ensures roas { (c : ℕ) (t : Touch) (p : Pending) → (noted c t p).roas ≡ (if t.roas then c else p.roas) }
 {}
 
 /// What is listed is what has a count. The tables of what is pending keep their rows in order.
 pub fn what_is_listed_is_pending()
     ensures headers { (p : Pending) (h : List ℕ) → InOrderOfKeys p → lists_header (listed p) h ≡ not (header_count p h == 0) }
     ensures sessions { (p : Pending) (h : List ℕ) (n : ℕ) → InOrderOfKeys p → lists_session (listed p) h n ≡ not (session_count p h n == 0) }
+    ensures roas { (p : Pending) → (listed p).roas ≡ not (p.roas == 0) }
 {}
 
 /// What was touched after a count stays pending where texts of that version are installed, and nothing else.
 pub fn later_touches_stay()
     ensures headers { (upto : ℕ) (p : Pending) (h : List ℕ) → header_count (later upto p) h ≡ later_count upto (header_count p h) }
     ensures sessions { (upto : ℕ) (p : Pending) (h : List ℕ) (n : ℕ) → InOrderOfKeys p → session_count (later upto p) h n ≡ later_count upto (session_count p h n) }
+    ensures roas { (upto : ℕ) (p : Pending) → (later upto p).roas ≡ later_count upto p.roas }
 {}
 
 /// After an accepted edit, with what it reached before it and after it noted, texts that followed the registry follow the next one.

@@ -3,7 +3,7 @@ ghost use Rattle.std.specs.Prelude.{◌≡◌, IfOk, OnOk, OnErr};
 ghost use Rattle.std.specs.Option.{option_map};
 ghost use Rattle.ixp_registry.specs.Valid.{Valid};
 ghost use Rattle.ixp_build.specs.Bundles.{IsOf, text_of};
-ghost use Rattle.ixp_build.specs.Pendings.{Follows, noted};
+ghost use Rattle.ixp_build.specs.Pendings.{Follows, noted, nothing};
 
 use crate::bundle::Bundle;
 use crate::making::make;
@@ -24,7 +24,9 @@ impl Texts {
     /// All texts of the state's registry. Nothing is pending.
     pub fn open(alloc: Global, now: &State) -> Result<Texts, AllocError>
         requires { Valid now.now.registry }
-        ensures { IfOk result (λ t. Follows t now.now.registry) }
+        ensures whole { IfOk result (λ t. IsOf t.bundle now.now.registry) }
+        ensures settled { IfOk result (λ t. t.pending ≡ nothing) }
+        ensures follows { IfOk result (λ t. Follows t now.now.registry) }
     {
         Ok(Texts {
             bundle: Bundle::open(alloc, now)?,
@@ -48,7 +50,9 @@ impl Texts {
     pub fn refresh(&mut self, alloc: Global, now: &State) -> Result<(), AllocError>
         requires valid { Valid now.now.registry }
         requires follows { Follows self.old now.now.registry }
-        ensures ok { OnOk result (IsOf self.new.bundle now.now.registry) }
+        ensures whole { OnOk result (IsOf self.new.bundle now.now.registry) }
+        ensures settled { OnOk result (self.new.pending ≡ nothing) }
+        ensures err { OnErr result (self.new ≡ self.old) }
         ensures follows { Follows self.new now.now.registry }
     {
         let touch = self.pending.listed(alloc)?;
