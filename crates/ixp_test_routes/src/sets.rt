@@ -165,8 +165,14 @@ fn is_matched(alloc: Global, net: &str, mode: Mode) -> Option<bool> {
 #[test]
 fn what_a_merged_set_matches(rt: HostRuntime) {
     for &(net, exact, more) in NETS {
-        assert!(rt; is_matched(rt.alloc(), net, Mode::Exact) == Some(exact), "{net}");
-        assert!(rt; is_matched(rt.alloc(), net, Mode::More) == Some(more), "{net}");
+        assert!(rt;
+            is_matched(rt.alloc(), net, Mode::Exact) == Some(exact),
+            "{net}"
+        );
+        assert!(rt;
+            is_matched(rt.alloc(), net, Mode::More) == Some(more),
+            "{net}"
+        );
     }
 }
 
