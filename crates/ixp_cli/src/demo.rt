@@ -1,10 +1,11 @@
-//! The command `demo`: how large the demo exchange is.
+//! The command `demo`: how large the demo exchange is, and that its text follows edits.
 ghost use Rattle.std.specs.Prelude.{◌≡◌, ◌≤◌, IfOk};
 ghost use Rattle.ixp_cli.specs.Demos.{demo_text};
 ghost use Rattle.ixp_cli.specs.Runs.{DemoEnds, Flow};
 
 use crate::end::End;
 use ixp_demo::demo_registry;
+use ixp_demo_builds::{builds, put_builds};
 use ixp_demo_counts::{counts, put_counts};
 use ixp_io::{Sink, write_all};
 use std::alloc::{AllocError, Global};
@@ -16,12 +17,14 @@ fn demo_text(alloc: Global, members: u32) -> Result<Vec<u8>, AllocError>
 {
     let registry = demo_registry(alloc, members)?;
     let counted = counts(alloc, &registry)?;
+    let built = builds(alloc, registry, members)?;
     let mut text = Vec::new(alloc);
     put_counts(&mut text, &counted)?;
+    put_builds(&mut text, &built)?;
     Ok(text)
 }
 
-/// Makes the demo exchange with so many members, and writes how large it is.
+/// Makes the demo exchange with so many members, edits it, and writes how large it is and what was made anew.
 pub(crate) fn run_demo<K: Sink>(alloc: Global, output: &mut K, members: u32) -> End
     requires { members ≤ 4000 }
     ensures { DemoEnds members (record { bytes = K.written output.old; faults = K.write_faults output.old })

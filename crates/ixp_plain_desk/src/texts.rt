@@ -73,10 +73,11 @@ pub(crate) fn fresh(alloc: Global, texts: Option<Texts>, state: &State) -> Resul
     ensures whole { IfOk result (λ t. IsOf t.bundle state.now.registry) }
     ensures follows { IfOk result (λ t. Follows t state.now.registry) }
 {
-    let mut texts = match texts {
-        Some(texts) => texts,
-        None => Texts::open(alloc, state)?,
-    };
-    texts.refresh(alloc, state)?;
-    Ok(texts)
+    match texts {
+        Some(mut texts) => {
+            texts.refresh(alloc, state)?;
+            Ok(texts)
+        }
+        None => Texts::open(alloc, state),
+    }
 }

@@ -239,9 +239,18 @@ pub const ROUTERS: &[(&str, &str)] = &[
 
 /// Numbers of members, and what `demo` tells of them.
 pub const DEMOS: &[(&str, &str)] = &[
-    ("1", "0@members 1^sessions 1^patterns 1^@"),
-    ("3", "0@members 3^sessions 3^patterns 3^@"),
-    ("4000", "0@members 4000^sessions 4000^patterns 4000^@"),
+    (
+        "1",
+        "0@members 1^sessions 1^patterns 1^rebuilt 1^equal yes^@",
+    ),
+    (
+        "3",
+        "0@members 3^sessions 3^patterns 3^rebuilt 3^equal yes^@",
+    ),
+    (
+        "4000",
+        "0@members 4000^sessions 4000^patterns 4000^rebuilt 100^equal yes^@",
+    ),
     ("0", "1@@ixpm: usage^"),
     ("4001", "1@@ixpm: usage^"),
     ("03", "1@@ixpm: usage^"),

@@ -26,7 +26,7 @@ const HELP: &str = "ixpm: the registry of an internet exchange, and its route se
   ixpm dump        writes the dump of the registry in the store
   ixpm session     answers the HTTP requests on standard input, over the registry in the store
   ixpm demo N      writes how many members, sessions and patterns of prefix sets the demo exchange with N members has,
-                   from 1 to 4000
+                   from 1 to 4000, and how many parts of its text are made anew after edits
   ixpm --help      writes this
   ixpm --version   writes the version
 

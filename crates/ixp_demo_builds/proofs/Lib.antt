@@ -1,0 +1,3 @@
+pub mod SameRequests
+pub mod Equals
+pub mod AfterRequests
