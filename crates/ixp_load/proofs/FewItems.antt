@@ -1,6 +1,5 @@
 -- How many rows the tables of a valid registry have at most.
-use Rattle.std.proofs.Common.{◌≡◌, ℕ, ◌+◌, ◌*◌, ◌≤◌, Bool, true, List, [], ◌∷◌, ◌++◌, map, flat_map, length, length-append, Option, Some, None, sym, ap, subst, arith}
-use Rattle.std.specs.List.{AllByRecursion}
+use Rattle.std.proofs.Common.{◌≡◌, ℕ, ◌+◌, ◌*◌, ◌≤◌, true, List, [], ◌∷◌, map, flat_map, length, length-append, Option, Some, None, subst, arith}
 use Rattle.ixp_tables.proofs.AllItems.{all_true, all_both}
 use Rattle.ixp_tables.proofs.Orders.{all_weaker}
 use Rattle.ixp_registry.specs.declared.lists.IrrList.{IrrList}

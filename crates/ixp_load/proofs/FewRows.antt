@@ -1,20 +1,19 @@
 -- A valid state has at most 8,000,000 rows.
-use Rattle.std.proofs.Common.{◌≡◌, ℕ, ◌+◌, ◌*◌, ◌≤◌, ◌==◌, Bool, true, false, List, [], ◌∷◌, ◌++◌, map, flat_map, length, length-append, if◌then◌else◌, ap, ◌∙◌, subst, arith}
-use Rattle.std.specs.List.{AllByRecursion}
+use Rattle.std.proofs.Common.{◌≡◌, ◌≤◌, ◌==◌, Bool, true, false, [], ◌∷◌, ◌++◌, map, flat_map, length, length-append, if◌then◌else◌, ap, ◌∙◌, arith}
 use Rattle.ixp_tables.proofs.AllItems.{all_true, all_both}
 use Rattle.ixp_tables.proofs.Orders.{all_weaker}
 use Rattle.ixp_registry.specs.declared.registry.Registry.{Registry}
 use Rattle.ixp_registry.specs.Lookups.{has_owner}
 use Rattle.ixp_registry.specs.Registries.{bare, addresses_of, rules_in}
 use Rattle.ixp_registry.specs.Valid.{Valid}
-use Rattle.ixp_registry.specs.Words.{is_staff_number, owner_numbers}
+use Rattle.ixp_registry.specs.Words.{is_staff_number}
 use Rattle.ixp_lines.specs.declared.version.Version.TheVariants.{Two}
 use Rattle.ixp_lines.specs.Lines.{member_line, contact_line, key_line, switch_line, port_line, vlan_line, interface_line, address_line, router_line, rule_line, bogon_line, bogon_as_line, transit_line, roa_line}
 use Rattle.ixp_steps.specs.declared.kept.KeptOwner.{KeptOwner}
 use Rattle.ixp_steps.specs.declared.state.State.{State}
 use Rattle.ixp_steps.specs.Kept.{kept_owner_key, ValidKept}
 use Rattle.ixp_steps.specs.States.{ValidState}
-use Rattle.ixp_stored.specs.Names.{Entry, line_row, irr_row, origins_row, floor_row, floor_rows, kept_row, kept_rows, count_row}
+use Rattle.ixp_stored.specs.Names.{line_row, irr_row, origins_row, floor_row, floor_rows, kept_row, kept_rows, count_row}
 use Rattle.ixp_stored.specs.States.{address_rows, rule_rows, people_rows, port_rows, interface_rows, list_rows, bogon_rows, origin_rows, registry_rows, stored_rows}
 use Rattle.ixp_load.specs.Sorting.{Has}
 use Rattle.ixp_load.proofs.FewItems.{tables_few}

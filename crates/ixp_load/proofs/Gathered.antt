@@ -1,19 +1,16 @@
 -- What is gathered of the rows of a state is what the state keeps.
-use Rattle.std.proofs.Common.{◌≡◌, ◌≢◌, ◌⊎◌, inl, inr, ℕ, ◌<◌, ◌≤◌, ◌^◌, ◌==◌, Bool, true, false, IsTrue, List, [], ◌∷◌, ◌++◌, map, flat_map, decimal, Option, Some, None, if◌then◌else◌, refl, sym, ap, ◌∙◌, subst, arith}
+use Rattle.std.proofs.Common.{◌≡◌, ◌≢◌, ◌⊎◌, inl, inr, ℕ, ◌<◌, ◌≤◌, ◌^◌, ◌==◌, Bool, true, false, IsTrue, List, [], ◌∷◌, ◌++◌, map, flat_map, Option, Some, None, if◌then◌else◌, refl, sym, ap, ◌∙◌, subst, arith}
 use Rattle.std.specs.declared.cmp.Ordering.{Ordering}
 use Rattle.std.specs.declared.cmp.Ordering.TheVariants.{Less, Equal, Greater}
 use Rattle.std.specs.List.{AllByRecursion}
 use Rattle.std.specs.Coded.{le_prop}
 use Rattle.std.proofs.lemmas.Bool.{eqb-true, eq-eqb}
-use Rattle.ixp_io.specs.declared.keeper.RowName.{RowName}
 use Rattle.ixp_tables.specs.Tables.{order, Ascends, find, put, without, if_there}
-use Rattle.ixp_tables.proofs.AllItems.{all_both}
-use Rattle.ixp_tables.proofs.Orders.{all_weaker, order_same, order_equal, head_same}
+use Rattle.ixp_tables.proofs.Orders.{order_same, order_equal, head_same}
 use Rattle.ixp_tables.proofs.TableLaws.{all_put, all_without, Ascends-put, Ascends-without, find-put-same-key, find-put-other, find-without-same, find-without-other, find-key, without-absent, without-put}
 use Rattle.ixp_tables.proofs.Looking.{all_found, all_found_there}
 use Rattle.ixp_registry.specs.declared.edit_kind.EditKind.{EditKind}
 use Rattle.ixp_registry.specs.declared.members.Owner.{Owner}
-use Rattle.ixp_registry.specs.declared.registry.Registry.{Registry}
 use Rattle.ixp_registry.specs.Widths.{IsNumber, owner_number}
 use Rattle.ixp_registry.specs.Words.{owner_numbers}
 use Rattle.ixp_steps.specs.declared.kept.KeptNumber.{KeptNumber}
@@ -23,13 +20,13 @@ use Rattle.ixp_steps.specs.declared.subject.Subject.{Subject}
 use Rattle.ixp_steps.specs.Kept.{kept_key, kept_owner_key, kept_of, ValidKept}
 use Rattle.ixp_steps.specs.States.{ValidState}
 use Rattle.ixp_steps.proofs.KeptOwners.{one_owner, owner_kept}
-use Rattle.ixp_stored.specs.Names.{Entry, floor_row, floor_rows, kept_row, kept_rows, version_row, count_row}
+use Rattle.ixp_stored.specs.Names.{Entry, floor_row, floor_rows, kept_row, kept_rows, count_row}
 use Rattle.ixp_stored.specs.States.{registry_rows, stored_rows}
 use Rattle.ixp_stored.proofs.KeyTexts.{owner_text_told, kept_told}
 use Rattle.ixp_stored.proofs.NamesOnce.{owners_small, registry_within}
 use Rattle.ixp_load.specs.Gathering.{with_row, with_floor, with_number, IsNoted, floor_at, number_at, IsGathered}
 use Rattle.ixp_load.specs.Opening.{AreAllRows}
-use Rattle.ixp_load.specs.Sorting.{Has, Same}
+use Rattle.ixp_load.specs.Sorting.{Has}
 use Rattle.ixp_load.specs.Storing.{HasSubject, KeepsSome, IsStorable}
 use Rattle.ixp_load.proofs.Sorting.{all_has, has_all, has_map, ascending_same}
 

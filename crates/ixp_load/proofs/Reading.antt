@@ -11,6 +11,7 @@ use Rattle.ixp_io.specs.Tables.{Table, name_cmp, next_after, row_entry}
 use Rattle.ixp_io.specs.Told.{WhereTold}
 use Rattle.ixp_io.proofs.Rows.{rows_in_order}
 use Rattle.ixp_stored.specs.Names.{Entry}
+use Rattle.ixp_load.specs.Damages.{IsOneTooMany}
 use Rattle.ixp_load.specs.Reading.{IsFront, ComesNext, above_last, name_before}
 use Rattle.ixp_load.proofs.SameRows.{first_of, second_of}
 
@@ -119,3 +120,19 @@ too_many (Some t) rows row front next many =
     let mapped = length-map (rows ++ row ∷ []) row_entry in
     let here = length-append rows (row ∷ []) in
     omega (arith, all, joined, mapped, here, many)
+
+pub never_beyond : (o : Option Table) (rows : List Row) (row : Row) → WhereTold o (λ t. IsFront t rows) → WhereTold o (λ t. ComesNext t rows (Some row)) → above_last rows row ≡ false → WhereTold o (λ t. IsOneTooMany t row.name)
+never_beyond None rows row front next below = tt
+never_beyond (Some t) rows row front next below = absurd (let bad : true ≡ false = sym (next_above t rows row (next front)) ∙ below in cc)
+
+pub one_too_many : (o : Option Table) (rows : List Row) (row : Row) → WhereTold o (λ t. IsFront t rows) → WhereTold o (λ t. ComesNext t rows (Some row)) → length rows ≡ 8000000 → WhereTold o (λ t. IsOneTooMany t row.name)
+one_too_many None rows row front next many = tt
+one_too_many (Some t) rows row front next many =
+    let more = next front in record {
+      before = map row_entry rows;
+      row = row_entry row;
+      after = more.0;
+      parts = more.1 ∙ (ap (λ l. l ++ more.0) (map-append row_entry rows (row ∷ [])) ∙ append_assoc (map row_entry rows) (row_entry row ∷ []) more.0);
+      many = length-map rows row_entry ∙ many;
+      named = refl;
+    }

@@ -27,7 +27,7 @@ front_told kind ds more fits =
     ∙ (ap (λ o. Said (o >>= fields_at (form_of Two kind))) (after_again (word_of kind) (spelled ds ++ more))
     ∙ ap Said (fields_again (form_of Two kind) ds more (form_clear Two kind) fits))
 
-body_text : (kind : Kind) (ds : List Field) → line_body kind ds ++ 10 ∷ [] ≡ text_of kind ds
+pub body_text : (kind : Kind) (ds : List Field) → line_body kind ds ++ 10 ∷ [] ≡ text_of kind ds
 body_text kind ds = append_assoc (word_of kind) (flat_map (λ field. 32 ∷ field_text field) ds) (10 ∷ [])
 
 row_told : (kind : Kind) (ds : List Field) → AllFit (form_of Two kind) ds → line_said kind (fields_row kind ds) ≡ Some ds

@@ -1,7 +1,6 @@
 -- What an edit that is accepted is about is a subject of its kind.
-use Rattle.std.proofs.Common.{◌≡◌, ◌⊎◌, inl, inr, ℕ, ◌==◌, ◌||◌, not, true, List, [], ◌∷◌, Option, Some, None, refl, subst}
+use Rattle.std.proofs.Common.{◌≡◌, ◌⊎◌, inl, inr, ℕ, ◌==◌, ◌||◌, not, true, List, [], ◌∷◌, Some, None, refl, subst}
 use Rattle.std.specs.List.{AllByRecursion}
-use Rattle.std.specs.Option.{is_some}
 use Rattle.ixp_num.specs.AddressForms.{version_of}
 use Rattle.ixp_num.specs.declared.family.Family.{Family}
 use Rattle.ixp_num.specs.declared.family.Family.TheVariants.{V4, V6}
@@ -11,19 +10,12 @@ use Rattle.ixp_tables.proofs.Orders.{order_equal}
 use Rattle.ixp_tables.proofs.TableLaws.{find-key}
 use Rattle.ixp_registry.specs.declared.kind.Kind.{Kind}
 use Rattle.ixp_registry.specs.declared.kind.Kind.TheVariants.{Members, Contacts, Keys, Switches, Ports, Vlans, Interfaces, Routers}
-use Rattle.ixp_registry.specs.declared.members.ApiKey.{ApiKey}
-use Rattle.ixp_registry.specs.declared.members.Contact.{Contact}
-use Rattle.ixp_registry.specs.declared.members.Member.{Member}
-use Rattle.ixp_registry.specs.declared.network.Interface.{Interface}
 use Rattle.ixp_registry.specs.declared.network.Port.{Port}
-use Rattle.ixp_registry.specs.declared.network.Switch.{Switch}
-use Rattle.ixp_registry.specs.declared.network.Vlan.{Vlan}
 use Rattle.ixp_registry.specs.declared.refusal.Refusal.TheVariants.{BadText, PortTaken}
 use Rattle.ixp_registry.specs.declared.refusal.RowKey.{RowKey}
 use Rattle.ixp_registry.specs.declared.refusal.RowKey.TheVariants.{Number, Pair, Handle}
 use Rattle.ixp_registry.specs.declared.refusal.TextField.TheVariants.{Handle as HandleText}
 use Rattle.ixp_registry.specs.declared.registry.Registry.{Registry}
-use Rattle.ixp_registry.specs.declared.router.Router.{Router}
 use Rattle.ixp_registry.specs.Alphabets.{is_handle}
 use Rattle.ixp_registry.specs.Keys.{member_key, contact_key, api_key_key, switch_key, port_key, vlan_key, interface_key, router_key}
 use Rattle.ixp_registry.specs.Valid.{Valid, ValidMember, ValidContact, ValidKey, ValidSwitch, ValidPort, ValidVlan, ValidInterface, ValidRouter}

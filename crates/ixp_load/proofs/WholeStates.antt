@@ -1,9 +1,10 @@
 -- The rows of a valid state tell that state.
-use Rattle.std.proofs.Common.{◌≡◌, ◌≢◌, ℕ, ◌<◌, ◌≤◌, ◌==◌, Bool, true, false, IsSome, inl, List, [], ◌∷◌, map, length, Option, Some, None, Result, T, refl, sym, ap, ◌∙◌, subst, arith}
+use Rattle.std.proofs.Common.{◌≡◌, ◌≢◌, ℕ, ◌<◌, ◌≤◌, ◌==◌, Bool, true, false, IsSome, inl, inr, List, [], ◌∷◌, map, length, IfSome, Option, Some, None, Result, Ok, Err, T, refl, sym, ap, ◌∙◌, subst, arith}
 use Rattle.std.specs.declared.cmp.Ordering.TheVariants.{Less, Equal}
 use Rattle.std.specs.declared.cmp.Ordering.{Ordering}
 use Rattle.std.specs.FinMap.{empty, entries, entries_sorted, is_sorted, len, len-entries, len-empty}
 use Rattle.std.specs.Ordering.{is_lt}
+use Rattle.std.proofs.lemmas.List.{length-map}
 use Rattle.std.proofs.lemmas.List.Sorted.{length_permutation}
 use Rattle.ixp_io.specs.declared.keeper.Row.{Row}
 use Rattle.ixp_io.specs.declared.keeper.RowName.{RowName}
@@ -22,12 +23,15 @@ use Rattle.ixp_stored.specs.Names.{Entry, version_row, count_row}
 use Rattle.ixp_stored.specs.States.{stored_rows, tables}
 use Rattle.ixp_stored.proofs.RowsHeld.{rows_are, rows_held}
 use Rattle.ixp_load.specs.declared.fault.LoadFault.{LoadFault}
+use Rattle.ixp_load.specs.declared.fault.LoadFault.TheVariants.{KeeperFault, Damaged, OldVersion, NoMemory}
 use Rattle.ixp_load.specs.Answers.{IsLoaded, empty_registry}
+use Rattle.ixp_load.specs.Damages.{IsOneTooMany, TellsDamage, TellsRow}
 use Rattle.ixp_load.specs.Loading.{kind_rows, AreRowsOf}
 use Rattle.ixp_load.specs.Opening.{AreAllRows, entry_name, is_old}
 use Rattle.ixp_load.specs.Reading.{IsFront}
 use Rattle.ixp_load.specs.Sorting.{Has, Same}
 use Rattle.ixp_load.specs.Storing.{IsStorable}
+use Rattle.ixp_load.specs.Walking.{LoadTellsRow, LoadTellsWrong}
 use Rattle.ixp_load.proofs.FewRows.{few_rows}
 use Rattle.ixp_load.proofs.RowsByKind.{rows_of_kind, count_alone}
 use Rattle.ixp_load.proofs.SameRows.{all_above, first_of, second_of}
@@ -121,3 +125,26 @@ none_loaded o rows None r is all many done =
     done (no_rows rows (ap length read ∙ (sym (len-entries empty) ∙ len-empty name_cmp (List ℕ)))) refl
 none_loaded o rows (Some name) r is all many done =
     absurd (let more = subst (λ o. WhereTold o (λ t. 8000000 < len t)) is (many refl) in let none = len-empty name_cmp (List ℕ) in omega (arith, more, none))
+
+-- what is told of rows that were read is told of the table
+pub damage_told :
+    (o : Option Table) (rows : List Row) (beyond : Option RowName) (r : Result State LoadFault) → (beyond ≡ None → WhereTold o (λ t. map row_entry rows ≡ entries t)) → IfSome beyond (λ name. WhereTold o (λ t. IsOneTooMany t name))
+    → length rows ≤ 8000000 → ((s : State) → ValidState s → IsStorable s → o ≡ Some (tables s) → IsLoaded s r) → (Ascends entry_name (map row_entry rows) → beyond ≡ None → LoadTellsWrong (map row_entry rows) r)
+    → IfSome beyond (λ name. LoadTellsRow name r) → WhereTold o (TellsRow r)
+damage_told None rows beyond r all many most loads done last = tt
+damage_told (Some t) rows beyond (Ok s) all many most loads done last = tt
+damage_told (Some t) rows beyond (Err KeeperFault) all many most loads done last = tt
+damage_told (Some t) rows None (Err (Damaged name damage)) all many most loads done last =
+    let up = subst (Ascends entry_name) (sym (all refl)) (sorted_up (entries t) (entries_sorted t)) in
+    let counted = len-entries t in
+    let read = ap length (all refl) in
+    let mapped = length-map rows row_entry in (
+      (λ s v stores is. loads s v stores (ap Some is)),
+      inl (omega (arith, counted, read, mapped, most), subst (λ es. TellsDamage es name damage) (all refl) (done up refl)),
+    )
+damage_told (Some t) rows (Some beyond) (Err (Damaged name damage)) all many most loads done last = (
+  (λ s v stores is. loads s v stores (ap Some is)),
+  inr (subst (IsOneTooMany t) (sym last.0) many, last.1),
+)
+damage_told (Some t) rows beyond (Err (OldVersion found)) all many most loads done last = tt
+damage_told (Some t) rows beyond (Err NoMemory) all many most loads done last = tt

@@ -1,4 +1,5 @@
 pub mod Answers
+pub mod Damages
 pub mod Faults
 pub mod Gathering
 pub mod Keeping
@@ -8,3 +9,4 @@ pub mod Placing
 pub mod Reading
 pub mod Sorting
 pub mod Storing
+pub mod Walking

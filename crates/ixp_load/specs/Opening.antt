@@ -53,3 +53,7 @@ IsTold s (Err fault) = ⊥
 -- the row says how many requests were accepted
 abbrev pub is_count : Row → Bool
 is_count row = row.name.kind == 20 && length row.name.key == 0
+
+-- the row is the version's
+abbrev pub is_version : Row → Bool
+is_version row = row.name.kind == 0 && length row.name.key == 0

@@ -1,7 +1,9 @@
-//! Rows of lines: which typed row each of them is.
+//! Rows of lines, and faults of rows.
 ghost use Rattle.std.specs.Prelude.{◌≡◌, ◌<◌, ◌↔◌, length, IfOk, IfSome, IsTrue, option_map};
 ghost use Rattle.ixp_lines.specs.declared.version.Version.TheVariants.{Two};
+ghost use Rattle.ixp_load.specs.Damages.{IsLineRow};
 ghost use Rattle.ixp_load.specs.Loading.{front_at};
+ghost use Rattle.ixp_load.specs.Walking.{IsRowFault};
 ghost use Rattle.ixp_io.specs.Tables.{row_entry};
 ghost use Rattle.ixp_stored.specs.States.{set_row};
 
@@ -12,7 +14,9 @@ use ixp_stored::{Stored, set_row};
 use std::alloc::{AllocError, Global};
 
 /// The fault of a damaged row.
-pub(crate) fn damaged(alloc: Global, name: &RowName) -> NoState {
+pub(crate) fn damaged(alloc: Global, name: &RowName) -> NoState
+    ensures { IsRowFault name.now result }
+{
     match name.copied(alloc) {
         Ok(name) => NoState::Damaged {
             name,
@@ -54,17 +58,15 @@ pub(crate) fn front_line<R: Lined + Drop>(
     }
 }
 
-/// The typed row, where this is one of its kind.
-pub(crate) fn row_of<R: Stored + Drop>(alloc: Global, row: &Row) -> Result<Option<R>, AllocError> {
+/// Whether the row is one of a line of the kind.
+pub(crate) fn is_row<R: Stored + Drop>(alloc: Global, row: &Row) -> Result<bool, AllocError>
+    ensures { IfOk result (λ is. IsTrue is ↔ IsLineRow R.Lined.row_kind (row_entry row.now)) }
+{
     let mut text = Vec::from_slice(alloc, row.body.as_slice())?;
     text.push(b'\n')?;
     let Some((typed, _)) = front_line::<R>(alloc, text.as_slice())? else {
-        return Ok(None);
+        return Ok(false);
     };
     let change = set_row(alloc, &typed)?;
-    if sets(&change, row) {
-        Ok(Some(typed))
-    } else {
-        Ok(None)
-    }
+    Ok(sets(&change, row))
 }

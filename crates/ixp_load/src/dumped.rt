@@ -23,7 +23,7 @@ use ixp_text::{put, put_number};
 use std::alloc::{AllocError, Global};
 
 /// The kinds of rows, in the order of their lines.
-const KINDS: [Kind; 17] = [
+pub(crate) const KINDS: [Kind; 17] = [
     Kind::Sites,
     Kind::Members,
     Kind::Contacts,
@@ -87,7 +87,7 @@ fn put_kinds(
     Ok(true)
 }
 
-fn breaks(text: &[u8]) -> usize
+pub(crate) fn breaks(text: &[u8]) -> usize
     ensures count { result ≡ breaks text.now }
     ensures most { result ≤ length text.now }
 {
@@ -103,7 +103,7 @@ fn breaks(text: &[u8]) -> usize
 }
 
 /// Adds a dump's end behind its head and lines.
-fn put_end(out: &mut Vec<u8>) -> Result<(), AllocError>
+pub(crate) fn put_end(out: &mut Vec<u8>) -> Result<(), AllocError>
     ensures { OnOk result (out.new.items ≡ out.old.items ++ end_text (breaks out.old.items - 1)) }
 {
     let lines = breaks(out.as_slice()).saturating_sub(1);

@@ -49,7 +49,8 @@ pub(crate) fn number_said(
     alloc: Global,
     row: &Row,
 ) -> Result<Option<(Owner, KeptNumber)>, AllocError>
-    ensures { (w : By) (k : Number) → IsNumber (owner_number w) → HasSubject k → k.place < 2 ^ 64 → row_entry row.now ≡ kept_row w k → IfOk result (λ o. o ≡ Some (w, k)) }
+    ensures told { (w : By) (k : Number) → IsNumber (owner_number w) → HasSubject k → k.place < 2 ^ 64 → row_entry row.now ≡ kept_row w k → IfOk result (λ o. o ≡ Some (w, k)) }
+    ensures subject { IfOk result (λ o. IfSome o (λ x. HasSubject x.1)) }
 {
     let Some((owner, number)) = numbered_of(row.name.key.as_slice()) else {
         return Ok(None);

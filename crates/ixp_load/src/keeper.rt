@@ -1,9 +1,10 @@
 //! All rows of a keeper.
-ghost use Rattle.std.specs.Prelude.{◌≡◌, ◌≤◌, ◌<◌, IfOk, IfErr, IsErrOf, Err, IsSome, None, length, map, option_map};
+ghost use Rattle.std.specs.Prelude.{◌≡◌, ◌≤◌, ◌<◌, IfOk, IfErr, IsErrOf, Err, IsSome, IfSome, None, length, map, option_map};
 ghost use Rattle.std.specs.FinMap.{entries, len};
 ghost use Rattle.ixp_io.specs.Faults.{Rose};
 ghost use Rattle.ixp_io.specs.Tables.{row_entry};
 ghost use Rattle.ixp_io.specs.Told.{WhereTold};
+ghost use Rattle.ixp_load.specs.Damages.{IsOneTooMany};
 ghost use Rattle.ixp_load.specs.Reading.{ComesNext, IsFront, above_last, name_before};
 ghost use Rattle.ixp_load.specs.Faults.{IsKeepers};
 ghost use Rattle.ixp_load.specs.declared.fault.LoadFault.TheVariants.{KeeperFault};
@@ -62,6 +63,8 @@ pub(crate) fn read_rows<P: Keeper>(
     ensures front { IfOk result (λ x. WhereTold (P.table keeper.old) (λ t. IsFront t x.0.items)) }
     ensures all { IfOk result (λ x. x.1 ≡ None → WhereTold (P.table keeper.old) (λ t. map row_entry x.0.items ≡ entries t)) }
     ensures many { IfOk result (λ x. IsSome x.1 → WhereTold (P.table keeper.old) (λ t. 8000000 < len t)) }
+    ensures beyond { IfOk result (λ x. IfSome x.1 (λ name. WhereTold (P.table keeper.old) (λ t. IsOneTooMany t name))) }
+    ensures most { IfOk result (λ x. length x.0.items ≤ 8000000) }
     ensures some { IfOk result (λ x. IsSome x.1 → 0 < length x.0.items) }
     ensures faults { IfErr result IsKeepers }
     ensures kept { P.table keeper.new ≡ P.table keeper.old }

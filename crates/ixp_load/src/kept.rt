@@ -1,5 +1,15 @@
 //! The rows of what a store keeps of requests: the first of them that is wrong.
-ghost use Rattle.std.specs.Prelude.{◌<◌, IsTrue};
+ghost use Rattle.std.specs.Prelude.{◌≡◌, ◌<◌, ◌≤◌, ◌^◌, ◌∷◌, ◌↔◌, [], ℕ, suc, List, IfOk, IfErr, IsTrue, Some, map};
+ghost use Rattle.ixp_io.specs.Tables.{row_entry};
+ghost use Rattle.ixp_lines.specs.Fields.{Number};
+ghost use Rattle.ixp_registry.specs.declared.kind.Kind.TheVariants.{Members};
+ghost use Rattle.ixp_registry.specs.Widths.{IsNumber, owner_number};
+ghost use Rattle.ixp_stored.specs.Names.{Entry, name_of};
+ghost use Rattle.ixp_tables.specs.Tables.{Ascends};
+ghost use Rattle.ixp_load.specs.Damages.{EndsWithKept, HasName, IsOwner};
+ghost use Rattle.ixp_load.specs.Gathering.{floor_at};
+ghost use Rattle.ixp_load.specs.Opening.{entry_name};
+ghost use Rattle.ixp_load.specs.Walking.{AreFloors, FindsFloor, FindsFloorRow, FindsKept, FloorsNoted, Follows, GoesOn, IsCounted, IsRun, Reached, TellsFirst};
 
 use crate::decode::{damaged, sets};
 use crate::fault::NoState;
@@ -14,18 +24,29 @@ use ixp_tables::Table;
 use ixp_text::put_number;
 use std::alloc::{AllocError, Global};
 
-fn has_member(alloc: Global, rows: &[Row], number: u32) -> Result<bool, AllocError> {
+/// Whether one of the rows, which are in the order of their names, has this one.
+fn has_name(rows: &[Row], name: &RowName) -> bool
+    ensures { Ascends entry_name (map row_entry rows.now) → IsTrue result ↔ HasName (map row_entry rows.now) name.now }
+{
+    rows.binary_search_by(|row| row.name.cmp(name)).is_ok()
+}
+
+fn has_member(alloc: Global, rows: &[Row], number: u32) -> Result<bool, AllocError>
+    ensures { Ascends entry_name (map row_entry rows.now) → IfOk result (λ has. IsTrue has ↔ HasName (map row_entry rows.now) (name_of Members (Number number ∷ []))) }
+{
     let mut key = Vec::new(alloc);
     put_number(&mut key, u64::from(number))?;
     let name = RowName {
         kind: place_of(Kind::Members),
         key: Items::from_vec(key),
     };
-    Ok(rows.binary_search_by(|row| row.name.cmp(&name)).is_ok())
+    Ok(has_name(rows, &name))
 }
 
 /// Whether the store knows the owner: staff are 1 to 16, a member has a row.
-fn is_owner(alloc: Global, rows: &[Row], owner: Owner) -> Result<bool, AllocError> {
+fn is_owner(alloc: Global, rows: &[Row], owner: Owner) -> Result<bool, AllocError>
+    ensures { Ascends entry_name (map row_entry rows.now) → IfOk result (λ is. IsTrue is ↔ IsOwner (map row_entry rows.now) owner) }
+{
     match owner {
         Owner::Staff(number) => Ok(1 <= number && number <= 16),
         Owner::Member(number) => has_member(alloc, rows, number),
@@ -33,7 +54,9 @@ fn is_owner(alloc: Global, rows: &[Row], owner: Owner) -> Result<bool, AllocErro
 }
 
 /// The owner and the floor that a row says.
-fn floor_of(alloc: Global, row: &Row) -> Result<Option<KeptOwner>, AllocError> {
+fn floor_of(alloc: Global, row: &Row) -> Result<Option<KeptOwner>, AllocError>
+    ensures { IfOk result (FindsFloor (row_entry row.now)) }
+{
     let Some((owner, floor)) = floor_said(row) else {
         return Ok(None);
     };
@@ -53,32 +76,48 @@ fn floor_of(alloc: Global, row: &Row) -> Result<Option<KeptOwner>, AllocError> {
     }
 }
 
-/// The floors of the rows that stand first.
+/// The same, where the owner is one of the store's.
+fn known_floor(alloc: Global, rows: &[Row], row: &Row) -> Result<Option<KeptOwner>, AllocError>
+    ensures { Ascends entry_name (map row_entry rows.now) → IfOk result (FindsFloorRow (map row_entry rows.now) (row_entry row.now)) }
+{
+    let Some(kept) = floor_of(alloc, row)? else {
+        return Ok(None);
+    };
+    if is_owner(alloc, rows, kept.owner)? {
+        Ok(Some(kept))
+    } else {
+        Ok(None)
+    }
+}
+
+/// The floors of the rows that stand first, and the rows behind them. `rows` are all rows of the store.
 fn floors<'a>(
     alloc: Global,
     rows: &[Row],
-    left: Left<'a>,
-) -> Result<(Table<KeptOwner>, Left<'a>), NoState> {
+    first: Left<'a>,
+) -> Result<(Table<KeptOwner>, Left<'a>), NoState>
+    ensures noted { (es : List Entry) → es ≡ map row_entry rows.now → Reached 18 18 es (map row_entry first.now) → IfOk result (λ x. FloorsNoted 19 es (map row_entry x.1.now) x.0) }
+    ensures told { (es : List Entry) → es ≡ map row_entry rows.now → Reached 18 18 es (map row_entry first.now) → IfErr result (TellsFirst es) }
+{
     let mut kept: Table<KeptOwner> = Table::new(alloc);
-    let mut left = left;
+    let mut left = first;
     'rows: while let Some((row, others)) = left.split_first() {
         if row.name.kind != FLOORS {
-            break;
+            return Ok((kept, left));
         }
-        let Some(owner) = floor_of(alloc, row)? else {
-            return Err(damaged(alloc, &row.name));
-        };
-        if !is_owner(alloc, rows, owner.owner)? {
-            return Err(damaged(alloc, &row.name));
+        match known_floor(alloc, rows, row)? {
+            Some(owner) => kept.put(owner)?,
+            None => return Err(damaged(alloc, &row.name)),
         }
-        kept.put(owner)?;
         left = others;
     }
     Ok((kept, left))
 }
 
 /// The owner and the number that a row says.
-fn number_in(alloc: Global, row: &Row) -> Result<Option<(Owner, KeptNumber)>, AllocError> {
+fn number_in(alloc: Global, row: &Row) -> Result<Option<(Owner, KeptNumber)>, AllocError>
+    ensures { IfOk result (FindsKept (row_entry row.now)) }
+{
     let Some((owner, kept)) = number_said(alloc, row)? else {
         return Ok(None);
     };
@@ -94,19 +133,23 @@ fn number_in(alloc: Global, row: &Row) -> Result<Option<(Owner, KeptNumber)>, Al
 }
 
 /// The floor of an owner, 0 where there is no row of it.
-fn floor_in(floors: &Table<KeptOwner>, owner: Owner) -> u64 {
+fn floor_in(floors: &Table<KeptOwner>, owner: Owner) -> u64
+    ensures { result ≡ floor_at floors.now owner }
+{
     match floors.find(&owner) {
         Some(row) => row.floor,
         None => 0,
     }
 }
 
-/// Whether a number may be kept for an owner for whom so many are kept already: there is room, the floor isn't above it, and its
-/// place is one of those that were accepted.
-fn may_follow(count: usize, floor: u64, number: &KeptNumber, accepted: u64) -> bool
-    ensures { IsTrue result → count < 1024 }
+/// Whether a place is one of those that were accepted. Where no row says how many were, each is.
+fn is_counted(place: u64, count: Option<u64>) -> bool
+    ensures { IsTrue result ↔ ((accepted : ℕ) → count ≡ Some accepted → place ≤ accepted) }
 {
-    count < MOST_KEPT && floor <= number.number && number.place <= accepted
+    match count {
+        Some(accepted) => place <= accepted,
+        None => true,
+    }
 }
 
 /// The owner of the rows that came last, and how many of them came. An owner's rows stand together.
@@ -116,58 +159,100 @@ struct Run {
     count: usize,
 }
 
-/// The rows that came last together with this one; None where it is no row of a kept number, or none that may follow them.
+/// How many rows of this owner came last.
+#[tactic(auto, unfolding(crate::specs::Damages::EndsWithKept))]
+fn count_for(run: Run, owner: Owner) -> usize
+    ensures { (before : List Entry) → IsRun run before → IsNumber (owner_number owner) → EndsWithKept owner result before × ¬ (EndsWithKept owner (suc result) before) }
+{
+    if run.owner == Some(owner) {
+        run.count
+    } else {
+        0
+    }
+}
+
+/// The rows that came last together with one of this owner; None where as many came as may.
+fn one_more(run: Run, owner: Owner) -> Option<Run>
+    ensures { (before : List Entry) → IsRun run before → GoesOn owner before result }
+{
+    let count = count_for(run, owner);
+    if count < MOST_KEPT {
+        Some(Run {
+            owner: Some(owner),
+            count: count + 1,
+        })
+    } else {
+        None
+    }
+}
+
+/// The rows that came last together with this one; None where it is no row of a kept number, or none that may follow them. `rows`
+/// are all rows of the store.
 fn followed(
     alloc: Global,
     rows: &[Row],
     floors: &Table<KeptOwner>,
+    count: Option<u64>,
     run: Run,
     row: &Row,
-    accepted: u64,
-) -> Result<Option<Run>, AllocError> {
+) -> Result<Option<Run>, AllocError>
+    ensures { (es before : List Entry) → es ≡ map row_entry rows.now → Ascends entry_name es → AreFloors es es floors.now → IsCounted es count → IsRun run before → IfOk result (Follows es before (row_entry row.now)) }
+{
     let Some((owner, number)) = number_in(alloc, row)? else {
         return Ok(None);
     };
     if !is_owner(alloc, rows, owner)? {
         return Ok(None);
     }
-    let count = if run.owner == Some(owner) {
-        run.count
-    } else {
-        0
-    };
-    if may_follow(count, floor_in(floors, owner), &number, accepted) {
-        Ok(Some(Run {
-            owner: Some(owner),
-            count: count + 1,
-        }))
-    } else {
-        Ok(None)
+    if floor_in(floors, owner) > number.number {
+        return Ok(None);
     }
+    if !is_counted(number.place, count) {
+        return Ok(None);
+    }
+    Ok(one_more(run, owner))
 }
 
-/// Goes through the rows of floors and kept numbers that stand first, and gives the rows behind them. `rows` are all rows of the
-/// store, and `accepted` is how many requests were accepted.
-pub(crate) fn behind_kept<'a>(
+/// Goes through the rows of kept numbers that stand first, and gives the rows behind them. `rows` are all rows of the store.
+fn behind_numbers<'a>(
     alloc: Global,
     rows: &[Row],
-    left: Left<'a>,
-    accepted: u64,
-) -> Result<Left<'a>, NoState> {
-    let (floors, mut left) = floors(alloc, rows, left)?;
+    floors: &Table<KeptOwner>,
+    count: Option<u64>,
+    first: Left<'a>,
+) -> Result<Left<'a>, NoState>
+    ensures reached { (es : List Entry) → es ≡ map row_entry rows.now → IsCounted es count → FloorsNoted 19 es (map row_entry first.now) floors.now → IfOk result (λ rest. Reached 20 20 es (map row_entry rest.now)) }
+    ensures told { (es : List Entry) → es ≡ map row_entry rows.now → IsCounted es count → FloorsNoted 19 es (map row_entry first.now) floors.now → IfErr result (TellsFirst es) }
+{
     let mut run = Run {
         owner: None,
         count: 0,
     };
+    let mut left = first;
     'rows: while let Some((row, others)) = left.split_first() {
         if row.name.kind != KEPT {
-            break;
+            return Ok(left);
         }
-        let Some(next) = followed(alloc, rows, &floors, run, row, accepted)? else {
-            return Err(damaged(alloc, &row.name));
-        };
-        run = next;
+        match followed(alloc, rows, floors, count, run, row)? {
+            Some(next) => run = next,
+            None => return Err(damaged(alloc, &row.name)),
+        }
         left = others;
     }
     Ok(left)
+}
+
+/// Goes through the rows of floors and kept numbers that stand first, and gives the rows behind them. `rows` are all rows of the
+/// store, and `count` is how many requests were accepted, where a row says so.
+pub(crate) fn behind_kept<'a>(
+    alloc: Global,
+    rows: &[Row],
+    first: Left<'a>,
+    count: Option<u64>,
+) -> Result<Left<'a>, NoState>
+    ensures reached { (es : List Entry) → es ≡ map row_entry rows.now → IsCounted es count → Reached 18 18 es (map row_entry first.now) → IfOk result (λ rest. Reached 20 20 es (map row_entry rest.now)) }
+    ensures told { (es : List Entry) → es ≡ map row_entry rows.now → IsCounted es count → Reached 18 18 es (map row_entry first.now) → IfErr result (TellsFirst es) }
+{
+    let (floors, left) = floors(alloc, rows, first)?;
+    behind_numbers(alloc, rows, &floors, count, left)
 }

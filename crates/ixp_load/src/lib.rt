@@ -5,11 +5,12 @@
 //! rows break and the row that breaks it.
 //!
 //! Proved are the state that is answered; that the rows of each state that requests lead to are loaded (`specs/Storing.antt`), as are
-//! those of an empty store; that an older version is told exactly where the row of the version says so; and that a keeper's fault
-//! is told exactly where one came. So damage is told only where the rows are those of no such state. Which row is told no clause says:
-//! it is tested alone.
+//! those of an empty store; that an older version is told exactly where the row of the version says so; that a keeper's fault is told
+//! exactly where one came; and which row is told to be damaged (`specs/Damages.antt`). So damage is told only where the rows are
+//! those of no such state.
 #![tactic(auto)]
 
+mod breaking;
 mod checking;
 mod decode;
 mod dumped;

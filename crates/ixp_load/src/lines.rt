@@ -1,9 +1,21 @@
-//! The rows of a registry in the order of their lines in a dump, and the dump.
-use crate::decode::{damaged, front_line, row_of};
+//! The rows of a registry, gone through in the order of their names up to the first that is wrong.
+ghost use Rattle.std.specs.Prelude.{◌≡◌, ◌<◌, ◌^◌, ◌++◌, ◌∷◌, ◌↔◌, [], ℕ, suc, List, IfOk, IfErr, IfSome, IsTrue, Some, None, false, true, map, option_map, take, decimal};
+ghost use Rattle.std.specs.declared.cmp.Ordering.TheVariants.{Less};
+ghost use Rattle.ixp_io.specs.Tables.{row_entry};
+ghost use Rattle.ixp_num.specs.AddressForms.{version_of};
+ghost use Rattle.ixp_num.specs.declared.family.Family.{Family as Kin};
+ghost use Rattle.ixp_tables.specs.Tables.{Ascends, order};
+ghost use Rattle.ixp_lines.specs.Lines.{place_of};
+ghost use Rattle.ixp_stored.specs.Names.{Entry, version_row};
+ghost use Rattle.ixp_load.specs.Damages.{IsListRow};
+ghost use Rattle.ixp_load.specs.Opening.{entry_name};
+ghost use Rattle.ixp_load.specs.Walking.{AreLines, IsRowFault, MayFollow, Reached, TellsFirst, is_listed, is_site};
+
+use crate::decode::{damaged, front_line, is_row};
 use crate::fault::{Damage, NoState};
 use crate::words::{first_word, small_of};
 use ixp_io::{Row, RowName};
-use ixp_lines::{Kind, Lined};
+use ixp_lines::Lined;
 use ixp_lists::Items;
 use ixp_num::{Asn, Family, Pattern, Roa};
 use ixp_registry::{
@@ -11,41 +23,27 @@ use ixp_registry::{
     Port, Router, Site, Switch, Vlan,
 };
 use ixp_stored::{Stored, list_name, place_of};
-use ixp_text::{put, put_number};
 use std::alloc::{AllocError, Global};
 use std::cmp::Ordering;
 
 /// Rows of a store, those that were not looked at yet.
 pub(crate) type Left<'a> = &'a [Row];
 
-/// A row of a store and what it is.
-#[derive(Drop)]
-struct Typed<'a, R> {
-    typed: R,
-    row: &'a Row,
-}
-
-/// The rows of a kind that stand first, in the order of their lines.
-fn section<'a, R: Stored + Drop>(
-    alloc: Global,
-    left: Left<'a>,
-    ordered: &mut Vec<&'a Row>,
-) -> Result<Left<'a>, NoState> {
-    let mut rows: Vec<Typed<R>> = Vec::new(alloc);
-    let mut left = left;
+/// Goes through the rows of a kind that stand first, and gives the rows behind them.
+fn section<'a, R: Stored + Drop>(alloc: Global, rows: Left<'a>) -> Result<Left<'a>, NoState>
+    requires plain { is_listed R.Lined.row_kind ≡ false }
+    ensures reached { (es : List Entry) → Reached (place_of R.Lined.row_kind) (place_of R.Lined.row_kind) es (map row_entry rows.now) → IfOk result (λ rest. Reached (suc (place_of R.Lined.row_kind)) (suc (place_of R.Lined.row_kind)) es (map row_entry rest.now)) }
+    ensures told { (es : List Entry) → Reached (place_of R.Lined.row_kind) (place_of R.Lined.row_kind) es (map row_entry rows.now) → IfErr result (TellsFirst es) }
+{
+    let mut left = rows;
     'rows: while let Some((row, others)) = left.split_first() {
         if row.name.kind != place_of(R::kind()) {
-            break;
+            return Ok(left);
         }
-        match row_of::<R>(alloc, row)? {
-            Some(typed) => rows.push(Typed { typed, row })?,
-            None => return Err(damaged(alloc, &row.name)),
+        if !is_row::<R>(alloc, row)? {
+            return Err(damaged(alloc, &row.name));
         }
         left = others;
-    }
-    rows.sort_unstable_by(|a, b| a.typed.order_lines(&b.typed));
-    for typed in rows.as_slice() {
-        ordered.push(typed.row)?;
     }
     Ok(left)
 }
@@ -53,7 +51,8 @@ fn section<'a, R: Stored + Drop>(
 /// Lines of a member's list of a family.
 trait InList: Lined + Drop {
     /// Whether the line is of this member's list of the family.
-    fn is_in(&self, member: u32, family: Family) -> bool;
+    fn is_in(&self, member: u32, family: Family) -> bool
+        ensures { IsTrue result ↔ take 2 (Self.Lined.key self.now) ≡ member ∷ version_of family ∷ [] };
 }
 
 impl InList for MemberPrefix {
@@ -68,227 +67,200 @@ impl InList for MemberOrigin {
     }
 }
 
-/// Whether the text is lines of the list, at least one, which ascend.
+/// Whether the text is lines of the list, which ascend.
 fn are_lines<R: InList>(
     alloc: Global,
     text: &[u8],
     member: u32,
     family: Family,
-) -> Result<bool, AllocError> {
+) -> Result<bool, AllocError>
+    ensures { IfOk result (λ are. IsTrue are ↔ AreLines R.Lined.row_kind member family None text.now) }
+{
     let mut left = text;
     let mut last: Option<R> = None;
     'lines: while !left.is_empty() {
         let Some((line, behind)) = front_line::<R>(alloc, left)? else {
             return Ok(false);
         };
-        if !line.is_in(member, family) || !is_above(&last, &line) {
+        if !may_follow(&last, &line, member, family) {
             return Ok(false);
         }
         last = Some(line);
         left = behind;
     }
-    Ok(last.is_some())
+    Ok(true)
 }
 
-fn is_above<R: Lined>(last: &Option<R>, line: &R) -> bool {
+fn is_above<R: Lined>(last: &Option<R>, line: &R) -> bool
+    ensures { IsTrue result ↔ IfSome (option_map R.key last.now) (λ key. order key (R.key line.now) ≡ Less) }
+{
     match last {
         Some(last) => last.order_lines(line) == Ordering::Less,
         None => true,
     }
 }
 
+/// Whether the line is one of the list, and above the line before it.
+fn may_follow<R: InList>(last: &Option<R>, line: &R, member: u32, family: Family) -> bool
+    ensures { IsTrue result ↔ MayFollow member family (option_map R.Lined.key last.now) (R.Lined.key line.now) }
+{
+    line.is_in(member, family) && is_above(last, line)
+}
+
+/// The family of an IP version, 4 or 6.
+fn family_of(text: &[u8]) -> Option<Family>
+    ensures { (family : Kin) → text.now ≡ decimal (version_of family) → result ≡ Some family }
+{
+    if text == b"4".as_slice() {
+        Some(Family::V4)
+    } else if text == b"6".as_slice() {
+        Some(Family::V6)
+    } else {
+        None
+    }
+}
+
 /// Which list a row's name says.
-fn list_of(name: &RowName) -> Option<(u32, Family)> {
+#[tactic(auto, using(crate::proofs::WordTexts::small_unbroken))]
+fn list_of(name: &RowName) -> Option<(u32, Family)>
+    ensures { (member : ℕ) (family : Kin) → member < 2 ^ 32 → name.now.key ≡ decimal member ++ 32 ∷ decimal (version_of family) → result ≡ Some (member, family) }
+{
     let (member, family) = first_word(name.key.as_slice());
-    let member = small_of(member)?;
-    let family = match family {
-        b"4" => Family::V4,
-        b"6" => Family::V6,
-        _ => return None,
+    let Some(member) = small_of(member) else {
+        return None;
+    };
+    let Some(family) = family_of(family) else {
+        return None;
     };
     Some((member, family))
 }
 
-fn is_list<R: InList>(alloc: Global, row: &Row) -> Result<Option<(u32, Family)>, AllocError> {
+/// Whether the row is a member's list of a family.
+fn is_list<R: InList>(alloc: Global, row: &Row) -> Result<bool, AllocError>
+    ensures { row.now.name.kind ≡ place_of R.Lined.row_kind → IfOk result (λ is. IsTrue is ↔ IsListRow R.Lined.row_kind (row_entry row.now)) }
+{
     let Some((member, family)) = list_of(&row.name) else {
-        return Ok(None);
+        return Ok(false);
     };
     let name = list_name(alloc, R::kind(), member, family)?;
     if name.key.as_slice() != row.name.key.as_slice() {
-        return Ok(None);
+        return Ok(false);
     }
-    if are_lines::<R>(alloc, row.body.as_slice(), member, family)? {
-        Ok(Some((member, family)))
-    } else {
-        Ok(None)
+    if row.body.is_empty() {
+        return Ok(false);
     }
+    are_lines::<R>(alloc, row.body.as_slice(), member, family)
 }
 
-/// A member's list of a family, which is a row of a store.
-#[derive(Clone, Copy)]
-struct ListRow<'a> {
-    member: u32,
-    family: Family,
-    row: &'a Row,
-}
-
-/// The rows of members' lists that stand first, in the order of their lines.
-fn lists<'a, R: InList>(
-    alloc: Global,
-    left: Left<'a>,
-    ordered: &mut Vec<&'a Row>,
-) -> Result<Left<'a>, NoState> {
-    let mut rows: Vec<ListRow> = Vec::new(alloc);
-    let mut left = left;
+/// Goes through the lists of members that stand first, and gives the rows behind them.
+fn lists<'a, R: InList>(alloc: Global, rows: Left<'a>) -> Result<Left<'a>, NoState>
+    requires listed { is_listed R.Lined.row_kind ≡ true }
+    ensures reached { (es : List Entry) → Reached (place_of R.Lined.row_kind) (place_of R.Lined.row_kind) es (map row_entry rows.now) → IfOk result (λ rest. Reached (suc (place_of R.Lined.row_kind)) (suc (place_of R.Lined.row_kind)) es (map row_entry rest.now)) }
+    ensures told { (es : List Entry) → Reached (place_of R.Lined.row_kind) (place_of R.Lined.row_kind) es (map row_entry rows.now) → IfErr result (TellsFirst es) }
+{
+    let mut left = rows;
     'rows: while let Some((row, others)) = left.split_first() {
         if row.name.kind != place_of(R::kind()) {
-            break;
+            return Ok(left);
         }
-        match is_list::<R>(alloc, row)? {
-            Some((member, family)) => rows.push(ListRow {
-                member,
-                family,
-                row,
-            })?,
-            None => return Err(damaged(alloc, &row.name)),
+        if !is_list::<R>(alloc, row)? {
+            return Err(damaged(alloc, &row.name));
         }
         left = others;
-    }
-    rows.sort_unstable_by(|a, b| a.member.cmp(&b.member).then(a.family.cmp(&b.family)));
-    for list in rows.as_slice() {
-        ordered.push(list.row)?;
     }
     Ok(left)
 }
 
-/// The site's row, which has to stand first.
-fn site<'a>(
-    alloc: Global,
-    left: Left<'a>,
-    ordered: &mut Vec<&'a Row>,
-) -> Result<Left<'a>, NoState> {
-    if let Some((row, others)) = left.split_first() {
-        if row.name.kind == 0 {
-            return Err(damaged(alloc, &row.name));
-        }
-        if row.name.kind == 1 && row.name.key.is_empty() {
-            if row_of::<Site>(alloc, row)?.is_none() {
-                return Err(damaged(alloc, &row.name));
-            }
-            ordered.push(row)?;
-            return Ok(others);
-        }
-    }
-    Err(NoState::Damaged {
+/// The number of the kind of the site's row.
+const SITE: u8 = 1;
+
+/// The fault of a row that isn't there, whose name is its kind alone.
+pub(crate) fn missing(alloc: Global, kind: u8) -> NoState
+    ensures { IsRowFault (record { kind = kind; key = [] }) result }
+{
+    NoState::Damaged {
         name: RowName {
-            kind: 1,
+            kind,
             key: Items::new(alloc),
         },
         damage: Damage::Row,
-    })
-}
-
-fn people<'a>(
-    alloc: Global,
-    left: Left<'a>,
-    ordered: &mut Vec<&'a Row>,
-) -> Result<Left<'a>, NoState> {
-    let left = section::<Member>(alloc, left, ordered)?;
-    let left = section::<Contact>(alloc, left, ordered)?;
-    section::<ApiKey>(alloc, left, ordered)
-}
-
-fn network<'a>(
-    alloc: Global,
-    left: Left<'a>,
-    ordered: &mut Vec<&'a Row>,
-) -> Result<Left<'a>, NoState> {
-    let left = section::<Switch>(alloc, left, ordered)?;
-    let left = section::<Port>(alloc, left, ordered)?;
-    let left = section::<Vlan>(alloc, left, ordered)?;
-    let left = section::<InterfaceRow>(alloc, left, ordered)?;
-    section::<AddressRow>(alloc, left, ordered)
-}
-
-fn steering<'a>(
-    alloc: Global,
-    left: Left<'a>,
-    ordered: &mut Vec<&'a Row>,
-) -> Result<Left<'a>, NoState> {
-    let left = section::<Router>(alloc, left, ordered)?;
-    let left = lists::<MemberPrefix>(alloc, left, ordered)?;
-    let left = lists::<MemberOrigin>(alloc, left, ordered)?;
-    section::<MemberRule>(alloc, left, ordered)
-}
-
-fn public<'a>(
-    alloc: Global,
-    left: Left<'a>,
-    ordered: &mut Vec<&'a Row>,
-) -> Result<Left<'a>, NoState> {
-    let left = section::<Pattern>(alloc, left, ordered)?;
-    let left = section::<(Asn, Asn)>(alloc, left, ordered)?;
-    let left = section::<Asn>(alloc, left, ordered)?;
-    section::<Roa>(alloc, left, ordered)
-}
-
-/// Adds the registry's rows that stand first in the order of their lines in a dump, and gives those behind them.
-pub(crate) fn registry_rows<'a>(
-    alloc: Global,
-    left: Left<'a>,
-    ordered: &mut Vec<&'a Row>,
-) -> Result<Left<'a>, NoState> {
-    let left = site(alloc, left, ordered)?;
-    let left = people(alloc, left, ordered)?;
-    let left = network(alloc, left, ordered)?;
-    let left = steering(alloc, left, ordered)?;
-    public(alloc, left, ordered)
-}
-
-/// How many lines of a dump a row is.
-fn lines_of(row: &Row) -> usize {
-    if row.name.kind == place_of(Kind::Prefixes) || row.name.kind == place_of(Kind::Origins) {
-        row.body
-            .as_slice()
-            .iter()
-            .filter(|byte| **byte == b'\n')
-            .count()
-    } else {
-        1
     }
 }
 
-fn put_row(row: &Row, text: &mut Vec<u8>) -> Result<(), AllocError> {
-    put(text, row.body.as_slice())?;
-    if row.name.kind == place_of(Kind::Prefixes) || row.name.kind == place_of(Kind::Origins) {
-        return Ok(());
-    }
-    put(text, b"\n")
+fn is_site(row: &Row) -> bool
+    ensures { result ≡ is_site row.now }
+{
+    row.name.kind == SITE && row.name.key.is_empty()
 }
 
-/// The dump of rows in the order of their lines.
-pub(crate) fn dump_of(alloc: Global, rows: &[&Row]) -> Result<Vec<u8>, AllocError> {
-    let mut text = Vec::new(alloc);
-    put(&mut text, b"ixp-registry 2\n")?;
-    let mut lines: u64 = 0;
-    for row in rows {
-        put_row(row, &mut text)?;
-        lines = lines.saturating_add(lines_of(row) as u64);
+/// The site's row, which has to stand first behind that of the version.
+fn site<'a>(alloc: Global, rows: Left<'a>) -> Result<Left<'a>, NoState>
+    ensures reached { (es : List Entry) → es ≡ version_row ∷ map row_entry rows.now → Ascends entry_name es → IfOk result (λ rest. Reached 2 2 es (map row_entry rest.now)) }
+    ensures told { (es : List Entry) → es ≡ version_row ∷ map row_entry rows.now → Ascends entry_name es → IfErr result (TellsFirst es) }
+{
+    let Some((row, others)) = rows.split_first() else {
+        return Err(missing(alloc, SITE));
+    };
+    if row.name.kind < SITE {
+        return Err(damaged(alloc, &row.name));
     }
-    put(&mut text, b"end ")?;
-    put_number(&mut text, lines)?;
-    put(&mut text, b"\n")?;
-    Ok(text)
+    if !is_site(row) {
+        return Err(missing(alloc, SITE));
+    }
+    if !is_row::<Site>(alloc, row)? {
+        return Err(damaged(alloc, &row.name));
+    }
+    Ok(others)
 }
 
-/// The row that has the line of the dump of these rows. The first row's is line 2.
-pub(crate) fn row_at<'a>(rows: &[&'a Row], line: usize) -> Option<&'a Row> {
-    let mut last: usize = 1;
-    for row in rows {
-        last = last.saturating_add(lines_of(row));
-        if line <= last {
-            return Some(row);
-        }
-    }
-    None
+fn people<'a>(alloc: Global, left: Left<'a>) -> Result<Left<'a>, NoState>
+    ensures reached { (es : List Entry) → Reached 2 2 es (map row_entry left.now) → IfOk result (λ rest. Reached 5 5 es (map row_entry rest.now)) }
+    ensures told { (es : List Entry) → Reached 2 2 es (map row_entry left.now) → IfErr result (TellsFirst es) }
+{
+    let left = section::<Member>(alloc, left)?;
+    let left = section::<Contact>(alloc, left)?;
+    section::<ApiKey>(alloc, left)
+}
+
+fn network<'a>(alloc: Global, left: Left<'a>) -> Result<Left<'a>, NoState>
+    ensures reached { (es : List Entry) → Reached 5 5 es (map row_entry left.now) → IfOk result (λ rest. Reached 10 10 es (map row_entry rest.now)) }
+    ensures told { (es : List Entry) → Reached 5 5 es (map row_entry left.now) → IfErr result (TellsFirst es) }
+{
+    let left = section::<Switch>(alloc, left)?;
+    let left = section::<Port>(alloc, left)?;
+    let left = section::<Vlan>(alloc, left)?;
+    let left = section::<InterfaceRow>(alloc, left)?;
+    section::<AddressRow>(alloc, left)
+}
+
+fn steering<'a>(alloc: Global, left: Left<'a>) -> Result<Left<'a>, NoState>
+    ensures reached { (es : List Entry) → Reached 10 10 es (map row_entry left.now) → IfOk result (λ rest. Reached 14 14 es (map row_entry rest.now)) }
+    ensures told { (es : List Entry) → Reached 10 10 es (map row_entry left.now) → IfErr result (TellsFirst es) }
+{
+    let left = section::<Router>(alloc, left)?;
+    let left = lists::<MemberPrefix>(alloc, left)?;
+    let left = lists::<MemberOrigin>(alloc, left)?;
+    section::<MemberRule>(alloc, left)
+}
+
+fn public<'a>(alloc: Global, left: Left<'a>) -> Result<Left<'a>, NoState>
+    ensures reached { (es : List Entry) → Reached 14 14 es (map row_entry left.now) → IfOk result (λ rest. Reached 18 18 es (map row_entry rest.now)) }
+    ensures told { (es : List Entry) → Reached 14 14 es (map row_entry left.now) → IfErr result (TellsFirst es) }
+{
+    let left = section::<Pattern>(alloc, left)?;
+    let left = section::<(Asn, Asn)>(alloc, left)?;
+    let left = section::<Asn>(alloc, left)?;
+    section::<Roa>(alloc, left)
+}
+
+/// Goes through the registry's rows, which stand behind that of the version, and gives the rows behind them.
+pub(crate) fn registry_rows<'a>(alloc: Global, left: Left<'a>) -> Result<Left<'a>, NoState>
+    ensures reached { (es : List Entry) → es ≡ version_row ∷ map row_entry left.now → Ascends entry_name es → IfOk result (λ rest. Reached 18 18 es (map row_entry rest.now)) }
+    ensures told { (es : List Entry) → es ≡ version_row ∷ map row_entry left.now → Ascends entry_name es → IfErr result (TellsFirst es) }
+{
+    let left = site(alloc, left)?;
+    let left = people(alloc, left)?;
+    let left = network(alloc, left)?;
+    let left = steering(alloc, left)?;
+    public(alloc, left)
 }

@@ -1,5 +1,5 @@
 //! The state that a keeper's rows are those of.
-ghost use Rattle.std.specs.Prelude.{◌≡◌, ◌≤◌, ◌<◌, ◌^◌, ◌∷◌, ◌↔◌, [], ℕ, IfOk, IsOk, IfSome, IsErrOf, Err, IsTrue, None, Some, false, true, map};
+ghost use Rattle.std.specs.Prelude.{◌≡◌, ◌≤◌, ◌<◌, ◌^◌, ◌∷◌, ◌↔◌, [], ℕ, List, IfOk, IfErr, IsOk, IfSome, IsErrOf, Err, IsTrue, None, Some, false, true, map};
 ghost use Rattle.std.specs.List.Sorted.{IsPermutation};
 ghost use Rattle.std.specs.List.{AllByRecursion};
 ghost use Rattle.ixp_io.specs.Faults.{Rose};
@@ -8,7 +8,7 @@ ghost use Rattle.ixp_io.specs.Told.{WhereTold};
 ghost use Rattle.std.specs.FinMap.{empty};
 ghost use Rattle.ixp_opening.specs.Openings.{first_state};
 ghost use Rattle.ixp_steps.specs.declared.state.State.{State as Whole};
-ghost use Rattle.ixp_stored.specs.Names.{count_row};
+ghost use Rattle.ixp_stored.specs.Names.{Entry, count_row, version_row};
 ghost use Rattle.ixp_stored.specs.States.{set_row, stored_rows, tables};
 ghost use Rattle.ixp_registry.specs.Lookups.{has_owner};
 ghost use Rattle.ixp_registry.specs.Valid.{Valid};
@@ -17,54 +17,56 @@ ghost use Rattle.ixp_steps.specs.States.{ValidState};
 ghost use Rattle.ixp_tables.specs.Tables.{Ascends};
 ghost use Rattle.ixp_load.specs.Answers.{IsLoaded, IsStoreOf, TellsVersion, empty_registry};
 ghost use Rattle.ixp_load.specs.Loading.{kind_rows};
-ghost use Rattle.ixp_load.specs.Opening.{AreAllRows, IsFirstOrOf, IsTold, SaysVersion, is_count, is_old};
+ghost use Rattle.ixp_load.specs.Damages.{AreAllRight, TellsRow};
+ghost use Rattle.ixp_load.specs.Opening.{AreAllRows, IsFirstOrOf, IsTold, SaysVersion, entry_name, is_count, is_old, is_version};
 ghost use Rattle.ixp_load.specs.Sorting.{Same};
 ghost use Rattle.ixp_load.specs.Storing.{IsStorable};
 ghost use Rattle.ixp_load.specs.Keeping.{AreKept};
+ghost use Rattle.ixp_load.specs.Walking.{FindsCount, IsCounted, LoadTellsRow, LoadTellsWrong, Reached, TellsFirst, TellsWrong};
 ghost use Rattle.ixp_load.specs.declared.fault.LoadFault.TheVariants.{KeeperFault};
 
+use crate::breaking::sound_registry;
 use crate::checking::are_rows_of;
-use crate::decode::damaged;
+use crate::decode::{damaged, sets};
 use crate::dumped::registry_told;
 use crate::fault::{Damage, LoadFault, NoState};
 use crate::gathering::kept_told;
 use crate::keeper::read_rows;
 use crate::kept::behind_kept;
-use crate::lines::{Left, dump_of, registry_rows, row_at};
+use crate::lines::{Left, missing, registry_rows};
 use crate::words::number_of;
 use ixp_io::{Keeper, Row, RowName};
 use ixp_lists::Items;
 use ixp_opening::first_state;
 use ixp_places::has_owner;
 use ixp_registry::{Member, PublicLists, Registry, Site};
-use ixp_rows::{DumpFault, read_dump};
 use ixp_sorted::Sorted;
 use ixp_steps::{KeptOwner, State};
-use ixp_stored::{COUNT, VERSION};
+use ixp_stored::{COUNT, VERSION, set_count};
 use ixp_tables::Table;
 use std::alloc::{AllocError, Global};
 
-fn missing(alloc: Global, kind: u8) -> NoState {
-    NoState::Damaged {
-        name: RowName {
-            kind,
-            key: Items::new(alloc),
-        },
-        damage: Damage::Row,
-    }
+fn is_version(row: &Row) -> bool
+    ensures { result ≡ is_version row.now }
+{
+    row.name.kind == VERSION && row.name.key.is_empty()
 }
 
 /// The rows behind that of the version, which has to stand first.
-fn after_version(alloc: Global, rows: &[Row]) -> Result<Left<'_>, NoState> {
+fn after_version(alloc: Global, rows: &[Row]) -> Result<Left<'_>, NoState>
+    ensures first { IfOk result (λ left. map row_entry rows.now ≡ version_row ∷ map row_entry left.now) }
+    ensures told { Ascends entry_name (map row_entry rows.now) → IfErr result (TellsFirst (map row_entry rows.now)) }
+{
     let Some((row, others)) = rows.split_first() else {
         return Err(missing(alloc, VERSION));
     };
-    if row.name.kind != VERSION || !row.name.key.is_empty() {
+    if !is_version(row) {
         return Err(missing(alloc, VERSION));
     }
-    match row.body.as_slice() {
-        b"2" => Ok(others),
-        _ => Err(damaged(alloc, &row.name)),
+    if row.body.as_slice() == b"2".as_slice() {
+        Ok(others)
+    } else {
+        Err(damaged(alloc, &row.name))
     }
 }
 
@@ -88,8 +90,43 @@ fn count_in(rows: &[Row]) -> Option<u64>
     None
 }
 
+/// How many requests were accepted, by the row of the count.
+fn count_of(alloc: Global, row: &Row) -> Result<Option<u64>, AllocError>
+    ensures { IfOk result (FindsCount (row_entry row.now)) }
+{
+    if !is_count(row) {
+        return Ok(None);
+    }
+    let Some(accepted) = number_of(row.body.as_slice()) else {
+        return Ok(None);
+    };
+    let change = set_count(alloc, accepted)?;
+    if sets(&change, row) {
+        Ok(Some(accepted))
+    } else {
+        Ok(None)
+    }
+}
+
+/// How many requests were accepted, by the row of the count among these.
+fn count_told(alloc: Global, rows: &[Row]) -> Result<Option<u64>, AllocError>
+    ensures { IfOk result (IsCounted (map row_entry rows.now)) }
+{
+    let mut left = rows;
+    'rows: while let Some((row, others)) = left.split_first() {
+        if let Some(accepted) = count_of(alloc, row)? {
+            return Ok(Some(accepted));
+        }
+        left = others;
+    }
+    Ok(None)
+}
+
 /// The count's row has to be the last one.
-fn ends_with_count(alloc: Global, left: Left, count: Option<u64>) -> Result<(), NoState> {
+fn ends_with_count(alloc: Global, left: Left, count: Option<u64>) -> Result<(), NoState>
+    ensures right { (es : List Entry) → Reached 20 20 es (map row_entry left.now) → IsCounted es count → IsOk result → AreAllRight es }
+    ensures told { (es : List Entry) → Reached 20 20 es (map row_entry left.now) → IsCounted es count → IfErr result (TellsFirst es) }
+{
     let Some((row, others)) = left.split_first() else {
         return Err(missing(alloc, COUNT));
     };
@@ -99,39 +136,12 @@ fn ends_with_count(alloc: Global, left: Left, count: Option<u64>) -> Result<(), 
     if !is_count(row) {
         return Err(missing(alloc, COUNT));
     }
-    match (count, others.first()) {
-        (None, _) => Err(damaged(alloc, &row.name)),
-        (Some(_), Some(other)) => Err(damaged(alloc, &other.name)),
-        (Some(_), None) => Ok(()),
+    if count.is_none() {
+        return Err(damaged(alloc, &row.name));
     }
-}
-
-/// Whether rows in the order of their lines in a dump are those of a valid registry.
-fn sound_registry(alloc: Global, rows: &[&Row]) -> Result<(), NoState> {
-    let text = dump_of(alloc, rows)?;
-    match read_dump(alloc, text.as_slice()) {
-        Ok(_) => Ok(()),
-        Err(DumpFault::NoMemory) => Err(NoState::NoMemory),
-        Err(DumpFault::Invalid { rule, line }) => Err(broken(
-            alloc,
-            rows,
-            line,
-            Damage::Rule(rule),
-        )),
-        Err(DumpFault::BadLine { line })
-        | Err(DumpFault::Order { line })
-        | Err(DumpFault::Twice { line }) => Err(broken(alloc, rows, line, Damage::Row)),
-    }
-}
-
-/// The fault at a line of the dump of these rows.
-fn broken(alloc: Global, rows: &[&Row], line: usize, damage: Damage) -> NoState {
-    let Some(row) = row_at(rows, line) else {
-        return missing(alloc, VERSION);
-    };
-    match row.name.copied(alloc) {
-        Ok(name) => NoState::Damaged { name, damage },
-        Err(_) => NoState::NoMemory,
+    match others.split_first() {
+        Some((other, _)) => Err(damaged(alloc, &other.name)),
+        None => Ok(()),
     }
 }
 
@@ -188,22 +198,34 @@ fn told_by(alloc: Global, rows: &[Row]) -> Result<Option<State>, AllocError>
 }
 
 /// Why rows are no state's.
-fn damage_of(alloc: Global, rows: &[Row]) -> NoState {
+fn damage_of(alloc: Global, rows: &[Row]) -> NoState
+    ensures { Ascends entry_name (map row_entry rows.now) → TellsWrong (map row_entry rows.now) result }
+{
     match sound_rows(alloc, rows) {
         Ok(()) => missing(alloc, VERSION),
         Err(fault) => fault,
     }
 }
 
-/// Goes through the rows in the order of their names, and then through the rules of their registry, up to the first fault.
-fn sound_rows(alloc: Global, rows: &[Row]) -> Result<(), NoState> {
+/// Goes through the rows in the order of their names up to the first that is wrong.
+fn right_rows(alloc: Global, rows: &[Row]) -> Result<(), NoState>
+    ensures right { Ascends entry_name (map row_entry rows.now) → IsOk result → AreAllRight (map row_entry rows.now) }
+    ensures told { Ascends entry_name (map row_entry rows.now) → IfErr result (TellsFirst (map row_entry rows.now)) }
+{
     let left = after_version(alloc, rows)?;
-    let mut ordered = Vec::new(alloc);
-    let left = registry_rows(alloc, left, &mut ordered)?;
-    let count = count_in(rows);
-    let left = behind_kept(alloc, rows, left, count.unwrap_or(u64::MAX))?;
-    ends_with_count(alloc, left, count)?;
-    sound_registry(alloc, ordered.as_slice())
+    let left = registry_rows(alloc, left)?;
+    let count = count_told(alloc, rows)?;
+    let left = behind_kept(alloc, rows, left, count)?;
+    ends_with_count(alloc, left, count)
+}
+
+/// Goes through the rows, and then through the rules of their registry, up to the first fault.
+fn sound_rows(alloc: Global, rows: &[Row]) -> Result<(), NoState>
+    ensures right { Ascends entry_name (map row_entry rows.now) → IsOk result → AreAllRight (map row_entry rows.now) }
+    ensures told { Ascends entry_name (map row_entry rows.now) → IfErr result (TellsWrong (map row_entry rows.now)) }
+{
+    right_rows(alloc, rows)?;
+    sound_registry(alloc, rows)
 }
 
 /// The registry without rows.
@@ -261,6 +283,7 @@ fn state_of(alloc: Global, rows: &[Row]) -> Result<State, NoState>
     ensures valid { IfOk result ValidState }
     ensures same { IfOk result (λ s. IsPermutation (map set_row (stored_rows s)) (map set_row (map row_entry rows.now))) }
     ensures complete { (s : Whole) → ValidState s → IsStorable s → AreAllRows s (map row_entry rows.now) → IsTold s result }
+    ensures damage { Ascends entry_name (map row_entry rows.now) → IfErr result (TellsWrong (map row_entry rows.now)) }
 {
     match confirmed(alloc, rows)? {
         Some(state) => Ok(state),
@@ -292,6 +315,8 @@ fn opened(alloc: Global, rows: &[Row], beyond: Option<RowName>) -> Result<State,
     ensures cause { IsErrOf result KeeperFault → ⊥ }
     ensures nothing { rows.now ≡ [] → beyond ≡ None → IsLoaded (first_state empty_registry) result }
     ensures complete { (s : Whole) → ValidState s → IsStorable s → AreAllRows s (map row_entry rows.now) → is_old rows.now ≡ false → beyond ≡ None → IsLoaded s result }
+    ensures damage { Ascends entry_name (map row_entry rows.now) → beyond ≡ None → LoadTellsWrong (map row_entry rows.now) result }
+    ensures last { IfSome beyond (λ name. LoadTellsRow name result) }
 {
     if is_old(rows) {
         return Err(LoadFault::OldVersion { found: 1 });
@@ -319,6 +344,7 @@ pub fn load<P: Keeper>(alloc: Global, keeper: &mut P) -> Result<State, LoadFault
     ensures complete { (s : Whole) → ValidState s → IsStorable s → P.table keeper.old ≡ Some (tables s) → IsLoaded s result }
     ensures nothing { P.table keeper.old ≡ Some empty → IsLoaded (first_state empty_registry) result }
     ensures version { WhereTold (P.table keeper.old) (TellsVersion result) }
+    ensures damage { WhereTold (P.table keeper.old) (TellsRow result) }
     ensures kept { P.table keeper.new ≡ P.table keeper.old }
     ensures counts { P.faults keeper.old ≤ P.faults keeper.new }
     ensures cause { IsErrOf result KeeperFault → Rose (P.faults keeper.old) (P.faults keeper.new) }

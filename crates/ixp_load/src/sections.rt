@@ -9,7 +9,7 @@ ghost use Rattle.ixp_lines.specs.declared.version.Version.TheVariants.{Two};
 ghost use Rattle.ixp_lines.specs.Lines.{place_of};
 ghost use Rattle.ixp_stored.specs.Names.{Entry};
 ghost use Rattle.ixp_load.specs.Loading.{kind_rows, line_said, line_key, line_end, row_text};
-ghost use Rattle.ixp_load.specs.Placing.{placed_entry};
+ghost use Rattle.ixp_load.specs.Placing.{Adds, placed_entry, ref_entry};
 ghost use Rattle.ixp_load.specs.Sorting.{Rises, Same};
 
 use crate::decode::front_line;
@@ -103,6 +103,33 @@ pub(crate) fn put_section<R: Lined + Drop>(
         Some(mut placed) => {
             sort_placed(&mut placed);
             put_bodies(placed.as_slice(), out)?;
+            Ok(true)
+        }
+    }
+}
+
+fn add_rows<'a, R>(rows: &[Placed<'a, R>], ordered: &mut Vec<&'a Row>) -> Result<(), AllocError>
+    ensures { OnOk result (map ref_entry ordered.new.items ≡ map ref_entry ordered.old.items ++ map placed_entry rows.now) }
+{
+    for placed in rows {
+        ordered.push(placed.row)?;
+    }
+    Ok(())
+}
+
+/// Adds the rows of a kind, in the order of a dump; not where one of them begins with no line of the kind.
+pub(crate) fn add_section<'a, R: Lined + Drop>(
+    alloc: Global,
+    rows: &'a [Row],
+    ordered: &mut Vec<&'a Row>,
+) -> Result<bool, AllocError>
+    ensures { Adds R.Lined.row_kind (map row_entry rows.now) result (map ref_entry ordered.old.items) (map ref_entry ordered.new.items) }
+{
+    match placed_rows::<R>(alloc, rows)? {
+        None => Ok(false),
+        Some(mut placed) => {
+            sort_placed(&mut placed);
+            add_rows(placed.as_slice(), ordered)?;
             Ok(true)
         }
     }

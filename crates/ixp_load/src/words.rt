@@ -1,5 +1,5 @@
 //! Words of names and bodies.
-ghost use Rattle.std.specs.Prelude.{◌≡◌, ◌<◌, ◌^◌, ◌++◌, ◌∷◌, ℕ, List, Some, IfOk, decimal, find as first_with, false, true};
+ghost use Rattle.std.specs.Prelude.{◌≡◌, ◌<◌, ◌^◌, ◌++◌, ◌∷◌, ℕ, List, Some, IfOk, IfSome, decimal, find as first_with, false, true};
 ghost use Rattle.std.specs.List.{position, AllByRecursion};
 ghost use Rattle.ixp_lines.specs.Fields.{is_break};
 ghost use Rattle.ixp_lines.specs.Lines.{owner_word};
@@ -17,6 +17,7 @@ ghost use Rattle.ixp_steps.specs.Subjects.{public_word};
 ghost use Rattle.ixp_stored.specs.Names.{key_text, owner_fields, subject_text, kept_body};
 ghost use Rattle.ixp_tables.specs.Tables.{same};
 ghost use Rattle.ixp_load.specs.Storing.{form_of, HasForm, HasSubject};
+ghost use Rattle.ixp_load.specs.declared.words.Form.TheVariants.{OneNumber, RouterHandle, SharedList};
 
 use ixp_num::Name;
 use ixp_places::is_handle;
@@ -207,7 +208,8 @@ fn public_of(word: &[u8]) -> Option<PublicKind>
 
 #[tactic(auto, using(ixp_edits::proofs::Numbers::handle_is_name))]
 fn handle_of(alloc: Global, text: &[u8]) -> Result<Option<Subject>, AllocError>
-    ensures { is_handle text.now ≡ true → IfOk result (λ o. o ≡ Some (Handle text.now)) }
+    ensures told { is_handle text.now ≡ true → IfOk result (λ o. o ≡ Some (Handle text.now)) }
+    ensures form { IfOk result (λ o. IfSome o (HasForm RouterHandle)) }
 {
     if !is_handle(text) {
         return Ok(None);
@@ -242,7 +244,8 @@ fn form_of(kind: EditKind) -> Form
 /// A number, and the place behind it.
 #[tactic(auto, using(crate::proofs::WordTexts::small_unbroken))]
 fn number_at(text: &[u8]) -> Option<(Subject, u64)>
-    ensures { (n place : ℕ) → IsNumber n → place < 2 ^ 64 → text.now ≡ decimal n ++ 32 ∷ decimal place → result ≡ Some (Single n, place) }
+    ensures told { (n place : ℕ) → IsNumber n → place < 2 ^ 64 → text.now ≡ decimal n ++ 32 ∷ decimal place → result ≡ Some (Single n, place) }
+    ensures form { IfSome result (λ x. HasForm OneNumber x.0) }
 {
     let (word, last) = first_word(text);
     let Some(number) = small_of(word) else {
@@ -257,7 +260,8 @@ fn number_at(text: &[u8]) -> Option<(Subject, u64)>
 /// Two numbers, and the place behind them.
 #[tactic(auto, using(crate::proofs::WordTexts::small_unbroken, crate::proofs::WordTexts::pair_text))]
 fn pair_at(text: &[u8]) -> Option<(u32, u32, u64)>
-    ensures { (m n place : ℕ) → IsNumber m → IsNumber n → place < 2 ^ 64 → text.now ≡ (decimal m ++ 32 ∷ decimal n) ++ 32 ∷ decimal place → result ≡ Some (m, n, place) }
+    ensures told { (m n place : ℕ) → IsNumber m → IsNumber n → place < 2 ^ 64 → text.now ≡ (decimal m ++ 32 ∷ decimal n) ++ 32 ∷ decimal place → result ≡ Some (m, n, place) }
+    ensures small { IfSome result (λ x. IsNumber x.0 × IsNumber x.1) }
 {
     let (word, rest) = first_word(text);
     let Some(first) = small_of(word) else {
@@ -276,7 +280,8 @@ fn pair_at(text: &[u8]) -> Option<(u32, u32, u64)>
 /// A handle, and the place behind it.
 #[tactic(auto, using(crate::proofs::WordTexts::handle_unbroken))]
 fn handle_at(alloc: Global, text: &[u8]) -> Result<Option<(Subject, u64)>, AllocError>
-    ensures { (h : List ℕ) (place : ℕ) → is_handle h ≡ true → place < 2 ^ 64 → text.now ≡ h ++ 32 ∷ decimal place → IfOk result (λ o. o ≡ Some (Handle h, place)) }
+    ensures told { (h : List ℕ) (place : ℕ) → is_handle h ≡ true → place < 2 ^ 64 → text.now ≡ h ++ 32 ∷ decimal place → IfOk result (λ o. o ≡ Some (Handle h, place)) }
+    ensures form { IfOk result (λ o. IfSome o (λ x. HasForm RouterHandle x.0)) }
 {
     let (word, last) = first_word(text);
     let Some(place) = number_of(last) else {
@@ -290,7 +295,8 @@ fn handle_at(alloc: Global, text: &[u8]) -> Result<Option<(Subject, u64)>, Alloc
 
 /// The word of a public list, and the place behind it.
 fn public_at(text: &[u8]) -> Option<(Subject, u64)>
-    ensures { (p : Shared) (place : ℕ) → place < 2 ^ 64 → text.now ≡ public_word p ++ 32 ∷ decimal place → result ≡ Some (Public p, place) }
+    ensures told { (p : Shared) (place : ℕ) → place < 2 ^ 64 → text.now ≡ public_word p ++ 32 ∷ decimal place → result ≡ Some (Public p, place) }
+    ensures form { IfSome result (λ x. HasForm SharedList x.0) }
 {
     let (word, last) = first_word(text);
     match (public_of(word), number_of(last)) {
@@ -301,7 +307,8 @@ fn public_at(text: &[u8]) -> Option<(Subject, u64)>
 
 /// What an edit is about, and the place behind it.
 fn subject_at(alloc: Global, form: Form, text: &[u8]) -> Result<Option<(Subject, u64)>, AllocError>
-    ensures { (s : About) (place : ℕ) → HasForm form s → place < 2 ^ 64 → text.now ≡ subject_text s ++ 32 ∷ decimal place → IfOk result (λ o. o ≡ Some (s, place)) }
+    ensures told { (s : About) (place : ℕ) → HasForm form s → place < 2 ^ 64 → text.now ≡ subject_text s ++ 32 ∷ decimal place → IfOk result (λ o. o ≡ Some (s, place)) }
+    ensures form { IfOk result (λ o. IfSome o (λ x. HasForm form x.0)) }
 {
     match form {
         Form::OneNumber => Ok(number_at(text)),
@@ -329,7 +336,8 @@ pub(crate) fn request_of(
     alloc: Global,
     text: &[u8],
 ) -> Result<Option<(EditKind, Subject, u64)>, AllocError>
-    ensures { (k : Number) → HasSubject k → k.place < 2 ^ 64 → text.now ≡ kept_body k → IfOk result (λ o. o ≡ Some (k.kind, k.subject, k.place)) }
+    ensures told { (k : Number) → HasSubject k → k.place < 2 ^ 64 → text.now ≡ kept_body k → IfOk result (λ o. o ≡ Some (k.kind, k.subject, k.place)) }
+    ensures form { IfOk result (λ o. IfSome o (λ x. HasForm (form_of x.0) x.1)) }
 {
     let (word, rest) = first_word(text);
     let Some(kind) = kind_of(word) else {

@@ -1,4 +1,4 @@
-use Rattle.std.proofs.Common.{◌≡◌, ◌-◌, length}
+use Rattle.std.proofs.Common.{◌≡◌, ◌≤◌, ◌-◌, length}
 use Rattle.ixp_io.specs.Told.{WhereTold}
 use Rattle.ixp_load.specs.Reading.{IsFront}
 use Rattle.ixp_load.proofs.keeper.read_rows.Given as goal
@@ -7,6 +7,7 @@ abbrev pub invariant-rows : goal.invariant-rows
 invariant-rows g l = record {
   front : WhereTold (g.P.Keeper.table l.fn.keeper) (λ t. IsFront t l.rows.items);
   kept : g.P.Keeper.table l.keeper ≡ g.P.Keeper.table l.fn.keeper;
+  most : length l.rows.items ≤ 8000000;
   still : g.P.Keeper.faults l.keeper ≡ g.P.Keeper.faults l.fn.keeper;
 }
 

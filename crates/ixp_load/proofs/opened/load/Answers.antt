@@ -1,11 +1,13 @@
 use Rattle.std.proofs.Common.{◌≡◌, false, List, [], None, IfOk, map, subst}
 use Rattle.ixp_io.specs.Tables.{row_entry}
 use Rattle.ixp_io.specs.declared.keeper.Row.{Row}
+use Rattle.ixp_tables.specs.Tables.{Ascends}
 use Rattle.ixp_opening.specs.Openings.{first_state}
 use Rattle.ixp_load.specs.Answers.{IsLoaded, empty_registry}
-use Rattle.ixp_load.specs.Opening.{AreAllRows, IsFirstOrOf, SaysVersion, is_old}
+use Rattle.ixp_load.specs.Opening.{AreAllRows, IsFirstOrOf, SaysVersion, entry_name, is_old}
+use Rattle.ixp_load.specs.Walking.{LoadTellsWrong}
 use Rattle.ixp_load.proofs.VersionRow.{answer_told, version_told}
-use Rattle.ixp_load.proofs.WholeStates.{state_loaded, none_loaded}
+use Rattle.ixp_load.proofs.WholeStates.{damage_told, state_loaded, none_loaded}
 use Rattle.ixp_load.proofs.opened.load.Goals as goal
 
 pub returns-clause-state : goal.returns-clause-state
@@ -27,3 +29,8 @@ pub returns-clause-nothing : goal.returns-clause-nothing
 returns-clause-nothing g c = λ is.
     none_loaded _ c.in_ok-rows.rows.items c.in_ok-rows.beyond c.opened.result is c.in_ok-rows.ensures.all c.in_ok-rows.ensures.many
     (subst (λ (rs : List Row). rs ≡ [] → c.in_ok-rows.beyond ≡ None → IsLoaded (first_state empty_registry) c.opened.result) c.as_slice.ensures.value c.opened.ensures.nothing)
+
+pub returns-clause-damage : goal.returns-clause-damage
+returns-clause-damage g c =
+    damage_told _ c.in_ok-rows.rows.items c.in_ok-rows.beyond c.opened.result c.in_ok-rows.ensures.all c.in_ok-rows.ensures.beyond c.in_ok-rows.ensures.most (returns-clause-complete g c)
+    (subst (λ (rs : List Row). Ascends entry_name (map row_entry rs) → c.in_ok-rows.beyond ≡ None → LoadTellsWrong (map row_entry rs) c.opened.result) c.as_slice.ensures.value c.opened.ensures.damage) c.opened.ensures.last
