@@ -36,7 +36,7 @@ served_usage link.NoMemory n e = let bad : ⊥ = cc in bad
 
 -- a command ends otherwise than as usage
 no_usage : (i j k l : Flow) (s u : Store) → NotLoaded i j k l s u Usage → ⊥
-no_usage i j k l s u (input, output, rows, (fault, is, cause, version, loads)) = never_usage fault is
+no_usage i j k l s u (input, output, rows, (fault, is, cause, version, loads, row)) = never_usage fault is
 
 no_session : (i j k l : Flow) (s u : Store) (g h : Option ℕ) → SessionEnds i j k l s u g h Usage → ⊥
 no_session i j k l s u g h (inl (n, clock)) = no_usage i j k l s u n

@@ -59,7 +59,7 @@ served_version link.WriteFault n found e = let bad : ⊥ = cc in bad
 served_version link.NoMemory n found e = let bad : ⊥ = cc in bad
 
 unloaded_damage : (i j k l : Flow) (s u : Store) (what : List ℕ) → CanBeLoaded s → NotLoaded i j k l s u (Damaged what) → ⊥
-unloaded_damage i j k l s u what can (input, output, rows, (fault, is, cause, version, loads)) = no_damage fault what (of_store s fault can loads) is
+unloaded_damage i j k l s u what can (input, output, rows, (fault, is, cause, version, loads, row)) = no_damage fault what (of_store s fault can loads) is
 
 session_damage : (i j k l : Flow) (s u : Store) (g h : Option ℕ) (what : List ℕ) → CanBeLoaded s → SessionEnds i j k l s u g h (Damaged what) → ⊥
 session_damage i j k l s u g h what can (inl (n, clock)) = unloaded_damage i j k l s u what can n
@@ -75,7 +75,7 @@ ends_damage (Some (Demo members)) i j k l s u g h what can (e, input, kept, cloc
 ends_damage (Some Session) i j k l s u g h what can e = session_damage i j k l s u g h what can e
 
 unloaded_version : (i j k l : Flow) (s u : Store) (found : ℕ) → CanBeLoaded s → NotLoaded i j k l s u (OldVersion found) → ⊥
-unloaded_version i j k l s u found can (input, output, rows, (fault, is, cause, version, loads)) = no_version fault found (of_store s fault can loads) is
+unloaded_version i j k l s u found can (input, output, rows, (fault, is, cause, version, loads, row)) = no_version fault found (of_store s fault can loads) is
 
 session_version : (i j k l : Flow) (s u : Store) (g h : Option ℕ) (found : ℕ) → CanBeLoaded s → SessionEnds i j k l s u g h (OldVersion found) → ⊥
 session_version i j k l s u g h found can (inl (n, clock)) = unloaded_version i j k l s u found can n

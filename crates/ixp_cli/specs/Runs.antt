@@ -32,6 +32,7 @@ use Rattle.ixp_lines.specs.declared.version.Version.TheVariants.{Two}
 use Rattle.ixp_link.specs.declared.ends.Served.{Served}
 use Rattle.ixp_link.specs.Links.{Serves}
 use Rattle.ixp_load.specs.Answers.{IsStoreOf, LoadsAll, TellsVersion}
+use Rattle.ixp_load.specs.Damages.{TellsRow}
 use Rattle.ixp_load.specs.declared.fault.LoadFault.{LoadFault}
 use Rattle.ixp_load.specs.declared.fault.LoadFault.TheVariants.{KeeperFault as StoreFault}
 use Rattle.ixp_load.specs.Storing.{IsStorable}
@@ -236,12 +237,13 @@ RestoreEnds input input' output output' store store' (OldVersion found) = ⊥
 RestoreEnds input input' output output' store store' (BadLink code requests) = ⊥
 
 -- The store couldn't be loaded: nothing was read or written, and its rows are as they were. A fault of the store came in this run; an older version is told
--- where the row of the version says so, and damage nowhere there, nor where the rows are those of a state that requests lead to, or none.
+-- where the row of the version says so, and damage nowhere there, nor where the rows are those of a state that requests lead to, or none. The row that is
+-- told is the first that is wrong, or the one that breaks a rule.
 abbrev pub NotLoaded : Flow → Flow → Flow → Flow → Store → Store → End → Type 0
 NotLoaded input input' output output' store store' end =
     (input' ≡ input) × (output' ≡ output) × (store'.rows ≡ store.rows)
     × ((fault : LoadFault) × Unloaded fault end × (fault ≡ StoreFault → Rose store.faults store'.faults) × WhereTold store.rows (TellsVersion (Err fault))
-    × LoadsAll store.rows (Err fault))
+    × LoadsAll store.rows (Err fault) × WhereTold store.rows (TellsRow (Err fault)))
 
 -- the store has the rows of a state that requests lead to, or none
 abbrev pub CanBeLoaded : Store → Type 0

@@ -4,7 +4,7 @@ use Rattle.ixp_cli.proofs.Loading.{unloaded_dump}
 use Rattle.ixp_cli.proofs.dump.run_dump.Goals as goal
 
 pub returns-in-Err : goal.returns-in-Err
-returns-in-Err g c = unloaded_dump _ _ _ _ c.in-Err.fault _ c.in-Err.ensures.cause c.in-Err.ensures.version (record { whole = c.in-Err.ensures.complete; nothing = c.in-Err.ensures.nothing }) c.load.ensures.kept c.unloaded.ensures
+returns-in-Err g c = unloaded_dump _ _ _ _ c.in-Err.fault _ c.in-Err.ensures.cause c.in-Err.ensures.version (record { whole = c.in-Err.ensures.complete; nothing = c.in-Err.ensures.nothing }) c.in-Err.ensures.damage c.load.ensures.kept c.unloaded.ensures
 
 pub returns : goal.returns
 returns g c =

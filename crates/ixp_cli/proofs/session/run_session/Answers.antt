@@ -9,7 +9,7 @@ use Rattle.ixp_cli.proofs.Mapped.{serves}
 use Rattle.ixp_cli.proofs.session.run_session.Goals as goal
 
 pub returns-in-Err : goal.returns-in-Err
-returns-in-Err g c = inl (not_loaded _ _ _ _ c.in-Err.fault _ c.in-Err.ensures.cause c.in-Err.ensures.version (record { whole = c.in-Err.ensures.complete; nothing = c.in-Err.ensures.nothing }) c.load.ensures.kept c.unloaded.ensures, refl)
+returns-in-Err g c = inl (not_loaded _ _ _ _ c.in-Err.fault _ c.in-Err.ensures.cause c.in-Err.ensures.version (record { whole = c.in-Err.ensures.complete; nothing = c.in-Err.ensures.nothing }) c.in-Err.ensures.damage c.load.ensures.kept c.unloaded.ensures, refl)
 
 pub returns : goal.returns
 returns g c = inr (record {
