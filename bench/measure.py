@@ -29,15 +29,16 @@ def clock_time(ran):
     return ran.clock
 
 
-def run(words, given):
-    """Runs a program on a file."""
+def run(words, given, keep=True):
+    """Runs a program on a file. What it writes on its output is kept, or thrown away where it would be too much."""
     given.seek(0)
     with tempfile.NamedTemporaryFile("r") as taken:
-        ran = subprocess.run([sys.executable, __file__, taken.name] + words, stdin=given, stdout=subprocess.PIPE, stderr=subprocess.PIPE)
+        output = subprocess.PIPE if keep else subprocess.DEVNULL
+        ran = subprocess.run([sys.executable, __file__, taken.name] + words, stdin=given, stdout=output, stderr=subprocess.PIPE)
         if ran.returncode != 0:
             sys.stderr.write(ran.stderr.decode())
             ran.check_returncode()
-        return Measured(*json.load(taken), ran.stdout.decode(), ran.stderr.decode())
+        return Measured(*json.load(taken), ran.stdout.decode() if keep else "", ran.stderr.decode())
 
 
 def take(result, words):
@@ -50,12 +51,12 @@ def take(result, words):
     sys.exit(status)
 
 
-def measure(words, text="", runs=RUNS, by=processor_time):
+def measure(words, text="", runs=RUNS, by=processor_time, keep=True):
     """Runs a program some times on an input: the run that took the least time, of the processor if nothing else is said."""
     with tempfile.TemporaryFile() as given:
         given.write(text.encode())
         given.flush()
-        return min((run(words, given) for _ in range(runs)), key=by)
+        return min((run(words, given, keep) for _ in range(runs)), key=by)
 
 
 def bird_time(bird, text):
