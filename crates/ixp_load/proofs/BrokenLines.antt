@@ -1,29 +1,22 @@
 -- Which row has the line at which rows break a rule, and what faults tell.
-use Rattle.std.proofs.Common.{◌≡◌, inl, inr, ℕ, ◌<◌, ◌+◌, ◌-◌, true, false, if◌then◌else◌, List, [], ◌∷◌, ◌++◌, append-nil, append_assoc, Some, Err, refl, sym, ap, ◌∙◌, subst, arith}
-use Rattle.std.specs.List.Sorted.{IsPermutation}
+use Rattle.std.proofs.Common.{◌≡◌, inl, inr, ℕ, ◌<◌, ◌+◌, ◌-◌, true, false, if◌then◌else◌, List, [], ◌∷◌, ◌++◌, append-nil, append_assoc, refl, sym, ap, ◌∙◌, subst, arith}
 use Rattle.ixp_io.specs.declared.keeper.RowName.{RowName}
 use Rattle.ixp_registry.specs.declared.kind.Kind.{Kind}
-use Rattle.ixp_lines.specs.Lines.{place_of}
 use Rattle.ixp_lines.specs.declared.version.Version.TheVariants.{Two}
-use Rattle.ixp_rows.specs.declared.fault.DumpFault.TheVariants.{Invalid}
-use Rattle.ixp_registry.specs.Registries.{breach}
-use Rattle.ixp_rows.specs.Answers.{IsDump, row_lines}
-use Rattle.ixp_rows.specs.Dumps.{RegistryAnswer}
-use Rattle.ixp_rows.specs.Printing.{all_kinds}
 use Rattle.ixp_rows.specs.Reading.{breaks, head_text, end_text}
 use Rattle.ixp_rows.proofs.LinesAgain.{breaks_append}
 use Rattle.ixp_stored.specs.Names.{Entry, version_name}
 use Rattle.ixp_load.specs.declared.fault.Damage.TheVariants.{Row, Rule}
 use Rattle.ixp_load.specs.declared.fault.NoState.{NoState}
 use Rattle.ixp_load.specs.declared.fault.NoState.TheVariants.{Damaged, NoMemory}
-use Rattle.ixp_load.specs.Damages.{KindByKind, HasLine, IsFirstWrong, AreAllRight, entry_text, entries_text, entries_dump, has_whole_lines}
-use Rattle.ixp_load.specs.Loading.{kind_rows}
-use Rattle.ixp_load.specs.Walking.{IsRowFault, TellsFirst, TellsLine, TellsRule, TellsWrong}
+use Rattle.ixp_load.specs.Damages.{HasLine, IsFirstWrong, AreAllRight, BreaksNone, entry_text, entries_text, entries_dump, has_whole_lines}
+use Rattle.ixp_load.specs.Placing.{IsSection, AreSections}
+use Rattle.ixp_load.specs.Walking.{IsRowFault, TellsFirst, TellsRule, TellsWrong}
 
 -- rows of one kind more
 pub kind_step :
-    (es : List Entry) (kind : Kind) (kinds : List Kind) (old new : List Entry) (P : List Entry → Type 0) → ((own : List Entry) → KindByKind es (kind ∷ kinds) own → P (old ++ own))
-    → (own : List Entry) × IsPermutation (kind_rows (place_of kind) es) own × (new ≡ old ++ own) → (own : List Entry) → KindByKind es kinds own → P (new ++ own)
+    (es : List Entry) (kind : Kind) (kinds : List Kind) (old new : List Entry) (P : List Entry → Type 0) → ((own : List Entry) → AreSections es (kind ∷ kinds) own → P (old ++ own))
+    → (own : List Entry) × IsSection es kind own × (new ≡ old ++ own) → (own : List Entry) → AreSections es kinds own → P (new ++ own)
 kind_step es kind kinds old new P all added own are =
     subst P (sym (ap (λ l. l ++ own) added.2 ∙ append_assoc old added.0 own)) (all (added.0 ++ own) (added.0, own, added.1, are, refl))
 
@@ -78,29 +71,6 @@ skip_found ordered e rest line skip s lt = record {
 }
 
 -- What faults tell
-pub rule_broken : (es ordered : List Entry) (t : List ℕ) (rule line : ℕ) (fault : NoState) → KindByKind es all_kinds ordered → t ≡ entries_dump ordered → RegistryAnswer Two t (Err (Invalid rule line)) → TellsLine ordered line rule fault → TellsRule es fault
-rule_broken es ordered t rule line (Damaged name Row) kinds text answer tells = tells
-rule_broken es ordered t rule line (Damaged name (Rule told)) kinds text answer tells = record {
-  ordered = ordered;
-  kinds = kinds;
-  rows = answer.0;
-  dump = subst (λ u. IsDump Two (row_lines Two answer.0) u) text answer.1.0;
-  line = line;
-  broken = subst (λ r. breach answer.0 ≡ Some (record { rule = r; line = line })) tells.1 answer.2;
-  at = tells.0;
-}
-rule_broken es ordered t rule line NoMemory kinds text answer tells = tt
-
-pub row_rule : (es : List Entry) (fault : NoState) → IsRowFault version_name fault → TellsRule es fault
-row_rule es (Damaged told Row) is = sym is
-row_rule es (Damaged told (Rule rule)) is = absurd is
-row_rule es NoMemory is = tt
-
-pub row_line : (ordered : List Entry) (line rule : ℕ) (fault : NoState) → IsRowFault version_name fault → TellsLine ordered line rule fault
-row_line ordered line rule (Damaged told Row) is = sym is
-row_line ordered line rule (Damaged told (Rule other)) is = absurd is
-row_line ordered line rule NoMemory is = tt
-
 pub first_told : (es : List Entry) (name : RowName) (fault : NoState) → IsRowFault name fault → IsFirstWrong es name → TellsFirst es fault
 first_told es name (Damaged told Row) is first = subst (IsFirstWrong es) is first
 first_told es name (Damaged told (Rule rule)) is first = absurd is
@@ -112,11 +82,11 @@ first_wrong es (Damaged name (Rule rule)) first = absurd first
 first_wrong es NoMemory first = tt
 
 pub rule_wrong : (es : List Entry) (fault : NoState) → AreAllRight es → TellsRule es fault → TellsWrong es fault
-rule_wrong es (Damaged name Row) right rule = inr (right, rule)
+rule_wrong es (Damaged name Row) right rule = absurd rule
 rule_wrong es (Damaged name (Rule told)) right rule = (right, rule)
 rule_wrong es NoMemory right rule = tt
 
-pub row_wrong : (es : List Entry) (fault : NoState) → AreAllRight es → IsRowFault version_name fault → TellsWrong es fault
-row_wrong es (Damaged told Row) right is = inr (right, sym is)
-row_wrong es (Damaged told (Rule rule)) right is = absurd is
-row_wrong es NoMemory right is = tt
+pub row_wrong : (es : List Entry) (fault : NoState) → AreAllRight es → BreaksNone es → IsRowFault version_name fault → TellsWrong es fault
+row_wrong es (Damaged told Row) right none is = inr (right, none, sym is)
+row_wrong es (Damaged told (Rule rule)) right none is = absurd is
+row_wrong es NoMemory right none is = tt

@@ -1,5 +1,7 @@
 pub mod Batches
+pub mod BreachLines
 pub mod BrokenLines
+pub mod DumpOfRows
 pub mod Ends
 pub mod Faults
 pub mod FaultsTold
@@ -13,6 +15,7 @@ pub mod LineRows
 pub mod Nothing
 pub mod Placing
 pub mod Reading
+pub mod RowLines
 pub mod RowsByKind
 pub mod SameRows
 pub mod Searching

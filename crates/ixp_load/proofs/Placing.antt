@@ -51,16 +51,22 @@ flat_after f g [] = refl
 flat_after f g (x ∷ xs) = ap (λ t. g (f x) ++ t) (flat_after f g xs)
 
 -- rows of a kind that were put into the order of their lines
+pub sorted_rises :
+    {R : Type 0} (kind : Kind) (fields : R → List Field) (key : R → List ℕ) (keyed : (x : R) → key_in kind (fields x) ≡ key x) (placed sorted : List (Placed R))
+    → AllByRecursion (λ p. line_said kind (placed_entry p) ≡ Some (fields p.line)) placed → IsPermutation placed sorted → Rises (λ p. key p.line) sorted → Rises (line_key kind) (map placed_entry sorted)
+sorted_rises kind fields key keyed placed sorted said moved rises =
+    let said_too : AllByRecursion (λ p. line_said kind (placed_entry p) ≡ Some (fields p.line)) sorted =
+    recursion_from_All (λ p. line_said kind (placed_entry p) ≡ Some (fields p.line)) sorted (All-permutation (λ p. line_said kind (placed_entry p) ≡ Some (fields p.line)) placed sorted moved (All-from_recursion (λ p. line_said kind (placed_entry p) ≡ Some (fields p.line)) placed said)) in
+    let keys : AllByRecursion (λ p. line_key kind (placed_entry p) ≡ key p.line) sorted =
+    all_weaker (λ p. line_said kind (placed_entry p) ≡ Some (fields p.line)) (λ p. line_key kind (placed_entry p) ≡ key p.line) (λ p e. ap (key_said kind) e ∙ keyed p.line) sorted said_too in
+    rises_mapped placed_entry (λ p. key p.line) (line_key kind) sorted keys rises
+
 pub in_order :
     {R : Type 0} (kind : Kind) (k : ℕ) (fields : R → List Field) (key : R → List ℕ) (keyed : (x : R) → key_in kind (fields x) ≡ key x) (placed sorted : List (Placed R)) (whole es : List Entry)
     → map placed_entry placed ≡ kind_rows k whole → AllByRecursion (λ p. line_said kind (placed_entry p) ≡ Some (fields p.line)) placed → IsPermutation placed sorted → Rises (λ p. key p.line) sorted
     → Same (kind_rows k whole) es → Pairs (λ a b. a ≢ b) whole → Ascends (line_key kind) es → flat_map (λ p. row_text kind (placed_entry p)) sorted ≡ flat_map (row_text kind) es
 in_order kind k fields key keyed placed sorted whole es are said moved rises same apart up =
-    let said_too : AllByRecursion (λ p. line_said kind (placed_entry p) ≡ Some (fields p.line)) sorted =
-    recursion_from_All (λ p. line_said kind (placed_entry p) ≡ Some (fields p.line)) sorted (All-permutation (λ p. line_said kind (placed_entry p) ≡ Some (fields p.line)) placed sorted moved (All-from_recursion (λ p. line_said kind (placed_entry p) ≡ Some (fields p.line)) placed said)) in
-    let keys : AllByRecursion (λ p. line_key kind (placed_entry p) ≡ key p.line) sorted =
-    all_weaker (λ p. line_said kind (placed_entry p) ≡ Some (fields p.line)) (λ p. line_key kind (placed_entry p) ≡ key p.line) (λ p e. ap (key_said kind) e ∙ keyed p.line) sorted said_too in
     let ordered : map placed_entry sorted ≡ es =
     one_order (line_key kind) (kind_rows k whole) (map placed_entry sorted) es (subst (λ l. IsPermutation l (map placed_entry sorted)) are (IsPermutation-map placed_entry placed sorted moved))
-    (rises_mapped placed_entry (λ p. key p.line) (line_key kind) sorted keys rises) (pairs_filter (λ a b. a ≢ b) (λ e. e.0.kind == k) whole apart) up same in
+    (sorted_rises kind fields key keyed placed sorted said moved rises) (pairs_filter (λ a b. a ≢ b) (λ e. e.0.kind == k) whole apart) up same in
     flat_after placed_entry (row_text kind) sorted ∙ ap (flat_map (row_text kind)) ordered

@@ -17,11 +17,11 @@ use Rattle.ixp_rows.proofs.LinesAgain.{after_again, breaks_append, line_breaks}
 use Rattle.ixp_stored.specs.Names.{Entry, fields_row, line_body}
 use Rattle.ixp_load.specs.Loading.{front_at, line_said, line_key, key_said, line_end, row_text, AreLines}
 
-abbrev Said : Option (List Field × List ℕ) → Option (List Field)
+abbrev pub Said : Option (List Field × List ℕ) → Option (List Field)
 Said o = option_map (λ x. x.0) o
 
 -- the fields of a line that stands first
-front_told : (kind : Kind) (ds : List Field) (more : List ℕ) → AllFit (form_of Two kind) ds → Said (front_at kind (text_of kind ds ++ more)) ≡ Some ds
+pub front_told : (kind : Kind) (ds : List Field) (more : List ℕ) → AllFit (form_of Two kind) ds → Said (front_at kind (text_of kind ds ++ more)) ≡ Some ds
 front_told kind ds more fits =
     ap (λ t. Said (front_at kind t)) (append_assoc (word_of kind) (spelled ds) more)
     ∙ (ap (λ o. Said (o >>= fields_at (form_of Two kind))) (after_again (word_of kind) (spelled ds ++ more))
@@ -30,7 +30,7 @@ front_told kind ds more fits =
 pub body_text : (kind : Kind) (ds : List Field) → line_body kind ds ++ 10 ∷ [] ≡ text_of kind ds
 body_text kind ds = append_assoc (word_of kind) (flat_map (λ field. 32 ∷ field_text field) ds) (10 ∷ [])
 
-row_told : (kind : Kind) (ds : List Field) → AllFit (form_of Two kind) ds → line_said kind (fields_row kind ds) ≡ Some ds
+pub row_told : (kind : Kind) (ds : List Field) → AllFit (form_of Two kind) ds → line_said kind (fields_row kind ds) ≡ Some ds
 unfolding line_said fields_row
 row_told kind ds fits = ap (λ t. Said (front_at kind t)) (body_text kind ds ∙ sym (append-nil (text_of kind ds))) ∙ front_told kind ds [] fits
 

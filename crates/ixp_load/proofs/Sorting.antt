@@ -44,7 +44,7 @@ module _ {X : Type 0} where
   same_over xs ys zs s t = record { to = λ x has. t.to x (s.to x has); back = λ x has. s.back x (t.back x has) }
 
   -- items that pass a test
-  filter_has : (p : X → Bool) (xs : List X) (x : X) → Has (filter p xs) x → Has xs x × (p x ≡ true)
+  pub filter_has : (p : X → Bool) (xs : List X) (x : X) → Has (filter p xs) x → Has xs x × (p x ≡ true)
   filter_has p [] x has = absurd has
   filter_has p (y ∷ ys) x has = by_test (p y) refl (filter_has p ys x) has
     where
@@ -53,7 +53,7 @@ module _ {X : Type 0} where
       by_test true e more (inr has) = (inr (more has).0, (more has).1)
       by_test false e more has = (inr (more has).0, (more has).1)
 
-  has_filter : (p : X → Bool) (xs : List X) (x : X) → Has xs x → p x ≡ true → Has (filter p xs) x
+  pub has_filter : (p : X → Bool) (xs : List X) (x : X) → Has xs x → p x ≡ true → Has (filter p xs) x
   has_filter p [] x has e = absurd has
   has_filter p (y ∷ ys) x has e = by_test (p y) refl (λ h. has_filter p ys x h e) has
     where
@@ -117,7 +117,7 @@ module _ {X : Type 0} where
         each [] a b = tt
         each (y ∷ ys) a b = (apart_below x y a.0 b.0, each ys a.1 b.1)
 
-    flips : (x y : X) → same (key x) (key y) ≡ same (key y) (key x)
+    pub flips : (x y : X) → same (key x) (key y) ≡ same (key y) (key x)
     flips x y = by_both (same (key x) (key y)) (same (key y) (key x)) refl refl
       where
         turn : (a b : List ℕ) → same a b ≡ true → same b a ≡ true
@@ -137,7 +137,7 @@ module _ {X : Type 0} where
     one_item (z ∷ zs) up x y (inr more) (inr others) e = one_item zs up.1 x y more others e
 
     -- different items of such a list have different keys
-    keys_apart : (ys : List X) → Ascends key ys → (xs : List X) → Pairs (λ a b. a ≢ b) xs → ((x : X) → Has xs x → Has ys x) → IsDistinct (distinct_by key) xs
+    pub keys_apart : (ys : List X) → Ascends key ys → (xs : List X) → Pairs (λ a b. a ≢ b) xs → ((x : X) → Has xs x → Has ys x) → IsDistinct (distinct_by key) xs
     unfolding IsDistinct
     keys_apart ys up [] apart there = tt
     keys_apart ys up (x ∷ xs) apart there =

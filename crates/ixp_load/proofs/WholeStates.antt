@@ -44,7 +44,7 @@ sorted_up [] h = tt
 sorted_up (e ∷ es) h =
     (all_weaker (λ x. T (is_lt (name_cmp e.0 x.0))) (λ x. order (entry_name e) (entry_name x) ≡ Less) (λ x l. less_of _ l) es (all_above e.0 es (first_of _ _ h)), sorted_up es (second_of _ _ h))
 
-up_apart : (es : List Entry) → Ascends entry_name es → Pairs (λ a b. a ≢ b) es
+pub up_apart : (es : List Entry) → Ascends entry_name es → Pairs (λ a b. a ≢ b) es
 up_apart [] up = tt
 up_apart (e ∷ es) up = (all_weaker (λ x. order (entry_name e) (entry_name x) ≡ Less) (λ x. e ≢ x) (λ x less is. never e x less is) es up.0, up_apart es up.1)
   where

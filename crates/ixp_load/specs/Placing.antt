@@ -1,5 +1,6 @@
 -- Rows of a store with the lines that their bodies begin with. Nobody needs to believe these: they serve proofs.
-use Rattle.std.specs.Prelude.{◌≡◌, ◌++◌, List, Result, IfOk, IsTrue, Bool}
+use Rattle.std.specs.Prelude.{◌≡◌, ◌++◌, List, [], ◌∷◌, Result, IfOk, IsSome, IsTrue, Bool}
+use Rattle.std.specs.List.{AllByRecursion}
 use Rattle.std.specs.List.Sorted.{IsPermutation}
 use Rattle.ixp_io.specs.declared.keeper.Row.{Row}
 use Rattle.ixp_io.specs.Tables.{row_entry}
@@ -7,8 +8,8 @@ use Rattle.ixp_lines.specs.Lines.{place_of}
 use Rattle.ixp_registry.specs.declared.kind.Kind.{Kind}
 use Rattle.ixp_stored.specs.Names.{Entry}
 use Rattle.ixp_load.specs.declared.sections.Placed.{Placed}
-use Rattle.ixp_load.specs.Damages.{KindByKind}
-use Rattle.ixp_load.specs.Loading.{kind_rows}
+use Rattle.ixp_load.specs.Loading.{kind_rows, line_key, line_said}
+use Rattle.ixp_load.specs.Sorting.{Rises}
 use denote.Ref.{Bor}
 
 -- the row
@@ -18,9 +19,23 @@ placed_entry p = row_entry p.row.now
 abbrev pub ref_entry : Bor Row → Entry
 ref_entry r = row_entry r.now
 
--- the rows of a kind were added in some order
+-- the rows of a kind, in the order of their lines
+pub record IsSection (es : List Entry) (kind : Kind) (own : List Entry) : Type 0 where
+  pub moved : IsPermutation (kind_rows (place_of kind) es) own
+  pub rises : Rises (line_key kind) own
+
+-- kind by kind
+abbrev pub AreSections : List Entry → List Kind → List Entry → Type 0
+AreSections es [] ordered = ordered ≡ []
+AreSections es (kind ∷ kinds) ordered = (own : List Entry) × (others : List Entry) × IsSection es kind own × AreSections es kinds others × (ordered ≡ own ++ others)
+
+-- each row of the kind begins with a line of it
+abbrev pub AllSaid : List Entry → Kind → Type 0
+AllSaid es kind = AllByRecursion (λ e. IsSome (line_said kind e)) (kind_rows (place_of kind) es)
+
+-- the rows of a kind were added in the order of their lines, where each of them begins with one
 abbrev pub Adds : {E : Type 0} → Kind → List Entry → Result Bool E → List Entry → List Entry → Type 0
-Adds kind es result old new = IfOk result (λ done. IsTrue done → (own : List Entry) × IsPermutation (kind_rows (place_of kind) es) own × (new ≡ old ++ own))
+Adds kind es result old new = AllSaid es kind → IfOk result (λ done. IsTrue done × ((own : List Entry) × IsSection es kind own × (new ≡ old ++ own)))
 
 abbrev pub AddsKinds : {E : Type 0} → List Kind → List Entry → Result Bool E → List Entry → List Entry → Type 0
-AddsKinds kinds es result old new = IfOk result (λ done. IsTrue done → (own : List Entry) × KindByKind es kinds own × (new ≡ old ++ own))
+AddsKinds kinds es result old new = ((kind : Kind) → AllSaid es kind) → IfOk result (λ done. IsTrue done × ((own : List Entry) × AreSections es kinds own × (new ≡ old ++ own)))

@@ -10,12 +10,17 @@ use Rattle.ixp_tables.specs.Tables.{order, Ascends, find}
 use Rattle.ixp_registry.specs.declared.kind.Kind.{Kind}
 use Rattle.ixp_registry.specs.declared.kind.Kind.TheVariants.{Sites, Prefixes, Origins}
 use Rattle.ixp_registry.specs.declared.members.Owner.{Owner}
+use Rattle.ixp_registry.specs.declared.registry.Registry.{Registry}
+use Rattle.ixp_registry.specs.Registries.{rows_of}
+use Rattle.ixp_registry.specs.Valid.{Valid}
 use Rattle.ixp_registry.specs.Widths.{IsNumber, owner_number}
 use Rattle.ixp_registry.specs.Words.{owner_numbers}
 use Rattle.ixp_lines.specs.declared.version.Version.TheVariants.{Two}
 use Rattle.ixp_lines.specs.Fields.{Field, AllFit}
 use Rattle.ixp_lines.specs.Lines.{form_of, text_of}
+use Rattle.ixp_rows.specs.Printing.{all_kinds}
 use Rattle.ixp_rows.specs.Reading.{key_in}
+use Rattle.ixp_rows.specs.Texts.{dump_text}
 use Rattle.ixp_steps.specs.declared.kept.KeptNumber.{KeptNumber}
 use Rattle.ixp_steps.specs.declared.kept.KeptOwner.{KeptOwner}
 use Rattle.ixp_steps.specs.declared.state.State.{State}
@@ -27,8 +32,9 @@ use Rattle.ixp_load.specs.declared.fault.LoadFault.TheVariants as load
 use Rattle.ixp_load.specs.declared.fault.NoState.{NoState}
 use Rattle.ixp_load.specs.declared.fault.NoState.TheVariants.{Damaged, NoMemory}
 use Rattle.ixp_load.specs.declared.kept.Run.{Run}
-use Rattle.ixp_load.specs.Damages.{HasName, IsOwner, SaysFloor, SaysKept, EndsWithKept, IsFloorRow, IsKeptRow, AreRows, IsFirstWrong, HasLine, BreaksRule, TellsDamage}
+use Rattle.ixp_load.specs.Damages.{HasName, IsOwner, SaysFloor, SaysKept, EndsWithKept, IsFloorRow, IsKeptRow, AreRows, IsFirstWrong, HasLine, BreaksRule, TellsDamage, entries_dump}
 use Rattle.ixp_load.specs.Opening.{entry_name}
+use Rattle.ixp_load.specs.Placing.{AreSections}
 use Rattle.ixp_load.specs.Sorting.{Has}
 
 -- the fault tells this row
@@ -43,17 +49,25 @@ TellsFirst es (Damaged name damage.Row) = IsFirstWrong es name
 TellsFirst es (Damaged name (damage.Rule rule)) = ⊥
 TellsFirst es NoMemory = Unit {0}
 
--- the fault tells this rule, and the row that has the line of the dump of these rows; else the row of the version
+-- the fault tells this rule, and the row that has the line of the dump of these rows
 abbrev pub TellsLine : List Entry → ℕ → ℕ → NoState → Type 0
 TellsLine ordered line rule (Damaged name (damage.Rule told)) = HasLine ordered name line × (rule ≡ told)
-TellsLine ordered line rule (Damaged name damage.Row) = name ≡ version_name
+TellsLine ordered line rule (Damaged name damage.Row) = ⊥
 TellsLine ordered line rule NoMemory = Unit {0}
 
--- where the fault tells a rule, it's the one that is broken; else it tells the row of the version
+-- the fault tells the rule that is broken
 abbrev pub TellsRule : List Entry → NoState → Type 0
 TellsRule es (Damaged name (damage.Rule rule)) = BreaksRule es name rule
-TellsRule es (Damaged name damage.Row) = name ≡ version_name
+TellsRule es (Damaged name damage.Row) = ⊥
 TellsRule es NoMemory = Unit {0}
+
+-- in the order in which they are a dump, the rows of lines are those of a valid registry
+pub record TellsRegistry (es : List Entry) : Type 0 where
+  pub ordered : List Entry
+  pub are : AreSections es all_kinds ordered
+  pub registry : Registry
+  pub valid : Valid registry
+  pub text : entries_dump ordered ≡ dump_text Two (rows_of registry)
 
 -- the fault tells what is damaged
 abbrev pub TellsWrong : List Entry → NoState → Type 0

@@ -1,12 +1,14 @@
 //! The first rule that the rows of a registry break, and the row that breaks it.
-ghost use Rattle.std.specs.Prelude.{◌≡◌, ◌++◌, List, IfOk, IfErr, IfSome, OnOk, map};
+ghost use Rattle.std.specs.Prelude.{◌≡◌, ◌++◌, ◌+◌, ◌<◌, ◌≤◌, List, IfOk, IfErr, IfSome, IsOk, IsSome, OnOk, map};
 ghost use Rattle.ixp_io.specs.Tables.{row_entry};
+ghost use Rattle.ixp_tables.specs.Tables.{Ascends};
 ghost use Rattle.ixp_rows.specs.Reading.{breaks};
 ghost use Rattle.ixp_rows.specs.Printing.{all_kinds};
 ghost use Rattle.ixp_stored.specs.Names.{Entry};
-ghost use Rattle.ixp_load.specs.Damages.{HasLine, KindByKind, entries_dump, entries_text, entry_text, has_whole_lines};
-ghost use Rattle.ixp_load.specs.Placing.{Adds, AddsKinds, ref_entry};
-ghost use Rattle.ixp_load.specs.Walking.{TellsLine, TellsRule};
+ghost use Rattle.ixp_load.specs.Damages.{AreAllRight, HasLine, entries_dump, entries_text, entry_text, has_whole_lines};
+ghost use Rattle.ixp_load.specs.Opening.{entry_name};
+ghost use Rattle.ixp_load.specs.Placing.{Adds, AddsKinds, AreSections, ref_entry};
+ghost use Rattle.ixp_load.specs.Walking.{TellsLine, TellsRegistry, TellsRule};
 
 use crate::dumped::{KINDS, breaks, put_end};
 use crate::fault::{Damage, NoState};
@@ -124,7 +126,8 @@ fn dump_of(alloc: Global, rows: &[&Row]) -> Result<Vec<u8>, AllocError>
 
 /// The row that has the line of the dump of these rows. The first row's is line 2.
 fn row_at<'a>(rows: &[&'a Row], line: usize) -> Option<&'a Row>
-    ensures { IfSome result (λ row. HasLine (map ref_entry rows.now) row.now.name line) }
+    ensures line { IfSome result (λ row. HasLine (map ref_entry rows.now) row.now.name line) }
+    ensures some { 2 ≤ line → line < breaks (entries_text (map ref_entry rows.now)) + 2 → IsSome result }
 {
     let mut skip = line.checked_sub(2)?;
     for row in rows {
@@ -139,7 +142,7 @@ fn row_at<'a>(rows: &[&'a Row], line: usize) -> Option<&'a Row>
 
 /// The fault of a rule that the rows break at this line of their dump.
 fn broken(alloc: Global, rows: &[&Row], line: usize, rule: u32) -> NoState
-    ensures { TellsLine (map ref_entry rows.now) line rule result }
+    ensures { 2 ≤ line → line < breaks (entries_text (map ref_entry rows.now)) + 2 → TellsLine (map ref_entry rows.now) line rule result }
 {
     let Some(row) = row_at(rows, line) else {
         return missing(alloc, VERSION);
@@ -155,20 +158,24 @@ fn broken(alloc: Global, rows: &[&Row], line: usize, rule: u32) -> NoState
 
 /// Whether rows in the order of their lines in a dump are those of a valid registry.
 fn are_sound(alloc: Global, rows: &[&Row]) -> Result<(), NoState>
-    ensures { (es : List Entry) → KindByKind es all_kinds (map ref_entry rows.now) → IfErr result (TellsRule es) }
+    ensures sound { (es : List Entry) → AreSections es all_kinds (map ref_entry rows.now) → IsOk result → TellsRegistry es }
+    ensures broken { (es : List Entry) → Ascends entry_name es → AreAllRight es → AreSections es all_kinds (map ref_entry rows.now) → IfErr result (TellsRule es) }
 {
     let text = dump_of(alloc, rows)?;
     match read_dump(alloc, text.as_slice()) {
         Ok(_) => Ok(()),
         Err(DumpFault::NoMemory) => Err(NoState::NoMemory),
         Err(DumpFault::Invalid { rule, line }) => Err(broken(alloc, rows, line, rule)),
-        Err(_) => Err(missing(alloc, VERSION)),
+        Err(DumpFault::BadLine { .. }) => Err(missing(alloc, VERSION)),
+        Err(DumpFault::Order { .. }) => Err(missing(alloc, VERSION)),
+        Err(DumpFault::Twice { .. }) => Err(missing(alloc, VERSION)),
     }
 }
 
 /// Whether the rows of a registry among these are those of a valid one.
 pub(crate) fn sound_registry(alloc: Global, rows: &[Row]) -> Result<(), NoState>
-    ensures { IfErr result (TellsRule (map row_entry rows.now)) }
+    ensures sound { Ascends entry_name (map row_entry rows.now) → AreAllRight (map row_entry rows.now) → IsOk result → TellsRegistry (map row_entry rows.now) }
+    ensures broken { Ascends entry_name (map row_entry rows.now) → AreAllRight (map row_entry rows.now) → IfErr result (TellsRule (map row_entry rows.now)) }
 {
     let mut ordered = Vec::new(alloc);
     if add_kinds(alloc, &KINDS, rows, &mut ordered)? {

@@ -22,7 +22,7 @@ ghost use Rattle.ixp_load.specs.Opening.{AreAllRows, IsFirstOrOf, IsTold, SaysVe
 ghost use Rattle.ixp_load.specs.Sorting.{Same};
 ghost use Rattle.ixp_load.specs.Storing.{IsStorable};
 ghost use Rattle.ixp_load.specs.Keeping.{AreKept};
-ghost use Rattle.ixp_load.specs.Walking.{FindsCount, IsCounted, LoadTellsRow, LoadTellsWrong, Reached, TellsFirst, TellsWrong};
+ghost use Rattle.ixp_load.specs.Walking.{FindsCount, IsCounted, LoadTellsRow, LoadTellsWrong, Reached, TellsFirst, TellsRegistry, TellsWrong};
 ghost use Rattle.ixp_load.specs.declared.fault.LoadFault.TheVariants.{KeeperFault};
 
 use crate::breaking::sound_registry;
@@ -222,6 +222,7 @@ fn right_rows(alloc: Global, rows: &[Row]) -> Result<(), NoState>
 /// Goes through the rows, and then through the rules of their registry, up to the first fault.
 fn sound_rows(alloc: Global, rows: &[Row]) -> Result<(), NoState>
     ensures right { Ascends entry_name (map row_entry rows.now) → IsOk result → AreAllRight (map row_entry rows.now) }
+    ensures sound { Ascends entry_name (map row_entry rows.now) → IsOk result → TellsRegistry (map row_entry rows.now) }
     ensures told { Ascends entry_name (map row_entry rows.now) → IfErr result (TellsWrong (map row_entry rows.now)) }
 {
     right_rows(alloc, rows)?;
