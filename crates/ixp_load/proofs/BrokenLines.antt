@@ -1,15 +1,15 @@
 -- Which row has the line at which rows break a rule, and what faults tell.
-use Rattle.std.proofs.Common.{◌≡◌, inl, inr, ℕ, ◌<◌, ◌+◌, ◌-◌, true, false, if◌then◌else◌, List, [], ◌∷◌, ◌++◌, append-nil, append_assoc, refl, sym, ap, ◌∙◌, subst, arith}
+use Rattle.std.proofs.Common.{◌≡◌, ℕ, ◌<◌, ◌+◌, ◌-◌, true, false, if◌then◌else◌, List, [], ◌∷◌, ◌++◌, append-nil, append_assoc, refl, sym, ap, ◌∙◌, subst, arith}
 use Rattle.ixp_io.specs.declared.keeper.RowName.{RowName}
 use Rattle.ixp_registry.specs.declared.kind.Kind.{Kind}
 use Rattle.ixp_lines.specs.declared.version.Version.TheVariants.{Two}
 use Rattle.ixp_rows.specs.Reading.{breaks, head_text, end_text}
 use Rattle.ixp_rows.proofs.LinesAgain.{breaks_append}
-use Rattle.ixp_stored.specs.Names.{Entry, version_name}
+use Rattle.ixp_stored.specs.Names.{Entry}
 use Rattle.ixp_load.specs.declared.fault.Damage.TheVariants.{Row, Rule}
 use Rattle.ixp_load.specs.declared.fault.NoState.{NoState}
 use Rattle.ixp_load.specs.declared.fault.NoState.TheVariants.{Damaged, NoMemory}
-use Rattle.ixp_load.specs.Damages.{HasLine, IsFirstWrong, AreAllRight, BreaksNone, entry_text, entries_text, entries_dump, has_whole_lines}
+use Rattle.ixp_load.specs.Damages.{HasLine, IsFirstWrong, AreAllRight, entry_text, entries_text, entries_dump, has_whole_lines}
 use Rattle.ixp_load.specs.Placing.{IsSection, AreSections}
 use Rattle.ixp_load.specs.Walking.{IsRowFault, TellsFirst, TellsRule, TellsWrong}
 
@@ -77,7 +77,7 @@ first_told es name (Damaged told (Rule rule)) is first = absurd is
 first_told es name NoMemory is first = tt
 
 pub first_wrong : (es : List Entry) (fault : NoState) → TellsFirst es fault → TellsWrong es fault
-first_wrong es (Damaged name Row) first = inl first
+first_wrong es (Damaged name Row) first = first
 first_wrong es (Damaged name (Rule rule)) first = absurd first
 first_wrong es NoMemory first = tt
 
@@ -85,8 +85,3 @@ pub rule_wrong : (es : List Entry) (fault : NoState) → AreAllRight es → Tell
 rule_wrong es (Damaged name Row) right rule = absurd rule
 rule_wrong es (Damaged name (Rule told)) right rule = (right, rule)
 rule_wrong es NoMemory right rule = tt
-
-pub row_wrong : (es : List Entry) (fault : NoState) → AreAllRight es → BreaksNone es → IsRowFault version_name fault → TellsWrong es fault
-row_wrong es (Damaged told Row) right none is = inr (right, none, sym is)
-row_wrong es (Damaged told (Rule rule)) right none is = absurd is
-row_wrong es NoMemory right none is = tt

@@ -31,7 +31,7 @@ use Rattle.ixp_stored.specs.Names.{Entry, name_of}
 use Rattle.ixp_load.specs.declared.fault.Damage.TheVariants.{Row, Rule}
 use Rattle.ixp_load.specs.declared.fault.NoState.{NoState}
 use Rattle.ixp_load.specs.declared.fault.NoState.TheVariants as state
-use Rattle.ixp_load.specs.Damages.{IsRowOf, IsRow, AreRows, AreAllRight, BreaksNone, KindByKind, entries_text, entries_dump, entry_text}
+use Rattle.ixp_load.specs.Damages.{IsRowOf, IsRow, AreRows, AreAllRight, HasName, KindByKind, entries_text, entries_dump, entry_text}
 use Rattle.ixp_load.specs.Loading.{kind_rows, line_said, line_key}
 use Rattle.ixp_load.specs.Opening.{entry_name}
 use Rattle.ixp_load.specs.Placing.{IsSection, AreSections, AllSaid}
@@ -130,27 +130,40 @@ module _ (kind : Kind) where
       by_lines (l ∷ ls) some said = subst IsSome (sym said) refl
 
 -- Rows that are right, in the order of their names
-abbrev line_in : Kind → List Field → Line
+abbrev pub line_in : Kind → List Field → Line
 line_in kind fields = record { kind = kind; fields = fields }
 
-module _ (es : List Entry) (up : Ascends entry_name es) (right : AreAllRight es) where
-  pub all_said : (kind : Kind) → AllSaid es kind
-  all_said kind = all_weaker (IsRowOf kind) (λ e. IsSome (line_said kind e)) (one_said kind) (kind_rows (place_of kind) es) (kind_right kind es right.rows)
+-- the rows of each kind are rows of it, no two with one name, and the site's is there
+pub record AreRight (es : List Entry) : Type 0 where
+  pub rows : (kind : Kind) → AllByRecursion (IsRowOf kind) (kind_rows (place_of kind) es)
+  pub apart : (kind : Kind) → IsDistinct (distinct_by entry_name) (kind_rows (place_of kind) es)
+  pub site : HasName es (name_of Sites [])
 
-  names_apart : (kind : Kind) → IsDistinct (distinct_by entry_name) (kind_rows (place_of kind) es)
-  names_apart kind =
-      keys_apart entry_name es up (kind_rows (place_of kind) es) (pairs_filter (λ a b. a ≢ b) (λ e. e.0.kind == place_of kind) es (up_apart es up)) (λ x has. (filter_has (λ e. e.0.kind == place_of kind) es x has).0)
+pub all_right : (es : List Entry) → Ascends entry_name es → AreAllRight es → AreRight es
+all_right es up right = record {
+  rows = λ kind. kind_right kind es right.rows;
+  apart = λ kind.
+      keys_apart entry_name es up (kind_rows (place_of kind) es) (pairs_filter (λ a b. a ≢ b) (λ e. e.0.kind == place_of kind) es (up_apart es up)) (λ x has. (filter_has (λ e. e.0.kind == place_of kind) es x has).0);
+  site = right.needed (name_of Sites []) (inr (inl refl));
+}
+
+module _ (es : List Entry) (right : AreRight es) where
+  pub all_said : (kind : Kind) → AllSaid es kind
+  all_said kind = all_weaker (IsRowOf kind) (λ e. IsSome (line_said kind e)) (one_said kind) (kind_rows (place_of kind) es) (right.rows kind)
 
   pub own_right : (kind : Kind) (own : List Entry) → IsSection es kind own → AllByRecursion (IsRowOf kind) own
   own_right kind own s =
       recursion_from_All (IsRowOf kind) own
-      (All-permutation (IsRowOf kind) (kind_rows (place_of kind) es) own s.moved (All-from_recursion (IsRowOf kind) (kind_rows (place_of kind) es) (kind_right kind es right.rows)))
+      (All-permutation (IsRowOf kind) (kind_rows (place_of kind) es) own s.moved (All-from_recursion (IsRowOf kind) (kind_rows (place_of kind) es) (right.rows kind)))
 
-  abbrev lines_own : (kind : Kind) (own : List Entry) → IsSection es kind own → List (List Field)
+  pub own_apart : (kind : Kind) (own : List Entry) → IsSection es kind own → IsDistinct (distinct_by entry_name) own
+  own_apart kind own s = IsDistinct-IsPermutation (distinct_by entry_name) (flips entry_name) (kind_rows (place_of kind) es) own s.moved (right.apart kind)
+
+  abbrev pub lines_own : (kind : Kind) (own : List Entry) → IsSection es kind own → List (List Field)
   lines_own kind own s = all_lines kind own (own_right kind own s)
 
   own_rises : (kind : Kind) (own : List Entry) (s : IsSection es kind own) → Ascends (key_in kind) (lines_own kind own s)
-  own_rises kind own s = lines_rise kind own (own_right kind own s) (IsDistinct-IsPermutation (distinct_by entry_name) (flips entry_name) (kind_rows (place_of kind) es) own s.moved (names_apart kind)) s.rises
+  own_rises kind own s = lines_rise kind own (own_right kind own s) (own_apart kind own s) s.rises
 
   -- the lines, kind by kind
   abbrev pub lines_made : (kinds : List Kind) (ordered : List Entry) → AreSections es kinds ordered → List Line
@@ -185,18 +198,18 @@ module _ (es : List Entry) (up : Ascends entry_name es) (right : AreAllRight es)
       ∙ (ap (λ t. flat_map line_text (map (line_in kind) ls) ++ t) (made_spelt kinds are.1 are.3) ∙ sym (flat_map-append line_text (map (line_in kind) ls) (lines_made kinds are.1 are.3)))))
 
   -- kinds whose numbers follow one another
-  abbrev Follow : ℕ → List Kind → Type 0
+  abbrev pub Follow : ℕ → List Kind → Type 0
   Follow n [] = Unit {0}
   Follow n (kind ∷ kinds) = (place_of kind ≡ suc n) × Follow (suc n) kinds
 
-  abbrev Above : ℕ → Line → Type 0
+  abbrev pub Above : ℕ → Line → Type 0
   Above n line = n < place_of line.kind
 
   of_kind : (kind : Kind) (n : ℕ) → n < place_of kind → (ls : List (List Field)) → AllByRecursion (Above n) (map (line_in kind) ls)
   of_kind kind n lt [] = tt
   of_kind kind n lt (l ∷ ls) = (lt, of_kind kind n lt ls)
 
-  made_above : (n : ℕ) (kinds : List Kind) → Follow n kinds → (ordered : List Entry) (are : AreSections es kinds ordered) → AllByRecursion (Above n) (lines_made kinds ordered are)
+  pub made_above : (n : ℕ) (kinds : List Kind) → Follow n kinds → (ordered : List Entry) (are : AreSections es kinds ordered) → AllByRecursion (Above n) (lines_made kinds ordered are)
   made_above n [] follow ordered are = tt
   made_above n (kind ∷ kinds) follow ordered are =
       let at = follow.0 in
@@ -226,13 +239,13 @@ module _ (es : List Entry) (up : Ascends entry_name es) (right : AreAllRight es)
       ascends_joined key_of (map (line_in kind) ls) (lines_made kinds are.1 are.3) (mapped_rise kind ls (own_rises kind are.0 are.2)) (made_rise (suc n) kinds follow.1 are.1 are.3)
       (higher kind (suc n) follow.0 ls (lines_made kinds are.1 are.3) (made_above (suc n) kinds follow.1 are.1 are.3))
 
-  all_follow : Follow 0 all_kinds
+  pub all_follow : Follow 0 all_kinds
   all_follow = (refl, (refl, (refl, (refl, (refl, (refl, (refl, (refl, (refl, (refl, (refl, (refl, (refl, (refl, (refl, (refl, (refl, tt)))))))))))))))))
 
   -- the site's line is the first
   own_some : (own : List Entry) → IsSection es Sites own → own ≢ []
   own_some own s none =
-      let site = right.needed (name_of Sites []) (inr (inl refl)) in
+      let site = right.site in
       let there : Has (kind_rows 1 es) (name_of Sites [], site.0) = has_filter (λ e. e.0.kind == 1) es (name_of Sites [], site.0) site.1 refl in
       subst (λ l. Has l (name_of Sites [], site.0)) none (moved_has own (kind_rows 1 es) (IsPermutation-sym (kind_rows 1 es) own s.moved) (name_of Sites [], site.0) there)
 
@@ -284,9 +297,9 @@ by_kind es (kind ∷ kinds) ordered are = (are.0, are.1, (are.2).moved, by_kind 
 pub rule_broken :
     (es ordered : List Entry) (t : List ℕ) (rule line : ℕ) (fault : NoState) → Ascends entry_name es → AreAllRight es → AreSections es all_kinds ordered → t ≡ entries_dump ordered → RegistryAnswer Two t (Err (Invalid rule line))
     → (2 ≤ line → line < breaks (entries_text ordered) + 2 → TellsLine ordered line rule fault) → TellsRule es fault
-rule_broken es ordered t rule line (state.Damaged name Row) up right are text answer tells = let within = line_within es up right ordered are t rule line text answer in tells within.0 within.1
+rule_broken es ordered t rule line (state.Damaged name Row) up right are text answer tells = let within = line_within es (all_right es up right) ordered are t rule line text answer in tells within.0 within.1
 rule_broken es ordered t rule line (state.Damaged name (Rule told)) up right are text answer tells =
-    let within = line_within es up right ordered are t rule line text answer in
+    let within = line_within es (all_right es up right) ordered are t rule line text answer in
     let at = tells within.0 within.1 in
     record {
       ordered = ordered;
@@ -299,9 +312,6 @@ rule_broken es ordered t rule line (state.Damaged name (Rule told)) up right are
     }
 rule_broken es ordered t rule line state.NoMemory up right are text answer tells = tt
 
--- Right rows that tell a registry
-pub none_broken : (es : List Entry) → TellsRegistry es → BreaksNone es
-none_broken es t = record { ordered = t.ordered; kinds = by_kind es all_kinds t.ordered t.are; registry = t.registry; valid = t.valid; dump = t.text }
-
+-- Rows that tell a registry
 pub registry_tells : (es ordered : List Entry) (t : List ℕ) (r : Registry) → AreSections es all_kinds ordered → t ≡ entries_dump ordered → RegistryAnswer Two t (Ok r) → TellsRegistry es
 registry_tells es ordered t r are text answer = record { ordered = ordered; are = are; registry = r; valid = answer.2; text = sym text ∙ answer.1 }

@@ -86,7 +86,7 @@ module _ {X Y : Type 0} where
 
 -- what is looked up is there, and what is there is looked up
 module _ {R : Type 0} (key : R → List ℕ) where
-  find_has : (k : List ℕ) (r : R) (rs : List R) → find key k rs ≡ Some r → Has rs r
+  pub find_has : (k : List ℕ) (r : R) (rs : List R) → find key k rs ≡ Some r → Has rs r
   find_has k r rs e = all_found key (Has rs) k r rs (has_all (Has rs) rs (λ x has. has)) e
 
   has_found : (r : R) (rs : List R) → Ascends key rs → Has rs r → find key (key r) rs ≡ Some r
@@ -96,14 +96,14 @@ some_is : {X : Type 0} (a b : X) → ◌≡◌ {A = Option X} (Some a) (Some b) 
 some_is a b e = cc
 
 -- rows of floors and of kept numbers
-floor_there : (o : KeptOwner) → o.floor ≢ 0 → Has (floor_rows o) (floor_row o)
+pub floor_there : (o : KeptOwner) → o.floor ≢ 0 → Has (floor_rows o) (floor_row o)
 floor_there o some = by_floor (o.floor == 0) refl
   where
     by_floor : (b : Bool) → (o.floor == 0) ≡ b → Has (if b then [] else floor_row o ∷ []) (floor_row o)
     by_floor true e = absurd (some (eqb-true o.floor 0 e))
     by_floor false e = inl refl
 
-there_floor : (o : KeptOwner) (e : Entry) → Has (floor_rows o) e → (o.floor ≢ 0) × (e ≡ floor_row o)
+pub there_floor : (o : KeptOwner) (e : Entry) → Has (floor_rows o) e → (o.floor ≢ 0) × (e ≡ floor_row o)
 there_floor o e has = by_floor (o.floor == 0) refl has
   where
     by_floor : (b : Bool) → (o.floor == 0) ≡ b → Has (if b then [] else floor_row o ∷ []) e → (o.floor ≢ 0) × (e ≡ floor_row o)
@@ -121,7 +121,7 @@ place_in e = e.0.kind
 floor_names : (a b : KeptOwner) → IsNumber (owner_number a.owner) → IsNumber (owner_number b.owner) → floor_row a ≡ floor_row b → a.owner ≡ b.owner
 floor_names a b small fits e = one_owner a.owner b.owner (owner_text_told a.owner b.owner small fits (ap key_of e))
 
-number_names : (v w : Owner) (j k : KeptNumber) → IsNumber (owner_number v) → IsNumber (owner_number w) → kept_row v j ≡ kept_row w k → (owner_numbers v ≡ owner_numbers w) × (j.number ≡ k.number)
+pub number_names : (v w : Owner) (j k : KeptNumber) → IsNumber (owner_number v) → IsNumber (owner_number w) → kept_row v j ≡ kept_row w k → (owner_numbers v ≡ owner_numbers w) × (j.number ≡ k.number)
 number_names v w j k small fits e =
     let first = j.small in
     let second = k.small in
@@ -130,7 +130,7 @@ number_names v w j k small fits e =
 kinds_apart : {X : Type 0} (v : Owner) (o : KeptOwner) (k : KeptNumber) → floor_row o ≡ kept_row v k → X
 kinds_apart v o k e = let bad : 18 ≡ 19 = ap place_in e in absurd (omega (arith, bad))
 
-same_owner : (w v : Owner) → (v ≡ w) ⊎ (order (owner_numbers w) (owner_numbers v) ≡ Equal → ⊥)
+pub same_owner : (w v : Owner) → (v ≡ w) ⊎ (order (owner_numbers w) (owner_numbers v) ≡ Equal → ⊥)
 same_owner w v = by_order (order (owner_numbers w) (owner_numbers v)) refl
   where
     by_order : (o : Ordering) → order (owner_numbers w) (owner_numbers v) ≡ o → (v ≡ w) ⊎ (order (owner_numbers w) (owner_numbers v) ≡ Equal → ⊥)
@@ -145,13 +145,13 @@ apart_numbers w v apart e = absurd (apart (subst (λ k. order k (owner_numbers v
 abbrev or_none : Owner → Option KeptOwner → KeptOwner
 or_none w o = if_there o (record { owner = w; floor = 0; numbers = [] }) (λ x. x)
 
-row_now : (w : Owner) (row : KeptOwner) (ks : List KeptOwner) → row.owner ≡ w → kept_of (with_row w row ks) w ≡ row
+pub row_now : (w : Owner) (row : KeptOwner) (ks : List KeptOwner) → row.owner ≡ w → kept_of (with_row w row ks) w ≡ row
 row_now w row ks own =
     ap (or_none w)
     (find-put-same-key kept_owner_key (owner_numbers w) row (without kept_owner_key (owner_numbers w) ks)
     (subst (λ (x : Owner). order (owner_numbers x) (owner_numbers w) ≡ Equal) (sym own) (order_same (owner_numbers w))))
 
-row_other : (w v : Owner) (row : KeptOwner) (ks : List KeptOwner) → row.owner ≡ w → (order (owner_numbers w) (owner_numbers v) ≡ Equal → ⊥) → kept_of (with_row w row ks) v ≡ kept_of ks v
+pub row_other : (w v : Owner) (row : KeptOwner) (ks : List KeptOwner) → row.owner ≡ w → (order (owner_numbers w) (owner_numbers v) ≡ Equal → ⊥) → kept_of (with_row w row ks) v ≡ kept_of ks v
 row_other w v row ks own apart =
     ap (or_none v)
     (find-put-other kept_owner_key (owner_numbers v) row (without kept_owner_key (owner_numbers w) ks) (λ e. apart (subst (λ (x : Owner). order (owner_numbers x) (owner_numbers v) ≡ Equal) own e))
@@ -175,20 +175,20 @@ pub put_back : (row : KeptOwner) (w : Owner) (ks ts : List KeptOwner) → row.ow
 put_back row w ks ts is rest = ap (λ x. with_row x row ks) is ∙ ap (put kept_owner_key row) rest
 
 -- an owner's row, and a number of it
-own_row : (ks : List KeptOwner) (o : KeptOwner) → Ascends kept_owner_key ks → Has ks o → kept_of ks o.owner ≡ o
+pub own_row : (ks : List KeptOwner) (o : KeptOwner) → Ascends kept_owner_key ks → Has ks o → kept_of ks o.owner ≡ o
 own_row ks o up has = ap (or_none o.owner) (has_found kept_owner_key o ks up has)
 
 own_number : (ks : List KeptOwner) (o : KeptOwner) (k : KeptNumber) → Ascends kept_owner_key ks → Has ks o → Ascends kept_key o.numbers → Has o.numbers k → number_at ks o.owner k.number ≡ Some k
 own_number ks o k up has rise there = ap (λ (x : KeptOwner). find kept_key (k.number ∷ []) x.numbers) (own_row ks o up has) ∙ has_found kept_key k o.numbers rise there
 
-kept_rise : (ks : List KeptOwner) (w : Owner) → AllByRecursion (λ o. KeepsSome o × Ascends kept_key o.numbers) ks → Ascends kept_key (kept_of ks w).numbers
+pub kept_rise : (ks : List KeptOwner) (w : Owner) → AllByRecursion (λ o. KeepsSome o × Ascends kept_key o.numbers) ks → Ascends kept_key (kept_of ks w).numbers
 kept_rise ks w all = by_row (find kept_owner_key (owner_numbers w) ks) refl
   where
     by_row : (o : Option KeptOwner) → find kept_owner_key (owner_numbers w) ks ≡ o → Ascends kept_key (or_none w o).numbers
     by_row None e = tt
     by_row (Some k) e = (all_found kept_owner_key (λ o. KeepsSome o × Ascends kept_key o.numbers) (owner_numbers w) k ks all e).1
 
-put_some : (k : KeptNumber) (ns : List KeptNumber) → put kept_key k ns ≢ []
+pub put_some : (k : KeptNumber) (ns : List KeptNumber) → put kept_key k ns ≢ []
 put_some k ns e =
     let bad : ◌≡◌ {A = Option KeptNumber} (Some k) None = sym (find-put-same-key kept_key (k.number ∷ []) k ns (order_same (k.number ∷ []))) ∙ ap (find kept_key (k.number ∷ [])) e in
     let no : ⊥ = cc in

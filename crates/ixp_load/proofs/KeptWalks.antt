@@ -65,7 +65,7 @@ ends_parts w n es e h =
     let parts = last_parts es h.0 e (kept_row w h.1) h.2 in
     (h.1, parts.1, subst (EndsWithKept w n) (sym parts.0) h.3)
 
-ends_more : (w : Owner) (n : ℕ) (es : List Entry) (k : KeptNumber) → EndsWithKept w n es → EndsWithKept w (suc n) (es ++ kept_row w k ∷ [])
+pub ends_more : (w : Owner) (n : ℕ) (es : List Entry) (k : KeptNumber) → EndsWithKept w n es → EndsWithKept w (suc n) (es ++ kept_row w k ∷ [])
 unfolding EndsWithKept
 ends_more w n es k h = (es, k, refl, h)
 

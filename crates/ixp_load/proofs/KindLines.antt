@@ -39,10 +39,10 @@ some_mapped : {A B : Type 0} (f : A → B) (xs : List A) → xs ≢ [] → map f
 some_mapped f [] some e = some refl
 some_mapped {A} {B} f (x ∷ xs) some e = absurd (let h : ◌≡◌ {A = List B} (f x ∷ map f xs) [] = e in cc)
 
-prefixes_some : (l : IrrList) → l.prefixes ≢ [] → prefixes_of l ≢ []
+pub prefixes_some : (l : IrrList) → l.prefixes ≢ [] → prefixes_of l ≢ []
 prefixes_some l = some_mapped {B = MemberPrefix} (λ p. record { member = l.member; prefix = p }) l.prefixes
 
-origins_some : (l : OriginList) → l.asns ≢ [] → origins_of l ≢ []
+pub origins_some : (l : OriginList) → l.asns ≢ [] → origins_of l ≢ []
 origins_some l = some_mapped {B = MemberOrigin} (λ a. record { member = l.member; family = l.family; asn = a }) l.asns
 
 module _ (r : Registry) (v : Valid r) where

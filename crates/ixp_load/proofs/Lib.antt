@@ -9,13 +9,17 @@ pub mod FewItems
 pub mod FewRows
 pub mod Gathered
 pub mod Keeping
+pub mod KeptTable
 pub mod KeptWalks
 pub mod KindLines
 pub mod LineRows
 pub mod Nothing
 pub mod Placing
 pub mod Reading
+pub mod RegistryRows
+pub mod RightStates
 pub mod RowLines
+pub mod RowsAgain
 pub mod RowsByKind
 pub mod SameRows
 pub mod Searching

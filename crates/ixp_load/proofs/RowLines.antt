@@ -37,10 +37,10 @@ IsFixed ANet = Unit {0}
 IsFixed ABounds = Unit {0}
 IsFixed piece = ⊥
 
-first_of : (m n : ℕ) (x y : List ℕ) → m ∷ x ≡ n ∷ y → m ≡ n
+pub first_of : (m n : ℕ) (x y : List ℕ) → m ∷ x ≡ n ∷ y → m ≡ n
 first_of m n x y e = cc
 
-rest_of : (m n : ℕ) (x y : List ℕ) → m ∷ x ≡ n ∷ y → x ≡ y
+pub rest_of : (m n : ℕ) (x y : List ℕ) → m ∷ x ≡ n ∷ y → x ≡ y
 rest_of m n x y e = cc
 
 abbrev Told : Field → Field → List ℕ → List ℕ → Type 0
@@ -147,7 +147,7 @@ lines_of kind false at e is = (row_plain kind e at is).0 ∷ []
 abbrev pub lines_in : (kind : Kind) (e : Entry) → IsRowOf kind e → List (List Field)
 lines_in kind e is = lines_of kind (is_listed kind) refl e is
 
-has_whole : (kind : Kind) (e : Entry) → e.0.kind ≡ place_of kind → has_whole_lines e ≡ is_listed kind
+pub has_whole : (kind : Kind) (e : Entry) → e.0.kind ≡ place_of kind → has_whole_lines e ≡ is_listed kind
 has_whole Sites e at = ap (λ n. n == 11 || n == 12) at
 has_whole Prefixes e at = ap (λ n. n == 11 || n == 12) at
 has_whole Origins e at = ap (λ n. n == 11 || n == 12) at
@@ -201,19 +201,19 @@ lines_are kind e is = by_form (is_listed kind) refl
         }
 
 -- keys that begin with two numbers each
+pub record Begins (p q : ℕ) (k : List ℕ) : Type 0 where
+  pub more : List ℕ
+  pub is : k ≡ p ∷ q ∷ more
+
+pub begins_with : (p q : ℕ) (k : List ℕ) → take 2 k ≡ p ∷ q ∷ [] → Begins p q k
+begins_with p q [] e = absurd cc
+begins_with p q (x ∷ []) e = absurd (let short = rest_of x p [] (q ∷ []) e in cc)
+begins_with p q (x ∷ y ∷ k) e =
+    let one = first_of x p (y ∷ []) (q ∷ []) e in
+    let two = first_of y q [] [] (rest_of x p (y ∷ []) (q ∷ []) e) in
+    record { more = k; is = λ i. one i ∷ two i ∷ k }
+
 module _ (m v n w : ℕ) (apart : m ∷ v ∷ [] ≢ n ∷ w ∷ []) where
-  record Begins (p q : ℕ) (k : List ℕ) : Type 0 where
-    more : List ℕ
-    is : k ≡ p ∷ q ∷ more
-
-  begins : (p q : ℕ) (k : List ℕ) → take 2 k ≡ p ∷ q ∷ [] → Begins p q k
-  begins p q [] e = absurd cc
-  begins p q (x ∷ []) e = absurd (let short = rest_of x p [] (q ∷ []) e in cc)
-  begins p q (x ∷ y ∷ k) e =
-      let one = first_of x p (y ∷ []) (q ∷ []) e in
-      let two = first_of y q [] [] (rest_of x p (y ∷ []) (q ∷ []) e) in
-      record { more = k; is = λ i. one i ∷ two i ∷ k }
-
   numbers_below : (a b c d : List ℕ) → is_lt (order (n ∷ w ∷ b) (m ∷ v ∷ a)) ≡ false → order (m ∷ v ∷ c) (n ∷ w ∷ d) ≡ Less
   numbers_below a b c d low = by_first (either_way m n) (either_way n m)
     where
@@ -232,10 +232,10 @@ module _ (m v n w : ℕ) (apart : m ∷ v ∷ [] ≢ n ∷ w ∷ []) where
 
   keys_below : (a b c d : List ℕ) → take 2 a ≡ m ∷ v ∷ [] → take 2 b ≡ n ∷ w ∷ [] → take 2 c ≡ m ∷ v ∷ [] → take 2 d ≡ n ∷ w ∷ [] → is_lt (order b a) ≡ false → order c d ≡ Less
   keys_below a b c d p q r s low =
-      let a_is = begins m v a p in
-      let b_is = begins n w b q in
-      let c_is = begins m v c r in
-      let d_is = begins n w d s in
+      let a_is = begins_with m v a p in
+      let b_is = begins_with n w b q in
+      let c_is = begins_with m v c r in
+      let d_is = begins_with n w d s in
       ap (λ k. order k d) c_is.is ∙ (ap (order (m ∷ v ∷ c_is.more)) d_is.is
       ∙ numbers_below a_is.more b_is.more c_is.more d_is.more (ap (λ k. is_lt (order k (m ∷ v ∷ a_is.more))) (sym b_is.is) ∙ (ap (λ k. is_lt (order b k)) (sym a_is.is) ∙ low)))
 

@@ -86,7 +86,7 @@ module _ (r : Registry) where
   kinds_are Transit = mapped 16 (λ a. line_row (transit_line a)) (λ a. refl) r.public.transit
   kinds_are Roas = mapped 17 (λ x. line_row (roa_line x)) (λ x. refl) r.public.roas
 
-  abbrev of_kind : Kind → Kind → List Entry
+  abbrev pub of_kind : Kind → Kind → List Entry
   of_kind kind k = if place_of k == place_of kind then kind_entries r k else []
 
   one_kind : (kind k : Kind) → kind_rows (place_of kind) (kind_entries r k) ≡ of_kind kind k
@@ -98,13 +98,13 @@ module _ (r : Registry) where
           none_pass (place_of kind) (kind_entries r k)
           (all_weaker (IsOf (place_of k)) (λ x. x.0.kind ≢ place_of kind) (λ x is other. absurd (let bad : false ≡ true = sym e ∙ eq-eqb (place_of k) (place_of kind) (sym is ∙ other) in cc)) (kind_entries r k) (kinds_are k))
 
-  by_kinds : (kind : Kind) (kinds : List Kind) → kind_rows (place_of kind) (flat_map (kind_entries r) kinds) ≡ flat_map (of_kind kind) kinds
+  pub by_kinds : (kind : Kind) (kinds : List Kind) → kind_rows (place_of kind) (flat_map (kind_entries r) kinds) ≡ flat_map (of_kind kind) kinds
   by_kinds kind [] = refl
   by_kinds kind (k ∷ ks) =
       rows_joined (place_of kind) (kind_entries r k) (flat_map (kind_entries r) ks)
       ∙ (ap (λ t. t ++ kind_rows (place_of kind) (flat_map (kind_entries r) ks)) (one_kind kind k) ∙ ap (λ t. of_kind kind k ++ t) (by_kinds kind ks))
 
-  picked : (kind : Kind) → flat_map (of_kind kind) all_kinds ≡ kind_entries r kind
+  pub picked : (kind : Kind) → flat_map (of_kind kind) all_kinds ≡ kind_entries r kind
   picked Sites = append-nil (kind_entries r Sites)
   picked kind = append-nil (kind_entries r kind)
 
@@ -112,7 +112,7 @@ module _ (r : Registry) where
   K kind = kind_entries r kind
 
   -- the rows of a registry are those of its kinds
-  all_rows : registry_rows r ≡ flat_map (kind_entries r) all_kinds
+  pub all_rows : registry_rows r ≡ flat_map (kind_entries r) all_kinds
   all_rows =
       let public : origin_rows r.public ≡ K Transit ++ (K Roas ++ []) = ap (λ t. K Transit ++ t) (sym (append-nil (K Roas))) in
       let bogons : bogon_rows r.public ++ origin_rows r.public ≡ K Bogons ++ (K BogonAs ++ (K Transit ++ (K Roas ++ []))) =

@@ -18,13 +18,10 @@ use Rattle.ixp_lines.specs.declared.version.Version.TheVariants.{Two}
 use Rattle.ixp_lines.specs.Fields.{Field, Number, AllFit}
 use Rattle.ixp_lines.specs.Lines.{form_of, place_of, text_of}
 use Rattle.ixp_registry.specs.declared.rows.Rows.{Rows}
-use Rattle.ixp_registry.specs.declared.registry.Registry.{Registry}
-use Rattle.ixp_registry.specs.Registries.{breach, rows_of}
-use Rattle.ixp_registry.specs.Valid.{Valid}
+use Rattle.ixp_registry.specs.Registries.{breach}
 use Rattle.ixp_rows.specs.Answers.{IsDump, row_lines}
 use Rattle.ixp_rows.specs.Printing.{all_kinds}
 use Rattle.ixp_rows.specs.Reading.{breaks, end_text, head_text, key_in}
-use Rattle.ixp_rows.specs.Texts.{dump_text}
 use Rattle.ixp_steps.specs.declared.kept.KeptNumber.{KeptNumber}
 use Rattle.ixp_steps.specs.declared.state.State.{State}
 use Rattle.ixp_steps.specs.States.{ValidState}
@@ -191,18 +188,9 @@ pub record BreaksRule (es : List Entry) (name : RowName) (rule : ℕ) : Type 0 w
   pub broken : breach rows ≡ Some (record { rule = rule; line = line })
   pub at : HasLine ordered name line
 
--- In the order in which they are a dump, the rows of lines are those of a valid registry, which breaks no rule.
-pub record BreaksNone (es : List Entry) : Type 0 where
-  pub ordered : List Entry
-  pub kinds : KindByKind es all_kinds ordered
-  pub registry : Registry
-  pub valid : Valid registry
-  pub dump : entries_dump ordered ≡ dump_text Two (rows_of registry)
-
--- What is told of rows in the order of their names: the first that is wrong, or the rule that they break where each is right. Where
--- each is right and they break no rule, the row of the version is told.
+-- What is told of rows in the order of their names: the first that is wrong, or the rule that they break where each is right.
 abbrev pub TellsDamage : List Entry → RowName → Damage → Type 0
-TellsDamage es name Row = IsFirstWrong es name ⊎ (AreAllRight es × BreaksNone es × (name ≡ version_name))
+TellsDamage es name Row = IsFirstWrong es name
 TellsDamage es name (Rule rule) = AreAllRight es × BreaksRule es name rule
 
 -- the row behind the first 8,000,000, which are as many as a valid state may have

@@ -25,6 +25,7 @@ use Rattle.ixp_steps.specs.declared.kept.KeptNumber.{KeptNumber}
 use Rattle.ixp_steps.specs.declared.kept.KeptOwner.{KeptOwner}
 use Rattle.ixp_steps.specs.declared.state.State.{State}
 use Rattle.ixp_steps.specs.Kept.{kept_owner_key}
+use Rattle.ixp_steps.specs.States.{ValidState}
 use Rattle.ixp_stored.specs.Names.{Entry, name_of, floor_name, floor_row, kept_row, version_name, count_row}
 use Rattle.ixp_load.specs.declared.fault.Damage.TheVariants as damage
 use Rattle.ixp_load.specs.declared.fault.LoadFault.{LoadFault}
@@ -33,9 +34,10 @@ use Rattle.ixp_load.specs.declared.fault.NoState.{NoState}
 use Rattle.ixp_load.specs.declared.fault.NoState.TheVariants.{Damaged, NoMemory}
 use Rattle.ixp_load.specs.declared.kept.Run.{Run}
 use Rattle.ixp_load.specs.Damages.{HasName, IsOwner, SaysFloor, SaysKept, EndsWithKept, IsFloorRow, IsKeptRow, AreRows, IsFirstWrong, HasLine, BreaksRule, TellsDamage, entries_dump}
-use Rattle.ixp_load.specs.Opening.{entry_name}
+use Rattle.ixp_load.specs.Opening.{AreAllRows, entry_name}
 use Rattle.ixp_load.specs.Placing.{AreSections}
 use Rattle.ixp_load.specs.Sorting.{Has}
+use Rattle.ixp_load.specs.Storing.{IsStorable}
 
 -- the fault tells this row
 abbrev pub IsRowFault : RowName → NoState → Type 0
@@ -68,6 +70,10 @@ pub record TellsRegistry (es : List Entry) : Type 0 where
   pub registry : Registry
   pub valid : Valid registry
   pub text : entries_dump ordered ≡ dump_text Two (rows_of registry)
+
+-- the rows are those of no state that requests lead to
+abbrev pub TellNoState : List Entry → Type 0
+TellNoState es = (s : State) → ValidState s → IsStorable s → AreAllRows s es → ⊥
 
 -- the fault tells what is damaged
 abbrev pub TellsWrong : List Entry → NoState → Type 0

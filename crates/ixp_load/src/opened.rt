@@ -22,7 +22,7 @@ ghost use Rattle.ixp_load.specs.Opening.{AreAllRows, IsFirstOrOf, IsTold, SaysVe
 ghost use Rattle.ixp_load.specs.Sorting.{Same};
 ghost use Rattle.ixp_load.specs.Storing.{IsStorable};
 ghost use Rattle.ixp_load.specs.Keeping.{AreKept};
-ghost use Rattle.ixp_load.specs.Walking.{FindsCount, IsCounted, LoadTellsRow, LoadTellsWrong, Reached, TellsFirst, TellsRegistry, TellsWrong};
+ghost use Rattle.ixp_load.specs.Walking.{FindsCount, IsCounted, LoadTellsRow, LoadTellsWrong, Reached, TellNoState, TellsFirst, TellsRegistry, TellsWrong};
 ghost use Rattle.ixp_load.specs.declared.fault.LoadFault.TheVariants.{KeeperFault};
 
 use crate::breaking::sound_registry;
@@ -197,9 +197,9 @@ fn told_by(alloc: Global, rows: &[Row]) -> Result<Option<State>, AllocError>
     Ok(joined(alloc, registry, kept, accepted))
 }
 
-/// Why rows are no state's.
+/// Why rows are no state's. Those that are each right and break no rule are some state's.
 fn damage_of(alloc: Global, rows: &[Row]) -> NoState
-    ensures { Ascends entry_name (map row_entry rows.now) → TellsWrong (map row_entry rows.now) result }
+    ensures { Ascends entry_name (map row_entry rows.now) → TellNoState (map row_entry rows.now) → TellsWrong (map row_entry rows.now) result }
 {
     match sound_rows(alloc, rows) {
         Ok(()) => missing(alloc, VERSION),
