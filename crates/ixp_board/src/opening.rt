@@ -46,7 +46,7 @@ impl<S: Story> Model for Opened<S> {
     ghost invariant = { λ o. IsViewOf S.legal S.fold o.seen.log o.view × (turns_of o.seen.log ≡ []) × (o.head ≡ head_of o.seen.book) };
 }
 
-/// Begins a board with a first state, whose view it takes. It takes no memory.
+/// Begins a board with a first state, whose view it takes. It does not allocate.
 pub fn begin<S: Story>(first: &S::First, view: S::View) -> Opened<S>
     requires legal { S.legal first.now [] }
     requires view { view ≡ S.fold first.now [] }

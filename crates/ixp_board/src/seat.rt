@@ -65,7 +65,7 @@ impl<S: Story, N: BoardName> Seat<S, N> {
         self.last.view()
     }
 
-    /// Sees what the note tells, if that is more than what it has seen. It takes no memory, and waits for nobody.
+    /// Sees what the note tells, if that is more than what it has seen. It does not allocate, and waits for nobody.
     pub fn learn(&mut self, note: Note<S, N>)
         ensures one { (self.new ≡ self.old) ⊎ (self.new ≡ note) }
         ensures this { IsPrefix self.old self.new }

@@ -11,7 +11,7 @@ use Rattle.ixp_lang.specs.Trees.{StmtTree, StmtTrees, stmts, stmts_end, stmts_mo
 use Rattle.ixp_exprs.specs.declared.context.Scope.{Scope}
 use Rattle.ixp_exprs.specs.Names.{Names}
 use Rattle.ixp_exprs.specs.Operands.{settled}
-use Rattle.ixp_stmts.specs.Statements.{Returned, Said, said, Statements, deeper, statements_of, block_end, is_if_else, labels_form, Arms, with_arm, arms, arms_form, case_end, Subject, subject_end, no_case, case_form, Frame}
+use Rattle.ixp_stmts.specs.Statements.{Returned, Said, said, Statements, deeper, statements_of, block_end, is_if_else, labels_form, Arms, with_arm, arms, arms_form, case_end, Subject, subject_wanted, subject_end, no_case, case_form, Frame}
 use Rattle.ixp_print.specs.Texts.{state_text}
 use Rattle.ixp_canonical.specs.Canonical.{number, sign, word, list_of, expr_tokens}
 use Rattle.ixp_canonical.specs.CanonicalItems.{label_tokens, stmt_tokens, stmts_tokens, arms_tokens, other_tokens}
@@ -153,8 +153,8 @@ module _ (names : Names) (scope : Scope) (w : Bool) (statement canonical : State
   subject_again n s subject ts rest (on, a, took, (x, b, open_, (fit, (is, same)))) m v s' others =
       let h : (settled on ≡ None) × (no_case on.ty s ≡ None) = both_none (settled on) _ fit in
       subst (λ (z : Subject). Took (subject_end (at names scope s') m) z (expr_tokens z.on (sign mark.BlockOpen others)) others) (sym is)
-      (let whole = (expression_again names scope n s on ts a took (none_settled on.misfit h.0) m v).whole in
-      (sound on.tree on.ty whole.0, _, whole.1 s' (sign mark.BlockOpen others) (refl, refl), (tt, _, (refl, refl), (so_again _ _ (is_so _ _ h.1), (refl, refl)))))
+      (let whole = (expression_again names scope n s (subject_wanted s) on ts a took (none_settled on.misfit h.0) m v).whole in
+      (sound on.tree on.ty whole.0, _, whole.1 s' (subject_wanted s') (is_so _ _ h.1) (sign mark.BlockOpen others) (refl, refl), (tt, _, (refl, refl), (so_again _ _ (is_so _ _ h.1), (refl, refl)))))
 
   pub case_again : (n m : ℕ) → Within n m → (r : Returned) (one : Said StmtTree) (ts rest : List Kind) → Took (case_form frame (deeper n statement) r) one ts rest → (others : List Kind)
       → Took (case_form frame (deeper m canonical) (kept w r)) (said (kept w one.returned) one.it) (stmt_tokens one.it others) others

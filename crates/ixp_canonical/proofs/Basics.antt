@@ -1,31 +1,21 @@
 -- What is known where there is no fault, and that the same holds at other places.
-use Rattle.std.proofs.Common.{◌≡◌, ℕ, zero, suc, Bool, true, false, List, [], ◌∷◌, Option, Some, None, option_map, refl, sym, ap, if◌then◌else◌}
+use Rattle.std.proofs.Common.{◌≡◌, ℕ, zero, suc, Bool, true, false, ◌&&◌, ◌||◌, List, [], ◌∷◌, Option, Some, None, option_map, refl, sym, ap, if◌then◌else◌}
+use Rattle.std.proofs.lemmas.Bool.{and_from}
+use Rattle.std.specs.Option.{option_or}
 use Rattle.ixp_tokens.specs.declared.token.Kind.{Kind}
 use Rattle.ixp_tokens.specs.declared.fault.Cause.{Cause}
 use Rattle.ixp_tokens.specs.Grammars.{takes, Took}
-use Rattle.ixp_lang.specs.Trees.{ExprTree, negation, comparison}
+use Rattle.ixp_lang.specs.Trees.{ExprTree, comparison}
 use Rattle.ixp_lang.specs.declared.expr.Op.{Op}
+use Rattle.ixp_lang.specs.declared.expr.Op.TheVariants as op
 use Rattle.ixp_exprs.specs.declared.types.ValueType.{ValueType}
-use Rattle.ixp_exprs.specs.declared.types.ValueType.TheVariants.{Bool as Truth}
-use Rattle.ixp_exprs.specs.Types.{same_type, takes_left, takes_right}
+use Rattle.ixp_exprs.specs.declared.types.ValueType.TheVariants.{Int, Bool as Truth}
+use Rattle.ixp_exprs.specs.declared.wanted.Wanted.{Wanted}
+use Rattle.ixp_exprs.specs.Types.{same_type, is_comparable, is_sought, is_compared, is_expected, takes_left, takes_right}
 use Rattle.ixp_exprs.specs.Lists.{never}
 use Rattle.ixp_exprs.specs.Sets.{unless_so, if_missing}
-use Rattle.ixp_exprs.specs.Operands.{Operand, or_else, misfit_at, settled, fits, fits_left, waiting, refused_now, negated, compared}
-
--- levels that are as many or more
-abbrev pub Within : ℕ → ℕ → Type 0
-Within zero m = Unit {0}
-Within (suc n) zero = ⊥
-Within (suc n) (suc m) = Within n m
-
-pub within_same : (n : ℕ) → Within n n
-within_same zero = tt
-within_same (suc n) = within_same n
-
-pub within_more : (n m : ℕ) → Within n m → Within n (suc m)
-within_more zero m w = tt
-within_more (suc n) zero w = absurd w
-within_more (suc n) (suc m) w = within_more n m w
+use Rattle.ixp_exprs.specs.Operands.{Operand, misfit_at, settled, fits, fits_left, in_vain, no_truth, refused_now, compared}
+pub use Rattle.ixp_sound.proofs.Misfits.{Within, within_same, within_more, both_none, is_so, none_settled, if_none, none_part, none_unfit}
 
 pub within_less : (n m : ℕ) → Within (suc n) m → Within n m
 within_less n zero w = absurd w
@@ -43,17 +33,9 @@ pub never_took : {A : Type 0} (v : A) (ts rest : List Kind) → Took (never {A =
 never_took v [] rest took = took
 never_took v (k ∷ ts) rest (is, same) = absurd cc
 
-pub both_none : {A : Type 0} (x y : Option A) → or_else x y ≡ None → (x ≡ None) × (y ≡ None)
-both_none None y e = (refl, e)
-both_none (Some a) y e = absurd cc
-
-pub none_both : {A : Type 0} (x y : Option A) → x ≡ None → y ≡ None → or_else x y ≡ None
+pub none_both : {A : Type 0} (x y : Option A) → x ≡ None → y ≡ None → option_or x y ≡ None
 none_both None y p q = q
 none_both (Some a) y p q = p
-
-pub is_so : (b : Bool) (fault : Cause × ℕ) → unless_so b fault ≡ None → b ≡ true
-is_so true fault e = refl
-is_so false fault e = absurd cc
 
 pub so_again : (b : Bool) (fault : Cause × ℕ) → b ≡ true → unless_so b fault ≡ None
 so_again b fault e = ap (λ c. unless_so c fault) e
@@ -65,39 +47,56 @@ there None fault e = absurd cc
 pub there_again : {A : Type 0} (x : Option A) (a : A) (fault : Cause × ℕ) → x ≡ Some a → if_missing x fault ≡ None
 there_again x a fault e = ap (λ y. if_missing y fault) e
 
-pub none_settled : (m : Option ℕ) → option_map misfit_at m ≡ None → m ≡ None
-none_settled None e = refl
-none_settled (Some n) e = absurd cc
-
-if_none : (b : Bool) (p : ℕ) → ◌≡◌ {A = Option ℕ} (if b then None else Some p) None → b ≡ true
-if_none true p e = refl
-if_none false p e = absurd cc
-
-pub none_waits : (o : Operand) (b : Bool) (p : ℕ) → waiting o b p ≡ None → (o.misfit ≡ None) × (b ≡ true)
-none_waits o b p e = (let h : (o.misfit ≡ None) × (◌≡◌ {A = Option ℕ} (if b then None else Some p) None) = both_none o.misfit _ e in (h.0, if_none b p h.1))
-
-pub none_unfit : (o : Operand) (t : ValueType) (p : ℕ) → fits o t p ≡ None → (o.misfit ≡ None) × (same_type o.ty t ≡ true)
-none_unfit o t p e =
-    let h : (settled o ≡ None) × (unless_so (same_type o.ty t) (misfit_at p) ≡ None) = both_none (settled o) _ e in
-    (none_settled o.misfit h.0, is_so (same_type o.ty t) _ h.1)
-
 pub fits_again : (e : ExprTree) (a t : ValueType) (b : Bool) (p : ℕ) → same_type a t ≡ true → fits (sound e a b) t p ≡ None
 fits_again e a t b p same = so_again (same_type a t) _ same
 
-pub none_left : (op : Op) (o : Operand) (p : ℕ) → fits_left op o p ≡ None → (o.misfit ≡ None) × (takes_left op o.ty ≡ true)
-none_left op o p e =
-    let h : (settled o ≡ None) × (unless_so (takes_left op o.ty) (misfit_at p) ≡ None) = both_none (settled o) _ e in
-    (none_settled o.misfit h.0, is_so (takes_left op o.ty) _ h.1)
+or_left : (a b : Bool) → a ≡ true → (a || b) ≡ true
+or_left a b p = ap (λ c. c || b) p
 
-pub none_refused : (b fit : Bool) (e : ExprTree) (t : ValueType) (p : ℕ) → fit ≡ true → refused_now (sound e t b) fit p ≡ None
-none_refused true fit e t p same = refl
-none_refused false fit e t p same = so_again fit _ same
+or_right : (a b : Bool) → b ≡ true → (a || b) ≡ true
+or_right true b p = refl
+or_right false b p = p
 
--- what is negated or compared without a misfit
-pub negated_again : (e : ExprTree) (t : ValueType) (b : Bool) (p : ℕ) → same_type t Truth ≡ true → sound (negation e) Truth b ≡ negated (sound e t b) p
-negated_again e t b p same =
-    sym (ap (λ c. record { tree = negation e; ty = Truth; is_open = b; misfit = if c then None else Some p }) same)
+pub none_refused : (op : Op) (e f : ExprTree) (t u : ValueType) (b c : Bool) (p : ℕ) → takes_right op t u ≡ true → refused_now op (sound e t b) (sound f u c) p ≡ None
+none_refused op e f t u b c p same = so_again (takes_right op t u || (c && takes_right op t Int)) _ (or_left (takes_right op t u) (c && takes_right op t Int) same)
 
+-- Of what is wanted.
+
+-- such a type is wanted
+abbrev pub Wants : Wanted → ValueType → Type 0
+Wants wanted t = is_expected wanted.expected t ≡ true
+
+pub truth_wanted : (wanted : Wanted) (t : ValueType) → same_type t Truth ≡ true → Wants wanted Truth → Wants wanted t
+truth_wanted wanted Truth same wants = wants
+truth_wanted wanted _ same wants = absurd cc
+
+-- an operand of such a type is no vain beginning
+pub hope_again : (wanted : Wanted) (e : ExprTree) (t : ValueType) (b : Bool) → Wants wanted t → in_vain wanted (sound e t b) ≡ None
+hope_again wanted e t b wants = so_again _ _ (or_left (is_expected wanted.expected t) _ wants)
+
+left_compared : (op : Op) (t : ValueType) → takes_left op t ≡ true → is_compared t ≡ true
+left_compared op.Eq t e = or_left (is_comparable t) (is_sought t) e
+left_compared op.Ne t e = or_left (is_comparable t) (is_sought t) e
+left_compared op.Lt Int e = refl
+left_compared op.Lt _ e = absurd cc
+left_compared op.Le Int e = refl
+left_compared op.Le _ e = absurd cc
+left_compared op.Gt Int e = refl
+left_compared op.Gt _ e = absurd cc
+left_compared op.Ge Int e = refl
+left_compared op.Ge _ e = absurd cc
+left_compared op.In t e = or_right (is_comparable t) (is_sought t) e
+left_compared op.NotIn t e = or_right (is_comparable t) (is_sought t) e
+
+-- nor is what an operator takes, where a comparison is wanted
+pub compared_hope : (wanted : Wanted) (op : Op) (e : ExprTree) (t : ValueType) (b : Bool) → takes_left op t ≡ true → Wants wanted Truth → in_vain wanted (sound e t b) ≡ None
+compared_hope wanted op e t b left wants =
+    so_again _ _ (or_right (is_expected wanted.expected t) _ (or_right (b && is_expected wanted.expected Int) _ (and_from (is_compared t) (is_expected wanted.expected Truth) (left_compared op t left) wants)))
+
+pub left_again : (wanted : Wanted) (op : Op) (e : ExprTree) (t : ValueType) (b : Bool) (p : ℕ) → takes_left op t ≡ true → Wants wanted Truth → option_or (fits_left op (sound e t b) p) (no_truth wanted) ≡ None
+left_again wanted op e t b p left wants = none_both (fits_left op (sound e t b) p) _ (so_again (takes_left op t) _ left) (so_again (is_expected wanted.expected Truth) _ wants)
+
+-- what is compared without a misfit
 pub compared_again : (op : Op) (e f : ExprTree) (t u : ValueType) (b c : Bool) (p : ℕ) → takes_right op t u ≡ true → sound (comparison op e f) Truth false ≡ compared op (sound e t b) (sound f u c) p
 compared_again op e f t u b c p same =
     sym (ap (λ x. record { tree = comparison op e f; ty = Truth; is_open = false; misfit = if x then None else Some p }) same)

@@ -7,6 +7,7 @@ use Rattle.ixp_exprs.specs.declared.types.ValueType.TheVariants.{Bool as Truth}
 use Rattle.ixp_exprs.specs.declared.context.Scope.{Scope}
 use Rattle.ixp_exprs.specs.Types.{same_type}
 use Rattle.ixp_exprs.specs.Names.{Names}
+use Rattle.ixp_exprs.specs.Operands.{one_type}
 use Rattle.ixp_stmts.specs.Statements.{Returned, Said, said, Statements, deeper, if_form, test_end, is_if_else, else_form, Frame}
 use Rattle.ixp_canonical.specs.Canonical.{word, expr_tokens}
 use Rattle.ixp_canonical.specs.CanonicalItems.{stmt_tokens, else_tokens}
@@ -22,8 +23,8 @@ module _ (names : Names) (scope : Scope) where
   test_again n s e ts rest (value, a, took, (x, b, then_, (fit, (is, same)))) m v s' others =
       let h : (value.misfit ≡ None) × (same_type value.ty Truth ≡ true) = none_unfit value Truth s fit in
       subst (λ y. Took (test_end (at names scope s') m) y (expr_tokens y (word (codes "then") others)) others) (sym is)
-      (let whole = (expression_again names scope n s value ts a took h.0 m v).whole in
-      (sound value.tree value.ty whole.0, _, whole.1 s' (word (codes "then") others) (refl, refl), (tt, _, (refl, refl), (fits_again value.tree value.ty Truth whole.0 s' h.1, (refl, refl)))))
+      (let whole = (expression_again names scope n s (one_type Truth s) value ts a took h.0 m v).whole in
+      (sound value.tree value.ty whole.0, _, whole.1 s' (one_type Truth s') h.1 (word (codes "then") others) (refl, refl), (tt, _, (refl, refl), (fits_again value.tree value.ty Truth whole.0 s' h.1, (refl, refl)))))
 
   abbrev frame : Frame
   frame = record { names = names; scope = scope }

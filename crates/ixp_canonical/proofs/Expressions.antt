@@ -23,7 +23,7 @@ use Rattle.ixp_exprs.specs.Operands.{Operand, closed, pair_tree, triple_tree, mi
 use Rattle.ixp_exprs.specs.Expressions.{Place, plain, arguments, roa_values, Parts, no_parts, part_form, enclosed, plain_tree, plain_operand, check_tree, check_word, no_roa_table, roa_table, called, type_or, no_value, negation_form, plain_form, call_form, name_form, operand_form, unary_form, expression_form, expression_of, literal_in, attribute_in, attribute_form, has_parts, Deeper, nothing, deeper, is_left, opened}
 use Rattle.ixp_print.specs.Texts.{is_compound}
 use Rattle.ixp_canonical.specs.Canonical.{expr_tokens, exprs_tokens, set_tokens, sign}
-use Rattle.ixp_canonical.proofs.Basics.{Within, sound, took_token, never_took, none_waits, none_refused, negated_again, there, there_again, so_again, is_so}
+use Rattle.ixp_canonical.proofs.Basics.{Within, sound, took_token, never_took, there, there_again, so_again, is_so}
 use Rattle.ixp_canonical.proofs.Parentheses.{at, Again, Renewed, Going, Lone, parts_again, same_parts}
 use Rattle.ixp_canonical.proofs.Operators.{Alone, Single, single_plain, single_enclosed, expressed_again}
 use Rattle.ixp_canonical.proofs.Tokens.{OneToken, literal_again, outside_again, outside_is, is_attribute, attribute_is, attribute_again}
@@ -60,7 +60,7 @@ no_table_again (Some _) left other place elsewhere e = absurd cc
 
 module _ (names : Names) (scope : Scope) where
   abbrev AloneAgain : ℕ → Type 0
-  AloneAgain n = (s : ℕ) (o : Operand) (ts rest : List Kind) → Took (unary_form (at names scope s) n) o ts rest → o.misfit ≡ None → Single names scope n o.tree o.ty
+  AloneAgain n = (s : ℕ) (o : Operand) (ts rest : List Kind) → Took (unary_form (at names scope s) n) o ts rest → Single names scope n o.tree o.ty
 
   abbrev Says : ℕ → Operand → Type 0
   Says n o = Single names scope n o.tree o.ty
@@ -314,30 +314,29 @@ module _ (names : Names) (scope : Scope) where
       by_level zero w = absurd w
       by_level (suc m) w =
           (let one = alone m w in
-          (one.0, λ s rest. inl (tt, _, (refl, refl), (sound e t one.0, rest, one.1 s rest, (none_refused one.0 (same_type t Truth) e t _ truth, (negated_again e t one.0 _ truth, refl))))))
+          (false, λ s rest. inl (tt, _, (refl, refl), (sound e t one.0, rest, one.1 s rest, (so_again (same_type t Truth) _ truth, (refl, refl))))))
 
-  negation_case : (n : ℕ) → Below n → (s : ℕ) (o : Operand) (ts rest : List Kind) → Took (negation_form (inner_at s n)) o ts rest → o.misfit ≡ None → Says n o
-  negation_case zero below s o ts rest (barred, never) fine = absurd (never_took o ts rest never)
-  negation_case (suc n) below s o ts rest (x, mid, not_, (operand, more, took, (fit, (is, same)))) fine =
-      let h : (operand.misfit ≡ None) × (same_type operand.ty Truth ≡ true) = none_waits operand (same_type operand.ty Truth) (length ts) (ap (λ z. z.misfit) (sym is) ∙ fine) in
-      subst (λ z. Says (suc n) z) (sym is) (negation_spells n operand.tree operand.ty h.1 (below s operand mid more took h.0))
+  negation_case : (n : ℕ) → Below n → (s : ℕ) (o : Operand) (ts rest : List Kind) → Took (negation_form (inner_at s n)) o ts rest → Says n o
+  negation_case zero below s o ts rest (barred, never) = absurd (never_took o ts rest never)
+  negation_case (suc n) below s o ts rest (x, mid, not_, (operand, more, took, (fit, (is, same)))) =
+      subst (λ z. Says (suc n) z) (sym is) (negation_spells n operand.tree operand.ty (is_so (same_type operand.ty Truth) _ fit) (below s operand mid more took))
 
   -- All operands.
 
   literal_taken : (n : ℕ) (o : Operand) → (k : Kind) × (literal_in k ≡ Some o) → Says n o
   literal_taken n o (k, e) = literal_case n o k e
 
-  operand_again : (n : ℕ) → Below n → (s : ℕ) (o : Operand) (ts rest : List Kind) → Took (operand_form (at names scope s) (inner_at s n)) o ts rest → o.misfit ≡ None → Says n o
+  operand_again : (n : ℕ) → Below n → (s : ℕ) (o : Operand) (ts rest : List Kind) → Took (operand_form (at names scope s) (inner_at s n)) o ts rest → Says n o
   unfolding operand_form
-  operand_again n below s o ts rest (inl took) fine = negation_case n below s o ts rest took fine
-  operand_again n below s o ts rest (inr (inl took)) fine = plain_case n below s o ts rest took
-  operand_again n below s o ts rest (inr (inr (inl (x, mid, word, took)))) fine =
+  operand_again n below s o ts rest (inl took) = negation_case n below s o ts rest took
+  operand_again n below s o ts rest (inr (inl took)) = plain_case n below s o ts rest took
+  operand_again n below s o ts rest (inr (inr (inl (x, mid, word, took)))) =
       check_case n below s (length ts) o mid rest (let k = took_token _ x ts mid word in outside_is (at names scope s) check_word k.0 x k.1) took
-  operand_again n below s o ts rest (inr (inr (inr (inl (name, mid, token, took))))) fine = named_case n below s (length ts) o name mid rest (called (at names scope 0) name) refl took
-  operand_again n below s o ts rest (inr (inr (inr (inr (inl took))))) fine = literal_taken n o (took_token literal_in o ts rest took)
-  operand_again n below s o ts rest (inr (inr (inr (inr (inr (inl (a, mid, word, took))))))) fine =
+  operand_again n below s o ts rest (inr (inr (inr (inl (name, mid, token, took))))) = named_case n below s (length ts) o name mid rest (called (at names scope 0) name) refl took
+  operand_again n below s o ts rest (inr (inr (inr (inr (inl took))))) = literal_taken n o (took_token literal_in o ts rest took)
+  operand_again n below s o ts rest (inr (inr (inr (inr (inr (inl (a, mid, word, took))))))) =
       attribute_case n s o a mid rest (let k = took_token _ a ts mid word in outside_is (at names scope s) attribute_in k.0 a k.1) took
-  operand_again n below s o ts rest (inr (inr (inr (inr (inr (inr (x, mid, open_, (v, more, took, (is, same))))))))) fine =
+  operand_again n below s o ts rest (inr (inr (inr (inr (inr (inr (x, mid, open_, (v, more, took, (is, same))))))))) =
       set_case n o v is (by_level n v (set_again names (is_left (inner_at s n)) v mid more took))
     where
       by_level : (n : ℕ) (v : SetLit × ValueType) → SetAgain names (is_left (inner_at s n)) v → SetAgain names (level_left n) v
@@ -345,8 +344,8 @@ module _ (names : Names) (scope : Scope) where
       by_level (suc n) v again = again
 
   alone_again : (n : ℕ) → AloneAgain n
-  alone_again zero s o ts rest took fine = operand_again zero tt s o ts rest took fine
-  alone_again (suc n) s o ts rest took fine = operand_again (suc n) (alone_again n) s o ts rest took fine
+  alone_again zero s o ts rest took = operand_again zero tt s o ts rest took
+  alone_again (suc n) s o ts rest took = operand_again (suc n) (alone_again n) s o ts rest took
 
   -- each expression
   pub expression_again : (n : ℕ) → Again names scope n

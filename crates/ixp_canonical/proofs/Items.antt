@@ -14,7 +14,7 @@ use Rattle.ixp_tokens.specs.Pieces.{the_word}
 use Rattle.ixp_exprs.specs.declared.context.Scope.TheVariants as scope
 use Rattle.ixp_exprs.specs.declared.env.Declared.TheVariants.{Table}
 use Rattle.ixp_exprs.specs.Names.{Names}
-use Rattle.ixp_exprs.specs.Operands.{Operand}
+use Rattle.ixp_exprs.specs.Operands.{Operand, anything}
 use Rattle.ixp_exprs.specs.Declarations.{nothing_declared, Declares, standing}
 use Rattle.ixp_read.specs.Items.{if_v4, v4_addr_in, router_id_end, unowned, table_end, define_levels, defined, define_end, declaration_form, table_or, item_form, Begun, with_item, is_more, config_form}
 use Rattle.ixp_print.specs.Texts.{kind_text}
@@ -68,7 +68,7 @@ module _ (number : ℕ) (names : Names) where
   define_again place d ts rest (n, a, free, (x, b, equal, (value, c, (found, e, took, (y, f, semicolon, (fit, (is_v, same_v)))), (is, same)))) elsewhere others =
       subst (λ (z : Declares). Took (sequence (the_word (codes "define")) (λ tt. define_end elsewhere names)) z (item_tokens z.0 others) others) (sym is)
       (subst (λ (v : Operand). Took (sequence (the_word (codes "define")) (λ tt. define_end elsewhere names)) (defined names n v) (item_tokens (define_item n v.tree) others) others) (sym is_v)
-      (let whole = (expression_again names scope.Define define_levels place found b e took (none_settled found.misfit fit) define_levels (within_same define_levels)).whole in (
+      (let whole = (expression_again names scope.Define define_levels place anything found b e took (none_settled found.misfit fit) define_levels (within_same define_levels)).whole in (
         tt,
         _,
         (refl, refl),
@@ -83,7 +83,7 @@ module _ (number : ℕ) (names : Names) where
             (
               sound found.tree found.ty whole.0,
               _,
-              (sound found.tree found.ty whole.0, _, whole.1 elsewhere (sign mark.Semicolon others) (refl, refl), (tt, _, (refl, refl), (refl, (refl, refl)))),
+              (sound found.tree found.ty whole.0, _, whole.1 elsewhere anything refl (sign mark.Semicolon others) (refl, refl), (tt, _, (refl, refl), (refl, (refl, refl)))),
               (refl, refl),
             ),
           ),

@@ -12,14 +12,15 @@ use Rattle.ixp_lang.specs.declared.expr.Op.TheVariants as op
 use Rattle.ixp_exprs.specs.declared.types.ValueType.{ValueType}
 use Rattle.ixp_exprs.specs.declared.types.ValueType.TheVariants.{Bool as Truth}
 use Rattle.ixp_exprs.specs.declared.context.Scope.{Scope}
+use Rattle.ixp_exprs.specs.declared.wanted.Wanted.{Wanted}
 use Rattle.ixp_exprs.specs.Types.{same_type, takes_left, takes_right}
 use Rattle.ixp_exprs.specs.Names.{Names}
-use Rattle.ixp_exprs.specs.Operands.{Operand, misfit_at}
+use Rattle.ixp_exprs.specs.Operands.{Operand, misfit_at, fits_left, anything, one_type, no_truth}
 use Rattle.ixp_exprs.specs.Expressions.{operator_in, Chain, begun_with, longer, part_misfit, chained, comparison_of, chain_part, chain_of, expression_of, unary_form, expression_form, operand_form}
 use Rattle.ixp_print.specs.Texts.{is_chain, is_compound}
 use Rattle.ixp_canonical.specs.Canonical.{Before, operator, wrapped, expr_tokens, chain_tokens}
-use Rattle.ixp_canonical.proofs.Basics.{Within, within_less, sound, so_again, none_settled, none_unfit, none_waits, none_left, none_refused, compared_again}
-use Rattle.ixp_canonical.proofs.Parentheses.{Unjoined, at, Reads, Fitting, Expressed, Again}
+use Rattle.ixp_canonical.proofs.Basics.{Within, within_less, sound, so_again, none_settled, none_unfit, none_part, if_none, is_so, none_refused, compared_again, both_none, Wants, truth_wanted, hope_again, compared_hope, left_again}
+use Rattle.ixp_canonical.proofs.Parentheses.{Unjoined, at, Reads, Meets, Fitting, Expressed, Again}
 
 pub operator_again : (o : Op) → operator_in (kind.Mark (operator o)) ≡ Some o
 operator_again op.Eq = refl
@@ -48,7 +49,7 @@ pub data Joint : Mark → Mark → (ExprTrees → ExprTree) → Type 0 where
 
 module _ (names : Names) (scope : Scope) where
   abbrev pub Compared : ℕ → ExprTree → ValueType → Before → Type 0
-  Compared m = Reads names scope (λ s. comparison_of (unary_form (at names scope s) m))
+  Compared m = Meets names scope (λ s. comparison_of (unary_form (at names scope s) m))
 
   abbrev pub Alone : ℕ → ExprTree → ValueType → Before → Type 0
   Alone m = Reads names scope (λ s. unary_form (at names scope s) m)
@@ -62,11 +63,11 @@ module _ (names : Names) (scope : Scope) where
   Joined n e t = Expressed names scope n e t × ((m : ℕ) → Within n m → Compared m e t (wrapped (is_chain e) (expr_tokens e)))
 
   compared_alone : (m : ℕ) (e : ExprTree) (t : ValueType) (text : Before) → Alone m e t text → Compared m e t text
-  compared_alone m e t text (b, reads) = (b, λ s rest. (sound e t b, rest, reads s rest, inr (refl, refl)))
+  compared_alone m e t text (b, reads) = (b, λ s wanted wants rest. (sound e t b, rest, reads s rest, (hope_again wanted e t b wants, inr (refl, refl))))
 
   whole_compared : (m : ℕ) (e : ExprTree) (t : ValueType) → Compared m e t (expr_tokens e)
-      → (b : Bool) × ((s : ℕ) (rest : List Kind) → Unjoined rest → Took (expression_form (at names scope s) m) (sound e t b) (expr_tokens e rest) rest)
-  whole_compared m e t (b, reads) = (b, λ s rest free. (sound e t b, rest, reads s rest, inr (inr (refl, refl))))
+      → (b : Bool) × ((s : ℕ) (wanted : Wanted) → Wants wanted t → (rest : List Kind) → Unjoined rest → Took (expression_form (at names scope s) m wanted) (sound e t b) (expr_tokens e rest) rest)
+  whole_compared m e t (b, reads) = (b, λ s wanted wants rest free. (sound e t b, rest, reads s wanted wants rest, inr (inr (refl, refl))))
 
   pub fitting_alone : (m : ℕ) (e : ExprTree) (t : ValueType) → Alone m e t (expr_tokens e) → Fitting names scope m e t
   fitting_alone m e t reads = record {
@@ -110,7 +111,7 @@ module _ (names : Names) (scope : Scope) where
               (
                 record { trees = e ∷ []; first = _; ty = t },
                 rest,
-                (0, (sound e t whole.0, kind.Mark mark.Close ∷ rest, whole.1 s (kind.Mark mark.Close ∷ rest) (refl, refl), (true, rest, (refl, refl), (refl, (refl, refl))))),
+                (0, (sound e t whole.0, kind.Mark mark.Close ∷ rest, whole.1 s anything refl (kind.Mark mark.Close ∷ rest) (refl, refl), (true, rest, (refl, refl), (refl, (refl, refl))))),
                 (refl, refl),
               ),
             ))),
@@ -127,42 +128,42 @@ module _ (names : Names) (scope : Scope) where
       reads : (m : ℕ) → Within n m → Compared m (comparison op e f) Truth (expr_tokens (comparison op e f))
       reads m w = (
         false,
-        λ s rest. (let one = alone_e m w in let other = alone_f m w in (
+        λ s wanted wants rest. (let one = alone_e m w in let other = alone_f m w in (
           sound e t one.0,
           _,
           one.1 s _,
-          inl (
-            op,
-            _,
-            (operator_again op, refl),
-            (
-              so_again (takes_left op t) _ left,
-              (sound f u other.0, rest, other.1 s rest, (none_refused other.0 (takes_right op t u) f u _ right, (compared_again op e f t u one.0 other.0 _ right, refl))),
+          (
+            compared_hope wanted op e t one.0 left wants,
+            inl (
+              op,
+              _,
+              (operator_again op, refl),
+              (
+                left_again wanted op e t one.0 _ left wants,
+                (sound f u other.0, rest, other.1 s rest, (none_refused op e f t u one.0 other.0 _ right, (compared_again op e f t u one.0 other.0 _ right, refl))),
+              ),
             ),
           ),
         )),
       )
 
   abbrev AloneAgain : ℕ → Type 0
-  AloneAgain n = (s : ℕ) (o : Operand) (ts rest : List Kind) → Took (unary_form (at names scope s) n) o ts rest → o.misfit ≡ None → Single n o.tree o.ty
+  AloneAgain n = (s : ℕ) (o : Operand) (ts rest : List Kind) → Took (unary_form (at names scope s) n) o ts rest → Single n o.tree o.ty
 
   abbrev ComparedAgain : ℕ → Type 0
-  ComparedAgain n = (s : ℕ) (o : Operand) (ts rest : List Kind) → Took (comparison_of (unary_form (at names scope s) n)) o ts rest → o.misfit ≡ None → Joined n o.tree o.ty
+  ComparedAgain n = (s : ℕ) (wanted : Wanted) (o : Operand) (ts rest : List Kind) → Took (comparison_of (unary_form (at names scope s) n) wanted) o ts rest → o.misfit ≡ None → Joined n o.tree o.ty
 
   comparison_again : (n : ℕ) → AloneAgain n → ComparedAgain n
-  comparison_again n again s o ts rest (left, mid, took, inr (is, same)) fine =
-      joined_single n o.tree o.ty (subst (λ x. Single n x.tree x.ty) (sym is) (again s left ts mid took (ap (λ x. x.misfit) (sym is) ∙ fine)))
-  comparison_again n again s o ts rest (left, mid, took, inl (op, others, operator_, (fit, (right, more, took_right, (fit_right, (is, same)))))) fine =
+  comparison_again n again s wanted o ts rest (left, mid, took, (hope, inr (is, same))) fine =
+      joined_single n o.tree o.ty (subst (λ x. Single n x.tree x.ty) (sym is) (again s left ts mid took))
+  comparison_again n again s wanted o ts rest (left, mid, took, (hope, inl (op, others, operator_, (fit, (right, more, took_right, (fit_right, (is, same))))))) fine =
       let place : ℕ = length mid in
-      let h : (left.misfit ≡ None) × (takes_left op left.ty ≡ true) = none_left op left place fit in
-      let k : (right.misfit ≡ None) × (takes_right op left.ty right.ty ≡ true) = none_waits right (takes_right op left.ty right.ty) place (ap (λ x. x.misfit) (sym is) ∙ fine) in
+      let h : takes_left op left.ty ≡ true = is_so (takes_left op left.ty) _ (both_none (fits_left op left place) (no_truth wanted) fit).0 in
+      let k : takes_right op left.ty right.ty ≡ true = if_none (takes_right op left.ty right.ty) place (ap (λ x. x.misfit) (sym is) ∙ fine) in
       subst (λ x. Joined n x.tree x.ty) (sym is)
-      (comparing n op left.tree right.tree left.ty right.ty h.1 k.1 (again s left ts mid took h.0) (again s right others more took_right k.0))
+      (comparing n op left.tree right.tree left.ty right.ty h k (again s left ts mid took) (again s right others more took_right))
 
   -- Chains.
-
-  none_part : (part : Operand) (place : ℕ) → part_misfit part place ≡ None → (part.misfit ≡ None) × (same_type part.ty Truth ≡ true)
-  none_part part place e = none_waits part (same_type part.ty Truth) place e
 
   abbrev pub ChainRounds : Mark → Mark → (ExprTrees → ExprTree) → ℕ → ℕ → ℕ → Chain → Operand → List Kind → List Kind → Type 0
   ChainRounds joint other joined n s = Rounds (λ c. Took (chain_part (unary_form (at names scope s) n) joint other joined c))
@@ -201,7 +202,7 @@ module _ (names : Names) (scope : Scope) where
       let e : ◌≡◌ {A = Step Chain Operand} (done o) (done (chained joined chain part)) = is in
       let is_chained : o ≡ chained joined chain part = cc in
       let h : (part.misfit ≡ None) × (same_type part.ty Truth ≡ true) = none_part part chain.place (ap (λ x. x.misfit) (sym is_chained) ∙ fine) in
-      let joins : Joined n part.tree part.ty = again s part ts mid took h.0 in (
+      let joins : Joined n part.tree part.ty = again s (one_type Truth chain.place) part ts mid took h.0 in (
         part.tree,
         [],
         ap (λ x. x.tree) is_chained,
@@ -212,7 +213,7 @@ module _ (names : Names) (scope : Scope) where
               (
                 sound part.tree part.ty reads.0,
                 others,
-                reads.1 s others,
+                reads.1 s (one_type Truth place) h.1 others,
                 (
                   unjoined joint other joined j others free_others,
                   inr (ap done (misfit_again joined chain.parts part.tree part.ty reads.0 place h.1), refl),
@@ -228,7 +229,7 @@ module _ (names : Names) (scope : Scope) where
       let e : ◌≡◌ {A = Step Chain Operand} (onward next) (onward (longer chain part (length mid))) = is in
       let is_longer : next ≡ longer chain part (length mid) = cc in
       let h : (part.misfit ≡ None) × (same_type part.ty Truth ≡ true) = none_part part chain.place (none_settled (part_misfit part chain.place) fit) in
-      by_parts h (again s part ts mid took h.0) (subst (λ c. Chained joint other joined n c.parts o) is_longer behind)
+      by_parts h (again s (one_type Truth chain.place) part ts mid took h.0) (subst (λ c. Chained joint other joined n c.parts o) is_longer behind)
     where
       by_parts : (part.misfit ≡ None) × (same_type part.ty Truth ≡ true) → Joined n part.tree part.ty → Chained joint other joined n (chain.parts ++ part.tree ∷ []) o → Chained joint other joined n chain.parts o
       by_parts h joins (f, fs, tree, ty, spells) =
@@ -249,7 +250,7 @@ module _ (names : Names) (scope : Scope) where
                     (
                       sound part.tree part.ty reads.0,
                       kind.Mark joint ∷ rest_tokens,
-                      reads.1 s (kind.Mark joint ∷ rest_tokens),
+                      reads.1 s (one_type Truth place) h.1 (kind.Mark joint ∷ rest_tokens),
                       (
                         joint_apart joint other joined j rest_tokens,
                         inl (tt, rest_tokens, (joint_again joint other joined j, refl), (no_misfit part.tree part.ty reads.0 place h.1, (refl, refl))),
@@ -274,10 +275,10 @@ module _ (names : Names) (scope : Scope) where
   row_tokens joint other joined of_and es rest = refl
   row_tokens joint other joined of_or es rest = refl
 
-  in_expression : (joint other : Mark) (joined : ExprTrees → ExprTree) → Joint joint other joined → (g : Grammar Operand) (first o : Operand) (ts mid rest : List Kind) → Took (comparison_of g) first ts mid
-      → Took (chain_of g joint other joined first (length mid)) o mid rest → Took (expression_of g) o ts rest
-  in_expression joint other joined of_and g first o ts mid rest took chain = (first, mid, took, inl chain)
-  in_expression joint other joined of_or g first o ts mid rest took chain = (first, mid, took, inr (inl chain))
+  in_expression : (joint other : Mark) (joined : ExprTrees → ExprTree) → Joint joint other joined → (g : Grammar Operand) (wanted : Wanted) (first o : Operand) (ts mid rest : List Kind) → Took (comparison_of g wanted) first ts mid
+      → Took (chain_of g joint other joined first (length mid)) o mid rest → Took (expression_of g wanted) o ts rest
+  in_expression joint other joined of_and g wanted first o ts mid rest took chain = (first, mid, took, inl chain)
+  in_expression joint other joined of_or g wanted first o ts mid rest took chain = (first, mid, took, inr (inl chain))
 
   no_chain : (e : ExprTree) → is_chain e ≡ true → is_chain e ≡ false → ⊥
   no_chain e h k = (let f : true ≡ false = sym h ∙ k in let x : ⊥ = cc in x)
@@ -293,30 +294,30 @@ module _ (names : Names) (scope : Scope) where
       all : ExprTree
       all = joined (exprs (first.tree ∷ e ∷ es))
 
-      reads_all : (m : ℕ) → Within n m → (s : ℕ) (rest : List Kind) → Unjoined rest → Took (expression_form (at names scope s) m) (sound all Truth false) (chain_tokens joint (exprs (first.tree ∷ e ∷ es)) rest) rest
-      reads_all m w s rest free =
+      reads_all : (m : ℕ) → Within n m → (s : ℕ) (wanted : Wanted) → Wants wanted Truth → (rest : List Kind) → Unjoined rest → Took (expression_form (at names scope s) m wanted) (sound all Truth false) (chain_tokens joint (exprs (first.tree ∷ e ∷ es)) rest) rest
+      reads_all m w s wanted wants rest free =
           (let one = joins.1 m w in
           let rest_tokens : List Kind = chain_tokens joint (exprs (e ∷ es)) rest in
-          in_expression joint other joined j (unary_form (at names scope s) m) (sound first.tree first.ty one.0) (sound all Truth false) _ (kind.Mark joint ∷ rest_tokens) rest
-          (one.1 s (kind.Mark joint ∷ rest_tokens))
+          in_expression joint other joined j (unary_form (at names scope s) m) wanted (sound first.tree first.ty one.0) (sound all Truth false) _ (kind.Mark joint ∷ rest_tokens) rest
+          (one.1 s wanted (truth_wanted wanted first.ty truth wants) (kind.Mark joint ∷ rest_tokens))
           (tt, rest_tokens, (joint_again joint other joined j, refl), (so_again (same_type first.ty Truth) _ truth, spells m w s (length (kind.Mark joint ∷ rest_tokens)) rest free)))
 
       spelt : Expressed names scope n all Truth
       spelt m w = record {
-        whole = (false, λ s rest free. subst (λ ts. Took (expression_form (at names scope s) m) (sound all Truth false) ts rest) (sym (row_tokens joint other joined j (exprs (first.tree ∷ e ∷ es)) rest)) (reads_all m w s rest free));
+        whole = (false, λ s wanted wants rest free. subst (λ ts. Took (expression_form (at names scope s) m wanted) (sound all Truth false) ts rest) (sym (row_tokens joint other joined j (exprs (first.tree ∷ e ∷ es)) rest)) (reads_all m w s wanted wants rest free));
         part = λ h. absurd (no_chain all (row_head joint other joined j (exprs (first.tree ∷ e ∷ es))).1 h);
         alone = λ h. absurd (no_compound all (row_head joint other joined j (exprs (first.tree ∷ e ∷ es))).0 h);
       }
 
-  chain_again : (joint other : Mark) (joined : ExprTrees → ExprTree) → Joint joint other joined → (n : ℕ) → ComparedAgain n → (s : ℕ) (first o : Operand) (place : ℕ) (ts mid rest : List Kind)
-      → Took (comparison_of (unary_form (at names scope s) n)) first ts mid → Took (chain_of (unary_form (at names scope s) n) joint other joined first place) o mid rest → o.misfit ≡ None → Expressed names scope n o.tree o.ty
-  chain_again joint other joined j n again s first o place ts mid rest took (x, more, mark_, (fit, (k, parts))) fine =
+  chain_again : (joint other : Mark) (joined : ExprTrees → ExprTree) → Joint joint other joined → (n : ℕ) → ComparedAgain n → (s : ℕ) (wanted : Wanted) (first o : Operand) (place : ℕ) (ts mid rest : List Kind)
+      → Took (comparison_of (unary_form (at names scope s) n) wanted) first ts mid → Took (chain_of (unary_form (at names scope s) n) joint other joined first place) o mid rest → o.misfit ≡ None → Expressed names scope n o.tree o.ty
+  chain_again joint other joined j n again s wanted first o place ts mid rest took (x, more, mark_, (fit, (k, parts))) fine =
       let h : (first.misfit ≡ None) × (same_type first.ty Truth ≡ true) = none_unfit first Truth place fit in
-      row_again joint other joined j n first o h.1 (again s first ts mid took h.0) (parts_of_chain joint other joined j n again s k (begun_with first place) o more rest parts fine)
+      row_again joint other joined j n first o h.1 (again s wanted first ts mid took h.0) (parts_of_chain joint other joined j n again s k (begun_with first place) o more rest parts fine)
 
   -- what is said as an expression, where all that stands alone is known
-  pub expressed_again : (n : ℕ) → ((s : ℕ) (o : Operand) (ts rest : List Kind) → Took (unary_form (at names scope s) n) o ts rest → o.misfit ≡ None → Single n o.tree o.ty) → Again names scope n
-  expressed_again n again s o ts rest (first, mid, took, inl chain) fine = chain_again mark.And mark.Or conjunction of_and n (comparison_again n again) s first o (length mid) ts mid rest took chain fine
-  expressed_again n again s o ts rest (first, mid, took, inr (inl chain)) fine = chain_again mark.Or mark.And disjunction of_or n (comparison_again n again) s first o (length mid) ts mid rest took chain fine
-  expressed_again n again s o ts rest (first, mid, took, inr (inr (is, same))) fine =
-      subst (λ x. Expressed names scope n x.tree x.ty) (sym is) (comparison_again n again s first ts mid took (ap (λ x. x.misfit) (sym is) ∙ fine)).0
+  pub expressed_again : (n : ℕ) → ((s : ℕ) (o : Operand) (ts rest : List Kind) → Took (unary_form (at names scope s) n) o ts rest → Single n o.tree o.ty) → Again names scope n
+  expressed_again n again s wanted o ts rest (first, mid, took, inl chain) fine = chain_again mark.And mark.Or conjunction of_and n (comparison_again n again) s wanted first o (length mid) ts mid rest took chain fine
+  expressed_again n again s wanted o ts rest (first, mid, took, inr (inl chain)) fine = chain_again mark.Or mark.And disjunction of_or n (comparison_again n again) s wanted first o (length mid) ts mid rest took chain fine
+  expressed_again n again s wanted o ts rest (first, mid, took, inr (inr (is, same))) fine =
+      subst (λ x. Expressed names scope n x.tree x.ty) (sym is) (comparison_again n again s wanted first ts mid took (ap (λ x. x.misfit) (sym is) ∙ fine)).0

@@ -1,6 +1,8 @@
 -- What is spelt in parentheses, one expression, a tuple or the arguments of a call, is spelt so by its canonical tokens.
-use Rattle.std.proofs.Common.{◌≡◌, ℕ, zero, suc, ◌⊎◌, inl, inr, Bool, true, false, ◌&&◌, ◌==◌, List, [], ◌∷◌, ◌++◌, length, Option, Some, None, refl, ap, ◌∙◌, subst, if◌then◌else◌, append_assoc, arith}
+use Rattle.std.proofs.Common.{◌≡◌, ℕ, zero, suc, ◌⊎◌, inl, inr, Bool, true, false, ◌&&◌, ◌==◌, List, [], ◌∷◌, ◌++◌, length, Option, Some, None, refl, sym, ap, ◌∙◌, subst, if◌then◌else◌, append_assoc, arith}
+use Rattle.std.proofs.lemmas.Bool.Decides.{nat_tests}
 use Rattle.std.proofs.lemmas.List.{length_push}
+use Rattle.std.specs.Option.{option_or}
 use Rattle.ixp_tokens.specs.declared.token.Kind.{Kind}
 use Rattle.ixp_tokens.specs.declared.token.Kind.TheVariants.{Mark as Marked}
 use Rattle.ixp_tokens.specs.declared.token.Mark.TheVariants as mark
@@ -10,14 +12,15 @@ use Rattle.ixp_lang.specs.Trees.{ExprTree, exprs}
 use Rattle.ixp_exprs.specs.declared.types.ValueType.{ValueType}
 use Rattle.ixp_exprs.specs.declared.types.ValueType.TheVariants.{Int, Prefix}
 use Rattle.ixp_exprs.specs.declared.context.Scope.{Scope}
+use Rattle.ixp_exprs.specs.declared.wanted.Wanted.{Wanted}
 use Rattle.ixp_exprs.specs.Types.{same_type}
 use Rattle.ixp_exprs.specs.Names.{Names}
 use Rattle.ixp_exprs.specs.Sets.{unless_so}
-use Rattle.ixp_exprs.specs.Operands.{Operand, or_else, misfit_at, fits, literal_number}
-use Rattle.ixp_exprs.specs.Expressions.{Place, Shape, plain, arguments, roa_values, may_go_on, may_end, part_end_in, fits_argument, Parts, with_part, too_great_if, fits_pair, fits_plain, fits_next, ends_with, part_form, comparison_of, unary_form, expression_form}
+use Rattle.ixp_exprs.specs.Operands.{Operand, misfit_at, fits, anything, one_type, literal_number}
+use Rattle.ixp_exprs.specs.Expressions.{Place, Shape, plain, arguments, roa_values, may_go_on, may_end, part_end_in, fits_argument, Parts, argument_wanted, wanted_part, with_part, too_great_if, fits_pair, fits_plain, fits_next, ends_with, part_form, comparison_of, unary_form, expression_form}
 use Rattle.ixp_print.specs.Texts.{is_chain, is_compound}
 use Rattle.ixp_canonical.specs.Canonical.{Before, expr_tokens, exprs_tokens}
-use Rattle.ixp_canonical.proofs.Basics.{Within, sound, took_token, both_none, none_both, is_so, so_again, none_settled, none_unfit, fits_again}
+use Rattle.ixp_canonical.proofs.Basics.{Within, sound, took_token, both_none, none_both, is_so, so_again, none_settled, none_unfit, fits_again, Wants}
 
 -- no chain goes on with these tokens
 abbrev pub Unjoined : List Kind → Type 0
@@ -56,12 +59,41 @@ plain_again : (trees : List ExprTree) (first other_first : ℕ) (is_last : Bool)
 plain_again [] first other_first true part left other place elsewhere b e = (none_settled part.misfit e, refl)
 plain_again [] first other_first false part left other place elsewhere b e = fit_again part Int place elsewhere b e
 plain_again (a ∷ []) first other_first true part left other place elsewhere b e =
-    let h : (fits_pair a first ≡ None) × (or_else (fits_pair part.tree left) (fits part Int place) ≡ None) = both_none (fits_pair a first) _ e in
+    let h : (fits_pair a first ≡ None) × (option_or (fits_pair part.tree left) (fits part Int place) ≡ None) = both_none (fits_pair a first) _ e in
     let k : (fits_pair part.tree left ≡ None) × (fits part Int place ≡ None) = both_none (fits_pair part.tree left) _ h.1 in
     let f : (part.misfit ≡ None) × (fits (sound part.tree part.ty b) Int elsewhere ≡ None) = fit_again part Int place elsewhere b k.1 in
     (f.0, none_both (fits_pair a other_first) _ (small_again (literal_number a) first other_first h.0) (none_both (fits_pair part.tree other) _ (small_again (literal_number part.tree) left other k.0) f.1))
 plain_again (a ∷ []) first other_first false part left other place elsewhere b e = fit_again part Int place elsewhere b e
 plain_again (a ∷ c ∷ others) first other_first is_last part left other place elsewhere b e = fit_again part Int place elsewhere b e
+
+-- a part that fits is of a type that is wanted of it, wherever it is told
+
+argument_fits : (params : List ValueType) (i : ℕ) (is_last : Bool) (part : Operand) (place elsewhere : ℕ) → fits_argument params i is_last part place ≡ None → Wants (argument_wanted params i elsewhere) part.ty
+argument_fits [] i is_last part place elsewhere e = absurd cc
+argument_fits (p ∷ []) zero is_last part place elsewhere e = (none_unfit part p place (both_none (fits part p place) _ e).0).1
+argument_fits (p ∷ q ∷ ps) zero true part place elsewhere e = (none_unfit part p place (both_none (fits part p place) _ e).0).1
+argument_fits (p ∷ q ∷ ps) zero false part place elsewhere e = (none_unfit part p place (both_none (fits part p place) _ e).0).1
+argument_fits (p ∷ []) (suc i) is_last part place elsewhere e = argument_fits [] i is_last part place elsewhere e
+argument_fits (p ∷ q ∷ ps) (suc i) is_last part place elsewhere e = argument_fits (q ∷ ps) i is_last part place elsewhere e
+
+later : (n : ℕ) → (suc n == 0) ≡ false
+later n = grind (arith, nat_tests)
+
+plain_wanted : (trees : List ExprTree) (first : ℕ) (is_last : Bool) (part : Operand) (left place elsewhere : ℕ) → fits_plain trees first is_last part left place ≡ None → Wants (wanted_part plain (length trees) elsewhere) part.ty
+plain_wanted [] first is_last part left place elsewhere e = refl
+plain_wanted (a ∷ others) first is_last part left place elsewhere e =
+    subst (λ b. Wants (if b then anything else one_type Int elsewhere) part.ty) (sym (later (length others))) (int_of others is_last e)
+  where
+    int_of : (others : List ExprTree) (is_last : Bool) → fits_plain (a ∷ others) first is_last part left place ≡ None → same_type part.ty Int ≡ true
+    int_of [] true e = (none_unfit part Int place (both_none (fits_pair part.tree left) _ (both_none (fits_pair a first) _ e).1).1).1
+    int_of [] false e = (none_unfit part Int place e).1
+    int_of (b ∷ others) is_last e = (none_unfit part Int place e).1
+
+pub part_wanted : (shape : Shape) (before : Parts) (is_last : Bool) (part : Operand) (left place elsewhere : ℕ) → fits_next shape before is_last part left place ≡ None
+    → Wants (wanted_part shape (length before.trees) elsewhere) part.ty
+part_wanted plain before is_last part left place elsewhere e = plain_wanted before.trees before.first is_last part left place elsewhere e
+part_wanted (arguments params) before is_last part left place elsewhere e = argument_fits params (length before.trees) is_last part place elsewhere e
+part_wanted roa_values before is_last part left place elsewhere e = (none_unfit part (if length before.trees == 0 then Prefix else Int) place e).1
 
 -- parts with the same trees
 abbrev pub same_parts : Parts → ℕ → ValueType → Parts
@@ -129,11 +161,15 @@ module _ (names : Names) (scope : Scope) where
   abbrev pub Reads : (ℕ → Grammar Operand) → ExprTree → ValueType → Before → Type 0
   Reads g e t text = (b : Bool) × ((s : ℕ) (rest : List Kind) → Took (g s) (sound e t b) (text rest) rest)
 
+  -- the same where the tree's type is wanted
+  abbrev pub Meets : (ℕ → Wanted → Grammar Operand) → ExprTree → ValueType → Before → Type 0
+  Meets g e t text = (b : Bool) × ((s : ℕ) (wanted : Wanted) → Wants wanted t → (rest : List Kind) → Took (g s wanted) (sound e t b) (text rest) rest)
+
   -- The canonical tokens of the tree, with so many levels: as an expression, as an operand of a chain where it is none itself, and
   -- alone where it needs no parentheses.
   pub record Fitting (m : ℕ) (e : ExprTree) (t : ValueType) : Type 0 where
-    pub whole : (b : Bool) × ((s : ℕ) (rest : List Kind) → Unjoined rest → Took (expression_form (at s) m) (sound e t b) (expr_tokens e rest) rest)
-    pub part : is_chain e ≡ false → Reads (λ s. comparison_of (unary_form (at s) m)) e t (expr_tokens e)
+    pub whole : (b : Bool) × ((s : ℕ) (wanted : Wanted) → Wants wanted t → (rest : List Kind) → Unjoined rest → Took (expression_form (at s) m wanted) (sound e t b) (expr_tokens e rest) rest)
+    pub part : is_chain e ≡ false → Meets (λ s. comparison_of (unary_form (at s) m)) e t (expr_tokens e)
     pub alone : is_compound e ≡ false → Reads (λ s. unary_form (at s) m) e t (expr_tokens e)
 
   -- the same with these levels or more
@@ -142,7 +178,7 @@ module _ (names : Names) (scope : Scope) where
 
   -- each expression of so many levels is spelt by its canonical tokens
   abbrev pub Again : ℕ → Type 0
-  Again n = (s : ℕ) (o : Operand) (ts rest : List Kind) → Took (expression_form (at s) n) o ts rest → o.misfit ≡ None → Expressed n o.tree o.ty
+  Again n = (s : ℕ) (wanted : Wanted) (o : Operand) (ts rest : List Kind) → Took (expression_form (at s) n wanted) o ts rest → o.misfit ≡ None → Expressed n o.tree o.ty
 
   abbrev pub Lone : ℕ → List ExprTree → ValueType → Type 0
   Lone n [] t = Unit {0}
@@ -166,7 +202,7 @@ module _ (names : Names) (scope : Scope) where
       at_end : (k : Kind) → part_end_in shape (length before.trees) k ≡ Some true → fits_next shape before true operand (length ts) place ≡ None → Renewed n shape before (with_part before operand)
       at_end k end fit =
           let fine : operand.misfit ≡ None = (next_again shape before 0 Int true operand (length ts) 0 place 0 true fit).0 in
-          let spelt : Expressed n operand.tree operand.ty = again s operand ts mid took fine in
+          let spelt : Expressed n operand.tree operand.ty = again s (wanted_part shape (length before.trees) place) operand ts mid took fine in
           let ends : may_end shape (length before.trees) ≡ true = close_ends shape (length before.trees) k end in (
             operand.tree ∷ [],
             refl,
@@ -178,7 +214,7 @@ module _ (names : Names) (scope : Scope) where
                   (
                     sound operand.tree operand.ty whole.0,
                     Marked mark.Close ∷ rest',
-                    whole.1 s' (Marked mark.Close ∷ rest') (refl, refl),
+                    whole.1 s' (wanted_part shape (length before.trees) place') (part_wanted shape before true operand (length ts) place place' fit) (Marked mark.Close ∷ rest') (refl, refl),
                     (
                       true,
                       rest',
@@ -204,7 +240,7 @@ module _ (names : Names) (scope : Scope) where
       at_comma k end fit ([], all, going, lone, spells) = absurd going
       at_comma k end fit (e ∷ es, all, going, lone, spells) =
           let fine : operand.misfit ≡ None = (next_again shape before 0 Int false operand (length ts) 0 place 0 true fit).0 in
-          let spelt : Expressed n operand.tree operand.ty = again s operand ts mid took fine in
+          let spelt : Expressed n operand.tree operand.ty = again s (wanted_part shape (length before.trees) place) operand ts mid took fine in
           let on : may_go_on shape (length before.trees) ≡ true = comma_goes_on shape (length before.trees) k end in (
             operand.tree ∷ e ∷ es,
             all ∙ append_assoc before.trees (operand.tree ∷ []) (e ∷ es),
@@ -220,7 +256,7 @@ module _ (names : Names) (scope : Scope) where
                     (
                       sound operand.tree operand.ty whole.0,
                       Marked mark.Comma ∷ exprs_tokens (exprs (e ∷ es)) (Marked mark.Close ∷ rest'),
-                      whole.1 s' _ (refl, refl),
+                      whole.1 s' (wanted_part shape (length before.trees) place') (part_wanted shape before false operand (length ts) place place' fit) _ (refl, refl),
                       (
                         false,
                         _,

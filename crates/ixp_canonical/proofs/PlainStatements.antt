@@ -11,6 +11,7 @@ use Rattle.ixp_exprs.specs.declared.env.Signature.{Signature}
 use Rattle.ixp_exprs.specs.declared.context.Scope.{Scope}
 use Rattle.ixp_exprs.specs.Types.{same_type}
 use Rattle.ixp_exprs.specs.Names.{Names, function_of}
+use Rattle.ixp_exprs.specs.Operands.{one_type}
 use Rattle.ixp_exprs.specs.Expressions.{Parts}
 use Rattle.ixp_stmts.specs.Statements.{value_end, enclosed_end, params_of, change_form}
 use Rattle.ixp_canonical.specs.Canonical.{expr_tokens, sign}
@@ -27,8 +28,8 @@ module _ (names : Names) (scope : Scope) where
   value_again n wanted s e ts rest (value, mid, took, (x, more, semicolon, (fit, (is, same)))) =
       let h : (value.misfit ≡ None) × (same_type value.ty wanted ≡ true) = none_unfit value wanted s fit in
       subst (λ y. ValueAgain n wanted y) (sym is) (λ m w s' others.
-      (let whole = (expression_again names scope n s value ts mid took h.0 m w).whole in
-      (sound value.tree value.ty whole.0, _, whole.1 s' (sign mark.Semicolon others) (refl, refl), (tt, _, (refl, refl), (fits_again value.tree value.ty wanted whole.0 s' h.1, (refl, refl))))))
+      (let whole = (expression_again names scope n s (one_type wanted s) value ts mid took h.0 m w).whole in
+      (sound value.tree value.ty whole.0, _, whole.1 s' (one_type wanted s') h.1 (sign mark.Semicolon others) (refl, refl), (tt, _, (refl, refl), (fits_again value.tree value.ty wanted whole.0 s' h.1, (refl, refl))))))
 
   abbrev EnclosedAgain : ℕ → ValueType → ExprTree → Type 0
   EnclosedAgain n wanted e =
@@ -38,14 +39,14 @@ module _ (names : Names) (scope : Scope) where
   enclosed_again n wanted s e ts rest (y, start, open_, (value, mid, took, (x, more, close, (fit, (z, last, semicolon, (is, same)))))) =
       let h : (value.misfit ≡ None) × (same_type value.ty wanted ≡ true) = none_unfit value wanted s fit in
       subst (λ y. EnclosedAgain n wanted y) (sym is) (λ m w s' others.
-      (let whole = (expression_again names scope n s value start mid took h.0 m w).whole in (
+      (let whole = (expression_again names scope n s (one_type wanted s) value start mid took h.0 m w).whole in (
         tt,
         _,
         (refl, refl),
         (
           sound value.tree value.ty whole.0,
           _,
-          whole.1 s' (sign mark.Close (sign mark.Semicolon others)) (refl, refl),
+          whole.1 s' (one_type wanted s') h.1 (sign mark.Close (sign mark.Semicolon others)) (refl, refl),
           (tt, _, (refl, refl), (fits_again value.tree value.ty wanted whole.0 s' h.1, (tt, _, (refl, refl), (refl, refl)))),
         ),
       )))

@@ -24,6 +24,7 @@ use Rattle.ixp_exprs.specs.declared.env.Declared.TheVariants as declared
 use Rattle.ixp_exprs.specs.declared.env.Table.{Table}
 use Rattle.ixp_exprs.specs.declared.context.Scope.TheVariants as scope
 use Rattle.ixp_exprs.specs.Types.{type_of as written_type}
+use Rattle.ixp_exprs.specs.Operands.{anything}
 use Rattle.ixp_exprs.specs.Names.{Names, table_of, defined_number}
 use Rattle.ixp_exprs.specs.Declarations.{nothing_declared, standing, free_name, is_free_in}
 use Rattle.ixp_protocols.specs.Protocols.{is_filter, use_form, ways_form, Owner, filler, peer_pipe, session, was_taken, taken_fault, owned_table, protocol_end, Local, local_form}
@@ -105,7 +106,7 @@ define_spelt : (levels place : ℕ) (names : Names) (n : List ℕ) (e : ExprTree
     → Took (sequence (the_word (codes "define")) (λ tt. define_within levels place names)) (define_item n e, standing names n (declared.Define (type_of names scope.Define e) (defined_number names e))) (item_tokens (define_item n e) others) others
 define_spelt levels place names n e free fit others =
     (let whole = (spelt names scope.Define levels e fit levels (within_same levels)).whole in
-    (tt, _, (refl, refl), (n, _, free_spelt names n free _, (tt, _, (refl, refl), (sound e (type_of names scope.Define e) whole.0, _, (sound e (type_of names scope.Define e) whole.0, _, whole.1 place (sign mark.Semicolon others) (refl, refl), (tt, _, (refl, refl), (refl, (refl, refl)))), (refl, refl))))))
+    (tt, _, (refl, refl), (n, _, free_spelt names n free _, (tt, _, (refl, refl), (sound e (type_of names scope.Define e) whole.0, _, (sound e (type_of names scope.Define e) whole.0, _, whole.1 place anything refl (sign mark.Semicolon others) (refl, refl), (tt, _, (refl, refl), (refl, (refl, refl)))), (refl, refl))))))
 
 -- Protocols.
 

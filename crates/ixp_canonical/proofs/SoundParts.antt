@@ -11,11 +11,12 @@ use Rattle.ixp_exprs.specs.declared.types.ValueType.TheVariants.{Bool as Truth}
 use Rattle.ixp_exprs.specs.declared.context.Scope.{Scope}
 use Rattle.ixp_exprs.specs.Types.{same_type}
 use Rattle.ixp_exprs.specs.Names.{Names}
-use Rattle.ixp_exprs.specs.Expressions.{Shape, Parts, may_go_on, may_end, fits_next, part_form, expression_form}
+use Rattle.ixp_exprs.specs.Operands.{one_type}
+use Rattle.ixp_exprs.specs.Expressions.{Shape, Parts, wanted_part, may_go_on, may_end, fits_next, part_form, expression_form}
 use Rattle.ixp_print.specs.Texts.{is_chain, is_compound}
 use Rattle.ixp_canonical.specs.Canonical.{expr_tokens, exprs_tokens, chain_tokens, wrapped as wrapped_tokens}
 use Rattle.ixp_canonical.proofs.Basics.{Within, sound}
-use Rattle.ixp_canonical.proofs.Parentheses.{at, Unjoined, Expressed, comma_again, close_again}
+use Rattle.ixp_canonical.proofs.Parentheses.{at, Unjoined, Expressed, comma_again, close_again, part_wanted}
 use Rattle.ixp_canonical.proofs.Operators.{Joint, Alone, Compared, Single, Joined, Chained, ChainRounds, single_enclosed, joined_single, unjoined, joint_apart, joint_again, misfit_again, no_misfit}
 use Rattle.ixp_sound.specs.Sound.{wrapped}
 
@@ -71,7 +72,7 @@ module _ (names : Names) (scope : Scope) where
         (
           sound e (types e) whole.0,
           kind.Mark mark.Close ∷ rest,
-          whole.1 s (kind.Mark mark.Close ∷ rest) (refl, refl),
+          whole.1 s (wanted_part shape (length before) place) (part_wanted shape (parts_with before first ty) true (sound e (types e) whole.0) 0 place place (fit first ty whole.0 0 place)) (kind.Mark mark.Close ∷ rest) (refl, refl),
           (true, rest, (close_again shape (length before) ends, refl), (fit first ty whole.0 _ place, (refl, refl))),
         ),
       ))
@@ -87,7 +88,7 @@ module _ (names : Names) (scope : Scope) where
           (
             sound e (types e) whole.0,
             kind.Mark mark.Comma ∷ exprs_tokens (exprs (f ∷ es)) (kind.Mark mark.Close ∷ rest),
-            whole.1 s _ (refl, refl),
+            whole.1 s (wanted_part shape (length before) place) (part_wanted shape (parts_with before first ty) false (sound e (types e) whole.0) 0 place place (fit first ty whole.0 0 place)) _ (refl, refl),
             (false, _, (comma_again shape (length before) on, refl), (fit first ty whole.0 _ place, (refl, refl))),
           ),
           others.1,
@@ -109,7 +110,7 @@ module _ (names : Names) (scope : Scope) where
         (
           sound e (types e) reads.0,
           rest,
-          reads.1 s rest,
+          reads.1 s (one_type Truth place) truth rest,
           (unjoined names scope joint other joined j rest free, inr (ap Rattle.ixp_tokens.specs.Grammars.done (misfit_again names scope joined before e (types e) reads.0 place truth), refl)),
         ),
       ))
@@ -126,7 +127,7 @@ module _ (names : Names) (scope : Scope) where
           (
             sound e (types e) reads.0,
             kind.Mark joint ∷ rest_tokens,
-            reads.1 s (kind.Mark joint ∷ rest_tokens),
+            reads.1 s (one_type Truth place) truth (kind.Mark joint ∷ rest_tokens),
             (joint_apart names scope joint other joined j rest_tokens, inl (tt, rest_tokens, (joint_again names scope joint other joined j, refl), (no_misfit names scope e (types e) reads.0 place truth, (refl, refl)))),
           ),
           go.1,

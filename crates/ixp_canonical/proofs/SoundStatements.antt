@@ -15,7 +15,8 @@ use Rattle.ixp_exprs.specs.declared.env.Signature.{Signature}
 use Rattle.ixp_exprs.specs.declared.context.Scope.{Scope}
 use Rattle.ixp_exprs.specs.Types.{same_type}
 use Rattle.ixp_exprs.specs.Names.{Names, function_of}
-use Rattle.ixp_stmts.specs.Statements.{Frame, Returned, Said, said, may_return, may_meet, met, value_end, enclosed_end, change_form, params_of as params_there, plain_form, label_form, labels_form, is_state, block_end, deeper as inner, else_form, is_if_else, test_end, arms as made_arms, case_end, statement_with, statement_form, body_form}
+use Rattle.ixp_exprs.specs.Operands.{one_type}
+use Rattle.ixp_stmts.specs.Statements.{Frame, Returned, returned_wanted, subject_wanted, Said, said, may_return, may_meet, met, value_end, enclosed_end, change_form, params_of as params_there, plain_form, label_form, labels_form, is_state, block_end, deeper as inner, else_form, is_if_else, test_end, arms as made_arms, case_end, statement_with, statement_form, body_form}
 use Rattle.ixp_canonical.specs.Canonical.{word, sign, list_of, expr_tokens}
 use Rattle.ixp_canonical.specs.CanonicalItems.{label_tokens, last_tokens, stmt_tokens, stmts_tokens, else_tokens, other_tokens, arms_tokens}
 use Rattle.ixp_canonical.proofs.Basics.{within_same, sound, so_again, fits_again}
@@ -59,7 +60,7 @@ module _ (names : Names) (scope : Scope) where
   value_spelt n wanted e fit s rest =
       (let h = and_parts (fits names scope n e) (same_type (T e) wanted) fit in
       let whole = (spelt names scope n e h.0 n (within_same n)).whole in
-      (sound e (T e) whole.0, _, whole.1 s (sign mark.Semicolon rest) (refl, refl), (tt, _, (refl, refl), (fits_again e (T e) wanted whole.0 s h.1, (refl, refl)))))
+      (sound e (T e) whole.0, _, whole.1 s (one_type wanted s) h.1 (sign mark.Semicolon rest) (refl, refl), (tt, _, (refl, refl), (fits_again e (T e) wanted whole.0 s h.1, (refl, refl)))))
 
   enclosed_spelt : (n : ℕ) (wanted : ValueType) (e : ExprTree) → is_of names scope wanted n e ≡ true → (s : ℕ) (rest : List Kind)
       → Took (enclosed_end (at names scope s) n wanted) e (sign mark.Open (expr_tokens e (sign mark.Close (sign mark.Semicolon rest)))) rest
@@ -72,7 +73,7 @@ module _ (names : Names) (scope : Scope) where
         (
           sound e (T e) whole.0,
           _,
-          whole.1 s (sign mark.Close (sign mark.Semicolon rest)) (refl, refl),
+          whole.1 s (one_type wanted s) h.1 (sign mark.Close (sign mark.Semicolon rest)) (refl, refl),
           (tt, _, (refl, refl), (fits_again e (T e) wanted whole.0 s h.1, (tt, _, (refl, refl), (refl, refl)))),
         ),
       ))
@@ -138,7 +139,7 @@ module _ (names : Names) (scope : Scope) where
   return_spoken n r e may fit meets in_arm others free =
       plain_level n in_arm r (said (met (T e)) (return_value e)) _ others (inl
       (let whole = (spelt names scope n e fit n (within_same n)).whole in
-      (tt, _, (refl, refl), (so_again (may_return scope) _ may, (sound e (T e) whole.0, _, whole.1 _ (sign mark.Semicolon others) (refl, refl), (tt, _, (refl, refl), (so_again (may_meet r (T e)) _ meets, (refl, refl))))))))
+      (tt, _, (refl, refl), (so_again (may_return scope) _ may, (sound e (T e) whole.0, _, whole.1 _ (returned_wanted r _) meets (sign mark.Semicolon others) (refl, refl), (tt, _, (refl, refl), (so_again (may_meet r (T e)) _ meets, (refl, refl))))))))
 
   -- Rows.
 
@@ -179,7 +180,7 @@ module _ (names : Names) (scope : Scope) where
   test_spelt n e fit s others =
       (let h = and_parts (fits names scope n e) (same_type (T e) Truth) fit in
       let whole = (spelt names scope n e h.0 n (within_same n)).whole in
-      (sound e (T e) whole.0, _, whole.1 s (word (codes "then") others) (refl, refl), (tt, _, (refl, refl), (fits_again e (T e) Truth whole.0 s h.1, (refl, refl)))))
+      (sound e (T e) whole.0, _, whole.1 s (one_type Truth s) h.1 (word (codes "then") others) (refl, refl), (tt, _, (refl, refl), (fits_again e (T e) Truth whole.0 s h.1, (refl, refl)))))
 
   if_spoken : (n : ℕ) (r : Returned) (e : ExprTree) (ss ts : StmtTrees) → is_of names scope Truth (suc n) e ≡ true → AllSpoken n r ss → AllSpoken n (returned_in names scope r ss) ts → Spoken (suc n) r (if_then e ss ts)
   unfolding statement_with
@@ -250,7 +251,7 @@ module _ (names : Names) (scope : Scope) where
         (
           record { on = e; is_of_states = is_state (T e) },
           _,
-          (let whole = (spelt names scope n e fit n (within_same n)).whole in (sound e (T e) whole.0, _, whole.1 _ (sign mark.BlockOpen _) (refl, refl), (tt, _, (refl, refl), (so_again (same_type (T e) Int || same_type (T e) State) _ about, (refl, refl))))),
+          (let whole = (spelt names scope n e fit n (within_same n)).whole in (sound e (T e) whole.0, _, whole.1 _ (subject_wanted _) about (sign mark.BlockOpen _) (refl, refl), (tt, _, (refl, refl), (so_again (same_type (T e) Int || same_type (T e) State) _ about, (refl, refl))))),
           (
             said (returned_arms names scope r arms) (arms_of arms),
             _,

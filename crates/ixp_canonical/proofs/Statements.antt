@@ -7,11 +7,11 @@ use Rattle.ixp_tokens.specs.Grammars.{Grammar, gives, sequence, choice, Step, on
 use Rattle.ixp_lang.specs.Trees.{StmtTree, block, return_value, stmts}
 use Rattle.ixp_exprs.specs.declared.types.ValueType.{ValueType}
 use Rattle.ixp_exprs.specs.declared.context.Scope.{Scope}
-use Rattle.ixp_exprs.specs.Types.{is_of_values}
+use Rattle.ixp_exprs.specs.Types.{is_of_values, same_as}
 use Rattle.ixp_exprs.specs.Names.{Names}
 use Rattle.ixp_exprs.specs.Operands.{settled, misfit_at}
 use Rattle.ixp_exprs.specs.Sets.{unless_so}
-use Rattle.ixp_stmts.specs.Statements.{Returned, same_as, may_meet, met, Said, said, Statements, statements_of, with_statement, block_end, is_if_else, may_return, return_form}
+use Rattle.ixp_stmts.specs.Statements.{Returned, returned_wanted, may_meet, met, Said, said, Statements, statements_of, with_statement, block_end, is_if_else, may_return, return_form}
 use Rattle.ixp_canonical.specs.Canonical.{sign}
 use Rattle.ixp_canonical.specs.CanonicalItems.{stmt_tokens, stmts_tokens}
 use Rattle.ixp_canonical.proofs.Basics.{Within, sound, both_none, none_settled, is_so, so_again}
@@ -47,7 +47,7 @@ module _ (names : Names) (scope : Scope) (w : Bool) where
   return_again n s r one ts rest (x, a, word, (may, (value, b, took, (y, c, semicolon, (fit, (is, same)))))) m v s' others =
       let h : (settled value ≡ None) × (unless_so (may_meet r value.ty) (misfit_at s) ≡ None) = both_none (settled value) _ fit in
       subst (λ (z : Said StmtTree). Took (return_form (at names scope s') m (kept w r)) (said (kept w z.returned) z.it) (stmt_tokens z.it others) others) (sym is)
-      (let whole = (expression_again names scope n s value a b took (none_settled value.misfit h.0) m v).whole in (
+      (let whole = (expression_again names scope n s (returned_wanted r s) value a b took (none_settled value.misfit h.0) m v).whole in (
         tt,
         _,
         (refl, refl),
@@ -56,7 +56,7 @@ module _ (names : Names) (scope : Scope) (w : Bool) where
           (
             sound value.tree value.ty whole.0,
             _,
-            whole.1 s' (sign mark.Semicolon others) (refl, refl),
+            whole.1 s' (returned_wanted (kept w r) s') (kept_may w r value.ty (is_so (may_meet r value.ty) _ h.1)) (sign mark.Semicolon others) (refl, refl),
             (
               tt,
               _,

@@ -1,5 +1,6 @@
 -- Operands that are single tokens, attributes and sets: what says them at all, says them by their canonical tokens.
 use Rattle.std.proofs.Common.{◌≡◌, ℕ, ◌⊎◌, inl, inr, Bool, true, false, List, ◌∷◌, codes, Option, Some, None, option_map, refl, ap, ◌∙◌, if◌then◌else◌}
+use Rattle.std.specs.Option.{option_or}
 use Rattle.ixp_tokens.specs.declared.token.Kind.{Kind}
 use Rattle.ixp_tokens.specs.declared.token.Kind.TheVariants as kind
 use Rattle.ixp_tokens.specs.declared.token.Mark.TheVariants as mark
@@ -17,7 +18,7 @@ use Rattle.ixp_exprs.specs.declared.types.ValueType.TheVariants.{Int, Bool as Tr
 use Rattle.ixp_exprs.specs.Types.{attribute_type}
 use Rattle.ixp_exprs.specs.Names.{is_define}
 use Rattle.ixp_exprs.specs.Lists.{only}
-use Rattle.ixp_exprs.specs.Operands.{Operand, closed, or_else}
+use Rattle.ixp_exprs.specs.Operands.{Operand, closed}
 use Rattle.ixp_exprs.specs.Expressions.{Place, word_in, truth_in, state_in, literal_word, literal_in, has_parts, part_in, attribute_in, attribute_form, outside_define}
 use Rattle.ixp_print.specs.Texts.{bool_text, state_text}
 use Rattle.ixp_canonical.specs.Canonical.{value_tokens, attr_tokens}
@@ -29,7 +30,7 @@ pub mapped : {A : Type 0} (f : A → Operand) (x : Option A) (o : Operand) → o
 mapped f None o e = absurd cc
 mapped f (Some a) o e = (a, (let h : o ≡ f a = cc in h))
 
-pub either_some : {A : Type 0} (x y : Option A) (a : A) → or_else x y ≡ Some a → (x ≡ Some a) ⊎ (y ≡ Some a)
+pub either_some : {A : Type 0} (x y : Option A) (a : A) → option_or x y ≡ Some a → (x ≡ Some a) ⊎ (y ≡ Some a)
 either_some None y a e = inr e
 either_some (Some b) y a e = inl e
 

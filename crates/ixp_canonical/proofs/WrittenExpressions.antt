@@ -1,5 +1,5 @@
 -- What written tokens say of expressions is written again.
-use Rattle.std.proofs.Common.{◌≡◌, ◌⊎◌, ℕ, zero, suc, inl, inr, Bool, true, false, List, [], ◌∷◌, ◌++◌, Option, Some, None, option_map, sym, subst}
+use Rattle.std.proofs.Common.{◌≡◌, ◌⊎◌, ℕ, zero, suc, inl, inr, Bool, true, false, List, [], ◌∷◌, ◌++◌, length, Option, Some, None, option_map, sym, subst}
 use Rattle.ixp_num.specs.declared.roa.Validity.{Validity}
 use Rattle.ixp_lang.specs.Trees.{ExprTree, literal, attribute, call, pair, triple, negation, conjunction, disjunction, comparison, ExprTrees, exprs}
 use Rattle.ixp_lang.specs.declared.value.Value.TheVariants as value
@@ -14,8 +14,9 @@ use Rattle.ixp_tokens.specs.Grammars.{Grammar}
 use Rattle.ixp_exprs.specs.declared.types.ValueType.{ValueType}
 use Rattle.ixp_exprs.specs.declared.types.ValueType.TheVariants.{Bool as Truth, Int, Ip, Prefix, State}
 use Rattle.ixp_exprs.specs.declared.env.Signature.{Signature}
-use Rattle.ixp_exprs.specs.Operands.{Operand, closed, literal_number, pair_with, triple_with}
-use Rattle.ixp_exprs.specs.Expressions.{Place, truth_in, state_in, literal_word, literal_in, attribute_form, has_parts, named_value, Shape, plain, arguments, roa_values, Parts, with_part, ends_with, part_form, some_parts, front, enclosed, plain_tree, check_tree, Chain, comparison_of, chain_part, chain_of, expression_of, Deeper, nothing, deeper, is_left, opened, negation_form, plain_form, name_form, named_form, roa_table, checked_form, check_form, set_form, operand_form, unary_form, expression_form, called}
+use Rattle.ixp_exprs.specs.declared.wanted.Wanted.{Wanted}
+use Rattle.ixp_exprs.specs.Operands.{Operand, closed, one_type, literal_number, pair_with, triple_with}
+use Rattle.ixp_exprs.specs.Expressions.{Place, truth_in, state_in, literal_word, literal_in, attribute_form, has_parts, named_value, Shape, plain, arguments, roa_values, Parts, wanted_part, with_part, ends_with, part_form, some_parts, front, enclosed, plain_tree, check_tree, Chain, comparison_of, chain_part, chain_of, expression_of, Deeper, nothing, deeper, is_left, opened, negation_form, plain_form, name_form, named_form, roa_table, checked_form, check_form, set_form, operand_form, unary_form, expression_form, called}
 use Rattle.ixp_print.specs.Texts.{is_chain, is_compound}
 use Rattle.ixp_canonical.specs.Canonical.{sign, expr_tokens, exprs_tokens, more_exprs_tokens, chain_tokens, more_chain_tokens}
 use Rattle.ixp_canonical.specs.Printed.{IsWritten}
@@ -156,11 +157,11 @@ ending_is : (is_last : Bool) (parts : Parts) → AreParts parts → Kept ArePart
 ending_is true parts all = all
 ending_is false parts all = all
 
-module _ (expression : Grammar Operand) (k : Keeps expression IsOperand) where
+module _ (expression : Wanted → Grammar Operand) (k : (wanted : Wanted) → Keeps (expression wanted) IsOperand) where
   keeps_part : (shape : Shape) (place : ℕ) (before : Parts) → AreParts before → Keeps (part_form expression shape place before) (Kept AreParts AreParts)
   keeps_part shape place before all =
       keeps_here (λ left.
-      keeps_sequence k (λ o is.
+      keeps_sequence (k (wanted_part shape (length before.trees) place)) (λ o is.
       keeps_then (keeps_token _) (λ is_last. keeps_checks (keeps_gives (ending_is is_last (with_part before o) (all_more IsExpr before.trees o.tree all is))))))
 
   keeps_parts : (shape : Shape) (place : ℕ) → Keeps (some_parts expression shape place) AreParts
@@ -183,17 +184,18 @@ abbrev Joins : (ExprTrees → ExprTree) → Type 0
 Joins joined = (es : List ExprTree) → AreAll IsExpr es → IsExpr (joined (exprs es))
 
 module _ (unary : Grammar Operand) (k : Keeps unary IsOperand) where
-  keeps_comparison : Keeps (comparison_of unary) IsOperand
-  keeps_comparison =
+  keeps_comparison : (wanted : Wanted) → Keeps (comparison_of unary wanted) IsOperand
+  keeps_comparison wanted =
       keeps_sequence k (λ left one.
-      keeps_here (λ place.
+      keeps_checks
+      (keeps_here (λ place.
       keeps_choice
       (keeps_then (keeps_token _) (λ op. keeps_checks (keeps_sequence k (λ right two. keeps_checks (keeps_gives (comparison_writes op left.tree right.tree one two))))))
-      (keeps_gives one)))
+      (keeps_gives one))))
 
   keeps_chain_part : (joint other : Mark) (joined : ExprTrees → ExprTree) → Joins joined → (chain : Chain) → IsChain chain → Keeps (chain_part unary joint other joined chain) (Kept IsChain IsOperand)
   keeps_chain_part joint other joined joins chain all =
-      keeps_sequence keeps_comparison (λ part one.
+      keeps_sequence (keeps_comparison (one_type Truth chain.place)) (λ part one.
       keeps_here (λ place.
       keeps_bars
       (keeps_choice (keeps_then (keeps_mark joint) (λ x. keeps_checks (keeps_gives (all_more IsExpr chain.parts part.tree all one))))
@@ -203,9 +205,9 @@ module _ (unary : Grammar Operand) (k : Keeps unary IsOperand) where
   keeps_chain joint other joined joins first place one =
       keeps_then (keeps_mark joint) (λ x. keeps_checks (keeps_rounds IsChain (one, tt) (λ chain all. keeps_chain_part joint other joined joins chain all)))
 
-  pub keeps_expression_of : Keeps (expression_of unary) IsOperand
-  keeps_expression_of =
-      keeps_sequence keeps_comparison (λ first one.
+  pub keeps_expression_of : (wanted : Wanted) → Keeps (expression_of unary wanted) IsOperand
+  keeps_expression_of wanted =
+      keeps_sequence (keeps_comparison wanted) (λ first one.
       keeps_here (λ place.
       keeps_choice (keeps_chain mark.And mark.Or conjunction (λ es all. chain_writes mark.And es all) first place one)
       (keeps_choice (keeps_chain mark.Or mark.And disjunction (λ es all. chain_writes mark.Or es all) first place one)
@@ -277,5 +279,5 @@ keeps_unary at fit zero = keeps_operand at fit nothing tt
 keeps_unary at fit (suc levels) = keeps_operand at fit (deeper (unary_form at levels)) (keeps_unary at fit levels)
 
 -- what written tokens say as an expression is written again
-pub keeps_expression : (at : Place) → NumbersFit at.names → (levels : ℕ) → Keeps (expression_form at levels) IsOperand
-keeps_expression at fit levels = keeps_expression_of (unary_form at levels) (keeps_unary at fit levels)
+pub keeps_expression : (at : Place) → NumbersFit at.names → (levels : ℕ) (wanted : Wanted) → Keeps (expression_form at levels wanted) IsOperand
+keeps_expression at fit levels wanted = keeps_expression_of (unary_form at levels) (keeps_unary at fit levels) wanted

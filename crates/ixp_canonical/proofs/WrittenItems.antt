@@ -15,6 +15,7 @@ use Rattle.ixp_exprs.specs.declared.env.Declared.{Declared}
 use Rattle.ixp_exprs.specs.declared.env.Declared.TheVariants as declared
 use Rattle.ixp_exprs.specs.declared.env.Table.{Table}
 use Rattle.ixp_exprs.specs.Names.{Names, number_of, table_of, defined_number}
+use Rattle.ixp_exprs.specs.Operands.{anything}
 use Rattle.ixp_exprs.specs.Declarations.{nothing_declared, Declares, standing, free_name}
 use Rattle.ixp_lang.specs.Trees.{ExprTree, literal, named}
 use Rattle.ixp_lang.specs.declared.value.Value.TheVariants as value
@@ -342,7 +343,7 @@ defined_fits names _ fit is = tt
 
 keeps_defined : (statement : ℕ) (names : Names) → NumbersFit names → Keeps (defined_value statement names) IsOperand
 keeps_defined statement names fit =
-    keeps_sequence (keeps_expression (define_place statement names) fit define_levels) (λ o is. keeps_then (keeps_mark mark.Semicolon) (λ x. keeps_checks (keeps_gives is)))
+    keeps_sequence (keeps_expression (define_place statement names) fit define_levels anything) (λ o is. keeps_then (keeps_mark mark.Semicolon) (λ x. keeps_checks (keeps_gives is)))
 
 keeps_define : (statement : ℕ) (names : Names) → NumbersFit names → Keeps (define_end statement names) IsDeclared
 keeps_define statement names fit =

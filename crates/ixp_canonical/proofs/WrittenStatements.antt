@@ -4,10 +4,11 @@ use Rattle.ixp_lang.specs.Trees.{ExprTree, StmtTree, block, if_then, case_of, ad
 use Rattle.ixp_lang.specs.declared.stmt.Label.{Label}
 use Rattle.ixp_tokens.specs.declared.token.Mark.TheVariants as mark
 use Rattle.ixp_exprs.specs.declared.types.ValueType.{ValueType}
-use Rattle.ixp_exprs.specs.declared.types.ValueType.TheVariants.{Int, Ip, Pair, Triple, PairSet, TripleSet}
+use Rattle.ixp_exprs.specs.declared.types.ValueType.TheVariants.{Int, Bool as Truth, Ip, Pair, Triple, PairSet, TripleSet}
 use Rattle.ixp_exprs.specs.Names.{function_of}
+use Rattle.ixp_exprs.specs.Operands.{one_type}
 use Rattle.ixp_exprs.specs.Expressions.{Place, arguments, expression_form}
-use Rattle.ixp_stmts.specs.Statements.{Frame, place_in, Returned, Said, value_end, enclosed_end, params_of, call_form, return_form, next_hop_end, prepend_end, change_end, change_form, plain_form, label_form, labels_form, Statements, statements_of, block_end, Deeper, nothing, deeper, block_form, no_branch, branch_form, else_form, test_end, if_form, Arms, arms, arms_form, case_end, Subject, subject_end, case_form, statement_with, statement_form, body_form}
+use Rattle.ixp_stmts.specs.Statements.{Frame, place_in, Returned, returned_wanted, subject_wanted, Said, value_end, enclosed_end, params_of, call_form, return_form, next_hop_end, prepend_end, change_end, change_form, plain_form, label_form, labels_form, Statements, statements_of, block_end, Deeper, nothing, deeper, block_form, no_branch, branch_form, else_form, test_end, if_form, Arms, arms, arms_form, case_end, Subject, subject_end, case_form, statement_with, statement_form, body_form}
 use Rattle.ixp_canonical.specs.Canonical.{sign}
 use Rattle.ixp_canonical.specs.CanonicalItems.{label_tokens, change_tokens, stmt_tokens, stmts_tokens, else_tokens, other_tokens, arms_tokens, body_tokens}
 use Rattle.ixp_canonical.proofs.Keeping.{Keeps, keeps_gives, keeps_token, keeps_sequence, keeps_then, keeps_choice, keeps_checks, keeps_bars, keeps_unless, keeps_here, keeps_rounds, keeps_mark, keeps_word, keeps_never, keeps_ended, keeps_number, keeps_name, AreAll, all_more, keeps_listed, Writes, list_writes}
@@ -50,12 +51,12 @@ if_is e ss ts test one two rest written = (tt, test _ (tt, body_writes ss one (e
 
 module _ (at : Place) (fit : NumbersFit at.names) (levels : ℕ) where
   keeps_value_end : (wanted : ValueType) → Keeps (value_end at levels wanted) IsExpr
-  keeps_value_end wanted = keeps_sequence (keeps_expression at fit levels) (λ o is. keeps_then (keeps_mark mark.Semicolon) (λ x. keeps_checks (keeps_gives is)))
+  keeps_value_end wanted = keeps_sequence (keeps_expression at fit levels (one_type wanted at.statement)) (λ o is. keeps_then (keeps_mark mark.Semicolon) (λ x. keeps_checks (keeps_gives is)))
 
   keeps_enclosed_end : (wanted : ValueType) → Keeps (enclosed_end at levels wanted) IsExpr
   keeps_enclosed_end wanted =
       keeps_then (keeps_mark mark.Open) (λ x.
-      keeps_sequence (keeps_expression at fit levels) (λ o is. keeps_then (keeps_mark mark.Close) (λ y. keeps_checks (keeps_ended mark.Semicolon is))))
+      keeps_sequence (keeps_expression at fit levels (one_type wanted at.statement)) (λ o is. keeps_then (keeps_mark mark.Close) (λ y. keeps_checks (keeps_ended mark.Semicolon is))))
 
   keeps_call : Keeps (call_form at levels) IsStmt
   keeps_call =
@@ -69,7 +70,7 @@ module _ (at : Place) (fit : NumbersFit at.names) (levels : ℕ) where
   keeps_return returned =
       keeps_then (keeps_word _) (λ x.
       keeps_checks
-      (keeps_sequence (keeps_expression at fit levels) (λ o is.
+      (keeps_sequence (keeps_expression at fit levels (returned_wanted returned at.statement)) (λ o is.
       keeps_then (keeps_mark mark.Semicolon) (λ y. keeps_checks (keeps_gives (λ rest written. (tt, is _ (tt, written))))))))
 
   keeps_next_hop : Keeps (next_hop_end at levels) IsStmt
@@ -193,7 +194,7 @@ module _ (frame : Frame) (fit : NumbersFit frame.names) (levels : ℕ) (inner : 
       (keeps_unless (keeps_gives (if_is test then_do.it [] is all tt)))
 
   keeps_test : (statement : ℕ) → Keeps (test_end (place_in frame statement) levels) IsExpr
-  keeps_test statement = keeps_sequence (keeps_expression (place_in frame statement) fit levels) (λ o is. keeps_then (keeps_word _) (λ x. keeps_checks (keeps_gives is)))
+  keeps_test statement = keeps_sequence (keeps_expression (place_in frame statement) fit levels (one_type Truth statement)) (λ o is. keeps_then (keeps_word _) (λ x. keeps_checks (keeps_gives is)))
 
   keeps_if : KeepsBelow inner → (in_arm : Bool) (returned : Returned) → Keeps (if_form frame levels inner in_arm returned) IsSaid
   keeps_if k in_arm returned =
@@ -205,7 +206,7 @@ module _ (frame : Frame) (fit : NumbersFit frame.names) (levels : ℕ) (inner : 
   IsSubject s = IsExpr s.on
 
   keeps_subject : (at : Place) → NumbersFit at.names → (l : ℕ) → Keeps (subject_end at l) IsSubject
-  keeps_subject at fits l = keeps_sequence (keeps_expression at fits l) (λ o is. keeps_then (keeps_mark mark.BlockOpen) (λ x. keeps_checks (keeps_gives is)))
+  keeps_subject at fits l = keeps_sequence (keeps_expression at fits l (subject_wanted at.statement)) (λ o is. keeps_then (keeps_mark mark.BlockOpen) (λ x. keeps_checks (keeps_gives is)))
 
   keeps_case : KeepsBelow inner → (returned : Returned) → Keeps (case_form frame inner returned) IsSaid
   keeps_case k returned = by_case inner k

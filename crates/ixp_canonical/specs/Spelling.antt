@@ -7,16 +7,17 @@ use Rattle.ixp_tokens.specs.Grammars.{Took}
 use Rattle.ixp_tokens.specs.Pieces.{is_mark, is_next}
 use Rattle.ixp_exprs.specs.declared.types.ValueType.{ValueType}
 use Rattle.ixp_exprs.specs.declared.context.Scope.{Scope}
+use Rattle.ixp_exprs.specs.declared.wanted.Wanted.{Wanted}
 use Rattle.ixp_exprs.specs.Names.{Names}
 use Rattle.ixp_exprs.specs.Operands.{Operand}
 use Rattle.ixp_exprs.specs.Expressions.{expression_form}
 
--- Where names stand for these, the tokens at the front are an expression of so many levels, whose types fit, and say this tree
--- of this type. So many tokens are left at the first one of its statement.
-abbrev pub Spells : Names → Scope → ℕ → ℕ → ExprTree → ValueType → List Kind → List Kind → Type 0
-Spells names scope levels statement tree ty tokens rest =
+-- Where names stand for these and this is wanted, the tokens at the front are an expression of so many levels, whose types fit,
+-- and say this tree of this type. So many tokens are left at the first one of its statement.
+abbrev pub Spells : Names → Scope → ℕ → ℕ → Wanted → ExprTree → ValueType → List Kind → List Kind → Type 0
+Spells names scope levels statement wanted tree ty tokens rest =
     (o : Operand) × (o.tree ≡ tree) × (o.ty ≡ ty) × (o.misfit ≡ None)
-    × Took (expression_form (record { names = names; scope = scope; statement = statement }) levels) o tokens rest
+    × Took (expression_form (record { names = names; scope = scope; statement = statement }) levels wanted) o tokens rest
 
 -- neither `&&` nor `||` is next
 abbrev pub EndsChains : List Kind → Type 0

@@ -8,6 +8,8 @@ ghost use Rattle.ixp_tokens.specs.declared.token.Kind.{Kind};
 ghost use Rattle.ixp_tokens.specs.Grammars.{Took};
 ghost use Rattle.ixp_exprs.specs.declared.types.ValueType.{ValueType};
 ghost use Rattle.ixp_exprs.specs.declared.context.Scope.{Scope};
+ghost use Rattle.ixp_exprs.specs.declared.wanted.Wanted.{Wanted};
+ghost use Rattle.ixp_exprs.specs.Types.{is_expected};
 ghost use Rattle.ixp_exprs.specs.Names.{Names};
 ghost use Rattle.ixp_read.specs.Items.{config_form};
 ghost use Rattle.ixp_print.specs.Texts.{config_text as printed};
@@ -19,10 +21,11 @@ ghost use Rattle.ixp_canonical.specs.Spelling.{Spells, EndsChains};
 ghost use Rattle.ixp_sound.specs.SoundItems.{is_sound};
 
 /// An expression's canonical tokens spell its tree, with its type, wherever some tokens do: in any statement, and with as
-/// many levels or more. Behind them neither `&&` nor `||` may stand, which would go on with a chain.
+/// many levels or more, and wherever its type is wanted. Behind them neither `&&` nor `||` may stand, which would go on with a chain.
 pub fn canonical_tokens_spell_their_expression()
-    ensures { (names : Names) (scope : Scope) (e : ExprTree) (t : ValueType) (levels more statement other : ℕ) (tokens rest behind : List Kind) →
-        levels ≤ more → Spells names scope levels statement e t tokens rest → EndsChains behind → Spells names scope more other e t (expr_tokens e behind) behind }
+    ensures { (names : Names) (scope : Scope) (e : ExprTree) (t : ValueType) (levels more statement other : ℕ) (wanted needed : Wanted) (tokens rest behind : List Kind) →
+        levels ≤ more → is_expected needed.expected t ≡ true → Spells names scope levels statement wanted e t tokens rest → EndsChains behind →
+        Spells names scope more other needed e t (expr_tokens e behind) behind }
 {}
 
 /// The canonical tokens of a configuration spell it whole, with nothing behind them, wherever some tokens do. They have braces

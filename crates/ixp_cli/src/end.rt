@@ -327,7 +327,7 @@ fn write_end<E: Sink>(errors: &mut E, end: End) -> Result<(), Failed>
     }
 }
 
-/// Writes the line that tells how a run ended, as far as the errors take it. It takes no memory.
+/// Writes the line that tells how a run ended, as far as the errors take it. It does not allocate.
 pub fn report<E: Sink>(errors: &mut E, end: End)
     ensures { Tells (record { bytes = E.written errors.old; faults = E.write_faults errors.old })
         (record { bytes = E.written errors.new; faults = E.write_faults errors.new }) (error_text end) }

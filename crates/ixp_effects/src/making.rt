@@ -15,7 +15,7 @@ use ixp_tables::Table;
 use std::alloc::Global;
 
 /// Puts a row in and stores the batch, or does neither. Where the row's key is there already, the row is put in once the batch
-/// is stored, since that takes no memory; else it is taken out again where the batch isn't stored.
+/// is stored, since that does not allocate; else it is taken out again where the batch isn't stored.
 fn put_row<R: Keyed + Drop, P: Keeper>(
     alloc: Global,
     table: &mut Table<R>,

@@ -4,7 +4,6 @@ pub mod BodySteps
 pub mod Ending
 pub mod Found
 pub mod Going
-pub mod Naming
 pub mod Passing
 pub mod Piping
 pub mod Placing

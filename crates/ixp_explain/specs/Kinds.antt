@@ -1,6 +1,7 @@
 -- Of which kind the values of expressions are, and what a function of a configuration takes and gives. In a text that is read, all that a
 -- function returns has one type, and each name is declared once.
 use Rattle.std.specs.Prelude.{Bool, true, false, ◌&&◌, List, [], ◌∷◌, ◌++◌, Option, Some, None, ℕ}
+use Rattle.std.specs.Option.{option_or}
 use Rattle.ixp_lang.specs.declared.expr.Attr.{Attr}
 use Rattle.ixp_lang.specs.declared.expr.Attr.TheVariants as attr
 use Rattle.ixp_lang.specs.declared.item.Ty.{Ty}
@@ -58,10 +59,6 @@ abbrev pub named_kind : Option Ty → Kind → Kind
 named_kind None kind = kind
 named_kind (Some t) kind = kind_of_type t
 
-abbrev pub or_else : {A : Type 0} → Option A → Option A → Option A
-or_else None other = other
-or_else (Some x) other = Some x
-
 module _ (sorts : Sorts) (params : List (Ty × List ℕ)) where
   -- the kind of an expression's value
   abbrev pub kind_of : ExprTree → Kind
@@ -82,18 +79,18 @@ module _ (sorts : Sorts) (params : List (Ty × List ℕ)) where
   abbrev mutual
     pub returned_by : StmtTree → Option Kind
     returned_by (block ss) = returned_in ss
-    returned_by (if_then e ss ts) = or_else (returned_in ss) (returned_in ts)
-    returned_by (case_of e arms ts) = or_else (returned_arms arms) (returned_in ts)
+    returned_by (if_then e ss ts) = option_or (returned_in ss) (returned_in ts)
+    returned_by (case_of e arms ts) = option_or (returned_arms arms) (returned_in ts)
     returned_by (return_value e) = Some (kind_of e)
     returned_by _ = None
 
     pub returned_in : StmtTrees → Option Kind
     returned_in stmts_end = None
-    returned_in (stmts_more s ss) = or_else (returned_by s) (returned_in ss)
+    returned_in (stmts_more s ss) = option_or (returned_by s) (returned_in ss)
 
     pub returned_arms : ArmTrees → Option Kind
     returned_arms arms_end = None
-    returned_arms (arms_more ls ss arms) = or_else (returned_in ss) (returned_arms arms)
+    returned_arms (arms_more ls ss arms) = option_or (returned_in ss) (returned_arms arms)
 
 -- the parameters are one int
 abbrev pub is_one_int : List (Ty × List ℕ) → Bool

@@ -14,8 +14,10 @@ use Rattle.ixp_tokens.proofs.Looks.{Look, full_look, token_look}
 use Rattle.ixp_tokens.proofs.ClearLooks.{Clearly, clear_gives, clear_token, clear_mark, clear_name, clear_sequence, clear_then, clear_choice, clear_checks, clear_bars, clear_here, clear_rounds, clear_wider, first_test}
 use Rattle.ixp_tokens.proofs.Known.{next_mark}
 use Rattle.ixp_exprs.specs.declared.env.Signature.{Signature}
-use Rattle.ixp_exprs.specs.Operands.{Operand}
-use Rattle.ixp_exprs.specs.Expressions.{Place, has_parts, attribute_form, Shape, plain, arguments, roa_values, Parts, part_form, some_parts, no_parts, enclosed, Chain, comparison_of, chain_part, chain_of, expression_of, Deeper, nothing, deeper, is_left, opened, negation_form, plain_form, call_form, name_form, named_form, called, check_form, roa_table, set_form, operand_form, unary_form, front}
+use Rattle.ixp_exprs.specs.declared.wanted.Wanted.{Wanted}
+use Rattle.ixp_exprs.specs.declared.types.ValueType.TheVariants.{Bool as Truth}
+use Rattle.ixp_exprs.specs.Operands.{Operand, one_type}
+use Rattle.ixp_exprs.specs.Expressions.{Place, has_parts, attribute_form, Shape, plain, arguments, roa_values, Parts, wanted_part, part_form, some_parts, no_parts, enclosed, Chain, comparison_of, chain_part, chain_of, expression_of, Deeper, nothing, deeper, is_left, opened, negation_form, plain_form, call_form, name_form, named_form, called, check_form, roa_table, set_form, operand_form, unary_form, front}
 use Rattle.ixp_exprs.proofs.Known.{none_apart}
 use Rattle.ixp_exprs.proofs.ClearLists.{clear_never, clear_only, clear_ended}
 use Rattle.ixp_exprs.proofs.ClearSets.{clear_elements}
@@ -47,17 +49,18 @@ clear_attribute_text a =
 
 -- Chains.
 module _ (unary : Grammar Operand) (ku : Clearly unary unary_look []) where
-  pub clear_comparison : Clearly (comparison_of unary) comparison_look []
-  clear_comparison =
+  pub clear_comparison : (wanted : Wanted) → Clearly (comparison_of unary wanted) comparison_look []
+  clear_comparison wanted =
       clear_wider
       (clear_sequence ku (λ left.
-      clear_here (λ place.
-      clear_choice (clear_then (clear_token _ _ known_operator) (λ op. clear_checks (clear_sequence ku (λ right. clear_checks (clear_gives _)) refl))) (clear_gives _) refl refl)) refl)
+      clear_checks
+      (clear_here (λ place.
+      clear_choice (clear_then (clear_token _ _ known_operator) (λ op. clear_checks (clear_sequence ku (λ right. clear_checks (clear_gives _)) refl))) (clear_gives _) refl refl))) refl)
       refl refl
 
   module _ (joint other : Mark) (joined : ExprTrees → ExprTree) where
     part_full : (t u : Chain) (ts : List Kind) → ¬ (MayEmpty (chain_part unary joint other joined t) (onward u) ts)
-    part_full t u ts (part, empty, more) = clear_comparison.full refl part ts empty
+    part_full t u ts (part, empty, more) = (clear_comparison (one_type Truth t.place)).full refl part ts empty
 
     part_onward : (t u : Chain) (rest : List Kind) → GoesOn (chain_part unary joint other joined t) (onward u) rest → Starts [] rest
     part_onward t u rest (part, inl (n, inl (x, inl p))) = absurd p
@@ -70,7 +73,7 @@ module _ (unary : Grammar Operand) (ku : Clearly unary unary_look []) where
     pub clear_chain_part : are_apart (marked other ∷ marked joint ∷ []) (marked mark.Dot ∷ operators) ≡ true → (chain : Chain)
         → Clearly (chain_part unary joint other joined chain) (full_look operand_starts (marked joint ∷ marked mark.Dot ∷ operators)) (marked other ∷ [])
     clear_chain_part apart chain =
-        clear_sequence clear_comparison (λ part.
+        clear_sequence (clear_comparison (one_type Truth chain.place)) (λ part.
         clear_here (λ place.
         clear_bars (is_next (is_mark other)) Mixed (marked other ∷ []) (next_mark other)
         (clear_choice (clear_then (clear_mark joint) (λ x. clear_checks (clear_gives _))) (clear_gives _) refl refl) (first_test (is_mark other)))) apart
@@ -85,10 +88,10 @@ module _ (unary : Grammar Operand) (ku : Clearly unary unary_look []) where
         → Clearly (chain_of unary joint other joined first place) (full_look (marked joint ∷ []) (marked joint ∷ marked mark.Dot ∷ operators)) (marked other ∷ [])
     clear_chain apart first place = clear_then (clear_mark joint) (λ x. clear_checks (clear_chain_rounds apart _))
 
-  pub clear_expression : Clearly (expression_of unary) expression_look expression_bars
-  clear_expression =
+  pub clear_expression : (wanted : Wanted) → Clearly (expression_of unary wanted) expression_look expression_bars
+  clear_expression wanted =
       clear_wider
-      (clear_sequence clear_comparison (λ first.
+      (clear_sequence (clear_comparison wanted) (λ first.
       clear_here (λ place.
       clear_choice (clear_chain mark.And mark.Or conjunction refl first place)
       (clear_choice (clear_chain mark.Or mark.And disjunction refl first place) (clear_gives first) refl refl) refl refl)) refl)
@@ -99,10 +102,10 @@ module _ (unary : Grammar Operand) (ku : Clearly unary unary_look []) where
 clear_front : (at : Place) → Clearly (front at) (token_look (front_tokens ++ name ∷ [])) []
 clear_front at = clear_choice (clear_token _ _ known_front_token) (clear_here (λ left. clear_then clear_name (λ n. clear_checks (clear_gives _)))) refl refl
 
-module _ (expression : Grammar Operand) (ke : Clearly expression expression_look expression_bars) where
+module _ (expression : Wanted → Grammar Operand) (ke : (wanted : Wanted) → Clearly (expression wanted) expression_look expression_bars) where
   pub clear_part_text : (shape : Shape) (place : ℕ) (before : Parts) → Clearly (part_form expression shape place before) (token_look operand_starts) []
   clear_part_text shape place before =
-      clear_here (λ left. clear_sequence ke (λ operand. clear_then (clear_token _ _ (known_part_end shape (length before.trees))) (λ is_last. clear_checks (clear_gives _))) refl)
+      clear_here (λ left. clear_sequence (ke (wanted_part shape (length before.trees) place)) (λ operand. clear_then (clear_token _ _ (known_part_end shape (length before.trees))) (λ is_last. clear_checks (clear_gives _))) refl)
 
   parts_full : (shape : Shape) (place : ℕ) (t u : Parts) (ts : List Kind) → ¬ (MayEmpty (part_form expression shape place t) (onward u) ts)
   parts_full shape place t u ts p = (clear_part_text shape place t).full refl (onward u) ts p

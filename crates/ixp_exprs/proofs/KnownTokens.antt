@@ -1,6 +1,6 @@
 -- What is known of the single tokens of expressions.
 use Rattle.std.proofs.Common.{◌≡◌, ℕ, Bool, true, false, ◌&&◌, ◌||◌, List, [], ◌∷◌, ◌++◌, codes, Option, Some, None, option_map, refl, if◌then◌else◌}
-use Rattle.std.specs.Option.{is_some}
+use Rattle.std.specs.Option.{is_some, option_or}
 use Rattle.ixp_lang.specs.declared.expr.Attr.{Attr}
 use Rattle.ixp_tokens.specs.declared.token.Kind.{Kind}
 use Rattle.ixp_tokens.specs.declared.token.Kind.TheVariants as kind
@@ -11,7 +11,6 @@ use Rattle.ixp_tokens.specs.Pieces.{is_mark, same_word, if_so}
 use Rattle.ixp_tokens.proofs.Fronts.{Front, marked, keyword, number, addr, prefix, one_of, or_left, or_right, or_elim, fronts_left, fronts_right}
 use Rattle.ixp_tokens.proofs.Looks.{token_look, Known, known_takes}
 use Rattle.ixp_tokens.proofs.Known.{so_is, some_if}
-use Rattle.ixp_exprs.specs.Operands.{or_else}
 use Rattle.ixp_exprs.specs.Expressions.{Place, truth_in, state_in, attribute_in, part_in, is_path, word_in, literal_word, literal_in, Shape, may_go_on, may_end, part_end_in, is_front_word, is_front_mark, front_in, outside_define, check_word, operator_in}
 use Rattle.ixp_exprs.specs.Names.{is_define}
 
@@ -66,7 +65,7 @@ part_front a w =
     some_if (same_word w (codes "len")) _ _ _
     (and_if (is_path a) (same_word w (codes "first")) _ _ _ (and_if (is_path a) (same_word w (codes "last")) _ _ _ (λ e. e)))
 
-or_else_some : {A B C : Type 0} (o : Option A) (p : Option B) (f : A → C) (g : B → C) → is_some (or_else (option_map f o) (option_map g p)) ≡ true → (is_some o || is_some p) ≡ true
+or_else_some : {A B C : Type 0} (o : Option A) (p : Option B) (f : A → C) (g : B → C) → is_some (option_or (option_map f o) (option_map g p)) ≡ true → (is_some o || is_some p) ≡ true
 or_else_some (Some a) p f g e = refl
 or_else_some None (Some b) f g e = refl
 or_else_some None None f g e = e

@@ -12,10 +12,8 @@ use Rattle.ixp_tokens.specs.Reading.{Read, read, ◌>>=◌, taken, stop}
 use Rattle.ixp_tokens.specs.Pieces.{the_mark, is_mark, behind, if_so}
 use Rattle.ixp_exprs.specs.declared.env.Signature.{Signature}
 use Rattle.ixp_exprs.specs.declared.group.Opening.TheVariants as opening
-use Rattle.ixp_exprs.specs.declared.types.ValueType.TheVariants.{Bool as Truth}
-use Rattle.ixp_exprs.specs.Types.{same_type}
 use Rattle.ixp_exprs.specs.Lists.{never}
-use Rattle.ixp_exprs.specs.Operands.{Operand, refused_now, negated}
+use Rattle.ixp_exprs.specs.Operands.{Operand, fits_negation, negated}
 use Rattle.ixp_exprs.specs.Expressions.{Place, plain, enclosed, expression_of, expression_form, Deeper, nothing, deeper, is_left, operand_form, unary_form, name_form, call_form, called}
 use Rattle.ixp_exprs.specs.Groups.{below, below_if, plain_or, check_or, finishing, call_or, atom_form, call_in}
 
@@ -37,7 +35,7 @@ left_below at zero = grind (arith, nat_tests)
 left_below at (suc d) = ap is_left (flat at d) ∙ grind (arith, nat_tests)
 
 abbrev pub negation_of : Operand × List Kind → ℕ → Read Operand
-negation_of a place = read (checks (refused_now a.0 (same_type a.0.ty Truth) place) (gives (negated a.0 place))) a.1
+negation_of a place = read (checks (fits_negation a.0 place) (gives (negated a.0))) a.1
 
 some_is : {A : Type 0} (x y : A) → ◌≡◌ {A = Option A} (Some x) (Some y) → x ≡ y
 some_is x y e = cc

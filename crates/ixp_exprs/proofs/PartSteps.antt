@@ -13,6 +13,7 @@ use Rattle.ixp_exprs.specs.declared.group.Shape.{Shape as HeldShape}
 use Rattle.ixp_exprs.specs.declared.group.Shape.TheVariants.{Plain, Call, RoaCheck}
 use Rattle.ixp_exprs.specs.declared.operator.Joint.{Joint}
 use Rattle.ixp_exprs.specs.declared.types.ValueType.TheVariants.{Bool as Truth}
+use Rattle.ixp_exprs.specs.declared.wanted.Wanted.{Wanted}
 use Rattle.ixp_exprs.specs.Operands.{Operand, fits, misfit_at}
 use Rattle.ixp_exprs.specs.Expressions.{Place, Shape, plain, arguments, roa_values, Parts, no_parts, part_form, some_parts, enclosed, chain_of, chain_part, begun_with}
 use Rattle.ixp_exprs.specs.Groups.{partless, limit}
@@ -30,7 +31,7 @@ open_by : (b : Bool) (fault : Cause × ℕ) (p q : Read Parts) → ◌≡◌ {A 
 open_by true fault p q e = absurd cc
 open_by false fault p q e = refl
 
-module _ (at : Place) (expression : Grammar Operand) where
+module _ (at : Place) (expression : Wanted → Grammar Operand) where
   -- what is told of a group that may have no part is what is read
   pub told_whole : (shape : Shape) (place : ℕ) (ts : List Kind) (r : Read Parts) → partless at shape place ts ≡ Some r → read (enclosed at expression shape place) ts ≡ r
   told_whole (arguments []) place ts r e = some_is (read (enclosed at expression (arguments []) place) ts) r e

@@ -1,5 +1,6 @@
 -- The steps of the readers of operands, comparisons and chains.
 use Rattle.std.proofs.Common.{◌≡◌, ℕ, zero, suc, Bool, true, false, List, [], ◌∷◌, length, Option, Some, None, Result, Ok, Err, refl, sym, ap, ◌∙◌, subst, is_some, if◌then◌else◌}
+use Rattle.std.specs.Option.{option_or}
 use Rattle.ixp_tokens.specs.declared.fault.Cause.{Cause}
 use Rattle.ixp_tokens.specs.declared.fault.Cause.TheVariants.{Deep}
 use Rattle.ixp_tokens.specs.declared.fault.Fault.{Fault}
@@ -12,8 +13,8 @@ use Rattle.ixp_tokens.specs.Pieces.{the_mark, is_mark, behind, if_so}
 use Rattle.ixp_lang.specs.declared.expr.Op.{Op}
 use Rattle.ixp_exprs.specs.Answers.{Refuses, Leads, Passes}
 use Rattle.ixp_exprs.specs.Lists.{first_in}
-use Rattle.ixp_exprs.specs.Types.{takes_right}
-use Rattle.ixp_exprs.specs.Operands.{Operand, fits, fits_left, refused_now, compared}
+use Rattle.ixp_exprs.specs.declared.wanted.Wanted.{Wanted}
+use Rattle.ixp_exprs.specs.Operands.{Operand, fits, fits_left, in_vain, no_truth, refused_now, compared}
 use Rattle.ixp_exprs.specs.Expressions.{Place, unary_form, comparison_of, expression_of, operator_in, chain_of, chain_part, begun_with}
 use Rattle.ixp_exprs.specs.Joints.{joint_in, joint_mark, other_mark, joined_by}
 use Rattle.ixp_exprs.specs.declared.operator.Joint.{Joint}
@@ -41,31 +42,43 @@ hindered view made (Stop cause left) o r h = ap (λ x. checked x r) h
 pub not_at_last : (at : Place) (d : ℕ) (ts rest : List Kind) → d ≡ 0 → behind (is_mark mark.Not) ts ≡ Some rest → read (unary_form at d) ts ≡ Err (Deep, length ts)
 not_at_last at d ts rest none e = ap (λ x. read (unary_form at x) ts) none ∙ not_last at ts rest e
 
-module _ (unary : Grammar Operand) where
+-- what is read where one thing is wanted, for another name of it
+pub at_wanted : {A : Type 0} (g : Wanted → Grammar A) (ts : List Kind) (P : Read A → Type 0) {v w : Wanted} → v ≡ w → P (read (g v) ts) → P (read (g w) ts)
+at_wanted g ts P e p = subst (λ w. P (read (g w) ts)) e p
+
+module _ (unary : Grammar Operand) (wanted : Wanted) where
   -- what is read of the operand on the right, whose operator is at the place
   abbrev pub right_read : Op → Operand → ℕ → Operand × List Kind → Read Operand
-  right_read op left place a = read (checks (refused_now a.0 (takes_right op left.ty a.0.ty) place) (gives (compared op left a.0 place))) a.1
+  right_read op left place a = read (checks (refused_now op left a.0 place) (gives (compared op left a.0 place))) a.1
+
+  -- the tests of the operand on the left, whose operator is at the place
+  abbrev pub left_fault : Op → Operand → ℕ → Option (Cause × ℕ)
+  left_fault op left place = option_or (fits_left op left place) (no_truth wanted)
+
+  abbrev pub right_form : Operand → ℕ → Op → Grammar Operand
+  right_form left place op = checks (left_fault op left place) (sequence unary (λ right. checks (refused_now op left right place) (gives (compared op left right place))))
 
   abbrev pub after_left : Operand → ℕ → Grammar Operand
-  after_left left place =
-      choice
-      (sequence (takes operator_in) (λ op.
-      checks (fits_left op left place)
-      (sequence unary (λ right.
-      checks (refused_now right (takes_right op left.ty right.ty) place) (gives (compared op left right place))))))
-      (gives left)
+  after_left left place = choice (sequence (takes operator_in) (right_form left place)) (gives left)
 
-  pub operator_known : (ts rest others : List Kind) (left : Operand) (op : Op) (place : ℕ) → place ≡ length rest → read unary ts ≡ Ok (left, rest) → first_in operator_in rest ≡ Some (op, others)
-      → read (comparison_of unary) ts ≡ checked (fits_left op left place) (read unary others >>= right_read op left place)
-  operator_known ts rest others left op place same p q =
-      ap (λ r. r >>= λ a. read (after_left a.0 (length a.1)) a.1) p
-      ∙ first_known operator_in (λ o. checks (fits_left o left (length rest)) (sequence unary (λ right. checks (refused_now right (takes_right o left.ty right.ty) (length rest)) (gives (compared o left right (length rest)))))) (gives left) rest op others q
-      ∙ ap (λ n. checked (fits_left op left n) (read unary others >>= right_read op left n)) (sym same)
+  -- the operand on the left, and what is behind it
+  abbrev pub left_read : Operand × List Kind → Read Operand
+  left_read a = checked (in_vain wanted a.0) (read (after_left a.0 (length a.1)) a.1)
 
-  pub operator_unknown : (ts rest : List Kind) (left : Operand) → read unary ts ≡ Ok (left, rest) → first_in operator_in rest ≡ None → read (comparison_of unary) ts ≡ Ok (left, rest)
-  operator_unknown ts rest left p q =
-      ap (λ r. r >>= λ a. read (after_left a.0 (length a.1)) a.1) p
-      ∙ first_unknown operator_in (λ o. checks (fits_left o left (length rest)) (sequence unary (λ right. checks (refused_now right (takes_right o left.ty right.ty) (length rest)) (gives (compared o left right (length rest)))))) (gives left) rest q
+  pub in_vain_known : (ts rest : List Kind) (left : Operand) → read unary ts ≡ Ok (left, rest) → read (comparison_of unary wanted) ts ≡ checked (in_vain wanted left) (read (after_left left (length rest)) rest)
+  in_vain_known ts rest left p = ap (λ r. r >>= left_read) p
+
+  passed : (ts rest : List Kind) (left : Operand) → read unary ts ≡ Ok (left, rest) → in_vain wanted left ≡ None → read (comparison_of unary wanted) ts ≡ read (after_left left (length rest)) rest
+  passed ts rest left p none = in_vain_known ts rest left p ∙ ap (λ o. checked o (read (after_left left (length rest)) rest)) none
+
+  pub operator_known : (ts rest others : List Kind) (left : Operand) (op : Op) (place : ℕ) → place ≡ length rest → read unary ts ≡ Ok (left, rest) → in_vain wanted left ≡ None → first_in operator_in rest ≡ Some (op, others)
+      → read (comparison_of unary wanted) ts ≡ checked (left_fault op left place) (read unary others >>= right_read op left place)
+  operator_known ts rest others left op place same p none q =
+      passed ts rest left p none ∙ first_known operator_in (right_form left (length rest)) (gives left) rest op others q
+      ∙ ap (λ n. checked (left_fault op left n) (read unary others >>= right_read op left n)) (sym same)
+
+  pub operator_unknown : (ts rest : List Kind) (left : Operand) → read unary ts ≡ Ok (left, rest) → in_vain wanted left ≡ None → first_in operator_in rest ≡ None → read (comparison_of unary wanted) ts ≡ Ok (left, rest)
+  operator_unknown ts rest left p none q = passed ts rest left p none ∙ first_unknown operator_in (right_form left (length rest)) (gives left) rest q
 
 and_by : (a b : Bool) (q r s : Read Operand) → (if a then Some joint.And else (if b then Some joint.Or else None)) ≡ Some joint.And → (if is_some (if_so a) then q else (if is_some (if_so b) then r else s)) ≡ q
 and_by true b q r s e = refl
@@ -106,13 +119,13 @@ chain_begins u j first place ts left p q =
     ap (λ r. r >>= λ a. read (checks (fits first Truth place) (rounds (chain_part u (joint_mark j) (other_mark j) (joined_by j)) (begun_with first place))) a.1) p
     ∙ ap (λ o. checked o (read (rounds (chain_part u (joint_mark j) (other_mark j) (joined_by j)) (begun_with first place)) left)) q
 
-pub expression_joint : (u : Grammar Operand) (ts rest : List Kind) (first : Operand) (j : Joint) (place : ℕ) → place ≡ length rest → read (comparison_of u) ts ≡ Ok (first, rest) → joint_in rest ≡ Some j
-    → read (expression_of u) ts ≡ read (chain_of u (joint_mark j) (other_mark j) (joined_by j) first place) rest
-expression_joint u ts rest first j place same p q =
+pub expression_joint : (u : Grammar Operand) (w : Wanted) (ts rest : List Kind) (first : Operand) (j : Joint) (place : ℕ) → place ≡ length rest → read (comparison_of u w) ts ≡ Ok (first, rest) → joint_in rest ≡ Some j
+    → read (expression_of u w) ts ≡ read (chain_of u (joint_mark j) (other_mark j) (joined_by j) first place) rest
+expression_joint u w ts rest first j place same p q =
     ap (λ r. r >>= λ a. read (choice (chain_of u mark.And mark.Or conjunction a.0 (length a.1)) (choice (chain_of u mark.Or mark.And disjunction a.0 (length a.1)) (gives a.0))) a.1) p
     ∙ joint_next u first (length rest) rest j q ∙ ap (λ n. read (chain_of u (joint_mark j) (other_mark j) (joined_by j) first n) rest) (sym same)
 
-pub expression_alone : (u : Grammar Operand) (ts rest : List Kind) (first : Operand) → read (comparison_of u) ts ≡ Ok (first, rest) → joint_in rest ≡ None → read (expression_of u) ts ≡ Ok (first, rest)
-expression_alone u ts rest first p q =
+pub expression_alone : (u : Grammar Operand) (w : Wanted) (ts rest : List Kind) (first : Operand) → read (comparison_of u w) ts ≡ Ok (first, rest) → joint_in rest ≡ None → read (expression_of u w) ts ≡ Ok (first, rest)
+expression_alone u w ts rest first p q =
     ap (λ r. r >>= λ a. read (choice (chain_of u mark.And mark.Or conjunction a.0 (length a.1)) (choice (chain_of u mark.Or mark.And disjunction a.0 (length a.1)) (gives a.0))) a.1) p
     ∙ no_joint u first (length rest) rest q

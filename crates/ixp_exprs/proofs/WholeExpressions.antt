@@ -22,9 +22,11 @@ use Rattle.ixp_tokens.proofs.Known.{next_mark}
 use Rattle.ixp_tokens.proofs.Viable.{HasText, Supplied, supplied_takes, supplied_bars, supplied_rounds, supplied_end}
 use Rattle.ixp_tokens.proofs.Whole.{Part, Whole, can_end, can_follow, passes_on, part_of, whole_gives, whole_takes, text_behind, text_free, whole_then, part_then, whole_sequence, part_choice, whole_left, whole_right, whole_choice, whole_checks, part_here, whole_here, whole_wider}
 use Rattle.ixp_exprs.specs.declared.env.Signature.{Signature}
+use Rattle.ixp_exprs.specs.declared.wanted.Wanted.{Wanted}
 use Rattle.ixp_exprs.specs.declared.types.ValueType.{ValueType}
-use Rattle.ixp_exprs.specs.Operands.{Operand}
-use Rattle.ixp_exprs.specs.Expressions.{Place, has_parts, length_of, part_in, word_in, attribute_in, outside_define, check_word, operator_in, literal_in, front_in, attribute_form, Shape, plain, arguments, roa_values, part_end_in, may_go_on, may_end, Parts, part_form, some_parts, no_parts, with_part, ends_with, enclosed, Chain, chained, comparison_of, chain_part, chain_of, expression_of, Deeper, nothing, deeper, opened, negation_form, plain_form, call_form, name_form, named_form, called, check_form, roa_table, set_form, operand_form, unary_form, expression_form, front}
+use Rattle.ixp_exprs.specs.declared.types.ValueType.TheVariants.{Bool as Truth}
+use Rattle.ixp_exprs.specs.Operands.{Operand, one_type}
+use Rattle.ixp_exprs.specs.Expressions.{Place, has_parts, length_of, part_in, word_in, attribute_in, outside_define, check_word, operator_in, literal_in, front_in, attribute_form, Shape, plain, arguments, roa_values, part_end_in, may_go_on, may_end, Parts, part_form, some_parts, no_parts, with_part, ends_with, wanted_part, enclosed, Chain, chained, comparison_of, chain_part, chain_of, expression_of, Deeper, nothing, deeper, opened, negation_form, plain_form, call_form, name_form, named_form, called, check_form, roa_table, set_form, operand_form, unary_form, expression_form, front}
 use Rattle.ixp_exprs.proofs.KnownTokens.{literals, checks_word, attributes, operators, parts, part_ends, known_literal, known_part, known_attribute, known_check, known_operator, known_part_end, front_tokens, known_front_token}
 use Rattle.ixp_exprs.proofs.ClearExpressions.{operand_starts, unary_look, comparison_look, expression_bars, expression_look, behind_name, clear_chain_rounds, clear_part_text, clear_parts_rounds, clear_unary}
 use Rattle.ixp_exprs.proofs.WholeLists.{whole_mark, whole_name, part_only, whole_ended, whole_level}
@@ -57,12 +59,13 @@ whole_attribute_text a =
 -- Chains.
 
 module _ (unary upper : Grammar Operand) (w : Whole unary upper unary_look []) where
-  whole_comparison : Whole (comparison_of unary) (comparison_of upper) comparison_look []
-  whole_comparison =
+  whole_comparison : (wanted : Wanted) → Whole (comparison_of unary wanted) (comparison_of upper wanted) comparison_look []
+  whole_comparison wanted =
       whole_wider
       (whole_sequence w (λ left.
-      whole_here (λ place.
-      whole_choice (whole_then whole_operator (λ o. whole_checks (whole_sequence w (λ right. whole_checks (whole_gives _)) refl refl))) (whole_gives _) refl refl)) refl refl)
+      whole_checks
+      (whole_here (λ place.
+      whole_choice (whole_then whole_operator (λ o. whole_checks (whole_sequence w (λ right. whole_checks (whole_gives _)) refl refl))) (whole_gives _) refl refl))) refl refl)
       refl refl
 
   module _ (joint other : Mark) (joined : ExprTrees → ExprTree) where
@@ -87,12 +90,12 @@ module _ (unary upper : Grammar Operand) (w : Whole unary upper unary_look []) w
 
     whole_chain_part : are_apart (marked other ∷ marked joint ∷ []) (marked mark.Dot ∷ operators) ≡ true → (chain : Chain)
         → Whole (chain_part unary joint other joined chain) (chain_part upper joint other joined chain) (full_look operand_starts (marked joint ∷ marked mark.Dot ∷ operators)) (marked other ∷ [])
-    whole_chain_part apart chain = whole_sequence whole_comparison (λ part. whole_here (λ place. part_joint _ _ _)) apart refl
+    whole_chain_part apart chain = whole_sequence (whole_comparison (one_type Truth chain.place)) (λ part. whole_here (λ place. part_joint _ _ _)) apart refl
 
     last_part : (chain : Chain) → HasText (rounds (chain_part upper joint other joined) chain)
-    last_part chain p = by_text (whole_comparison.text p)
+    last_part chain p = by_text ((whole_comparison (one_type Truth chain.place)).text p)
       where
-        by_text : (v : Operand) × (ts : List Kind) × (q : ℕ) × Fine (comparison_of upper) v (spot p ts) (spot q []) → (v : Operand) × (ts : List Kind) × (q : ℕ) × Fine (rounds (chain_part upper joint other joined) chain) v (spot p ts) (spot q [])
+        by_text : (v : Operand) × (ts : List Kind) × (q : ℕ) × Fine (comparison_of upper (one_type Truth chain.place)) v (spot p ts) (spot q []) → (v : Operand) × (ts : List Kind) × (q : ℕ) × Fine (rounds (chain_part upper joint other joined) chain) v (spot p ts) (spot q [])
         by_text (v, ts, q, fine) = (chained joined chain v, ts, q, (zero, (v, spot q [], fine, (refl, inr (refl, refl)))))
 
     whole_chain_rounds : are_apart (marked other ∷ marked joint ∷ []) (marked mark.Dot ∷ operators) ≡ true → are_apart operand_starts (marked other ∷ []) ≡ true → (chain : Chain)
@@ -114,10 +117,10 @@ module _ (unary upper : Grammar Operand) (w : Whole unary upper unary_look []) w
         → Whole (chain_of unary joint other joined first place) (chain_of upper joint other joined first place) (full_look (marked joint ∷ []) (marked joint ∷ marked mark.Dot ∷ operators)) (marked other ∷ [])
     whole_chain apart free first place = whole_then (whole_mark joint) (λ x. whole_checks (whole_chain_rounds apart free _))
 
-  pub whole_expression : Whole (expression_of unary) (expression_of upper) expression_look expression_bars
-  whole_expression =
+  pub whole_expression : (wanted : Wanted) → Whole (expression_of unary wanted) (expression_of upper wanted) expression_look expression_bars
+  whole_expression wanted =
       whole_wider
-      (whole_sequence whole_comparison (λ first.
+      (whole_sequence (whole_comparison wanted) (λ first.
       whole_here (λ place.
       whole_choice (whole_chain mark.And mark.Or conjunction refl refl first place)
       (whole_choice (whole_chain mark.Or mark.And disjunction refl refl first place) (whole_gives first) refl refl) refl refl)) refl refl)
@@ -142,7 +145,10 @@ onward_is t u e = cc
 whole_front : (at : Place) → Whole (front at) (front at) (token_look (front_tokens ++ name ∷ [])) []
 whole_front at = whole_choice whole_front_token (whole_here (λ left. whole_then whole_name (λ n. whole_checks (whole_gives _)))) refl refl
 
-module _ (expression longer_one : Grammar Operand) (w : Whole expression longer_one expression_look expression_bars) where
+module _ (expression longer_one : Wanted → Grammar Operand) (w : (wanted : Wanted) → Whole (expression wanted) (longer_one wanted) expression_look expression_bars) where
+  longer_known : (wanted : Wanted) → Clearly (longer_one wanted) expression_look expression_bars
+  longer_known wanted = (w wanted).clearly
+
   -- the end of a part, where some token is one
   whole_part_end : (shape : Shape) (index : ℕ) (k : Kind) (b : Bool) → part_end_in shape index k ≡ Some b → Whole (takes (part_end_in shape index)) (takes (part_end_in shape index)) (token_look part_ends) []
   whole_part_end shape index k b is = whole_takes k b is (clear_token _ _ (known_part_end shape index))
@@ -150,17 +156,17 @@ module _ (expression longer_one : Grammar Operand) (w : Whole expression longer_
   whole_part_text : (shape : Shape) (place : ℕ) (before : Parts) (k : Kind) (b : Bool) → part_end_in shape (length before.trees) k ≡ Some b
       → Whole (part_form expression shape place before) (part_form longer_one shape place before) (token_look operand_starts) []
   whole_part_text shape place before k b is =
-      whole_here (λ left. whole_sequence w (λ operand. whole_then (whole_part_end shape (length before.trees) k b is) (λ is_last. whole_checks (whole_gives _))) refl refl)
+      whole_here (λ left. whole_sequence (w (wanted_part shape (length before.trees) place)) (λ operand. whole_then (whole_part_end shape (length before.trees) k b is) (λ is_last. whole_checks (whole_gives _))) refl refl)
 
   -- one part and what ends it
   one_part : (shape : Shape) (place : ℕ) (before : Parts) (k : Kind) (b : Bool) → part_end_in shape (length before.trees) k ≡ Some b → (p : ℕ)
       → (operand : Operand) × (ts : List Kind) × (q : ℕ) × Fine (part_form longer_one shape place before) (ends_with b (with_part before operand)) (spot p ts) (spot q [])
-  one_part shape place before k b is p = by_text (w.text p)
+  one_part shape place before k b is p = by_text ((w (wanted_part shape (length before.trees) place)).text p)
     where
       part_ends_there : Starts part_ends (k ∷ [])
       part_ends_there = (known_part_end shape (length before.trees)).starts (k ∷ []) (ap is_some is)
 
-      by_moves : (operand : Operand) (ts : List Kind) (q : ℕ) → Moves longer_one operand p ts q []
+      by_moves : (operand : Operand) (ts : List Kind) (q : ℕ) → Moves (longer_one (wanted_part shape (length before.trees) place)) operand p ts q []
           → (operand : Operand) × (ts : List Kind) × (q : ℕ) × Fine (part_form longer_one shape place before) (ends_with b (with_part before operand)) (spot p ts) (spot q [])
       by_moves operand ts q m = (
         operand,
@@ -169,14 +175,14 @@ module _ (expression longer_one : Grammar Operand) (w : Whole expression longer_
         (
           operand,
           spot q (k ∷ []),
-          m.again (k ∷ []) (inr (λ s. starts_apart part_ends expression_bars (k ∷ []) refl part_ends_there (w.clearly.spoils operand (k ∷ []) s))),
+          m.again (k ∷ []) (inr (λ s. starts_apart part_ends expression_bars (k ∷ []) refl part_ends_there ((w (wanted_part shape (length before.trees) place)).clearly.spoils operand (k ∷ []) s))),
           (b, spot (pred q) [], (is, refl), (refl, refl)),
         ),
       )
 
-      by_text : (operand : Operand) × (ts : List Kind) × (q : ℕ) × Fine longer_one operand (spot p ts) (spot q [])
+      by_text : (operand : Operand) × (ts : List Kind) × (q : ℕ) × Fine (longer_one (wanted_part shape (length before.trees) place)) operand (spot p ts) (spot q [])
           → (operand : Operand) × (ts : List Kind) × (q : ℕ) × Fine (part_form longer_one shape place before) (ends_with b (with_part before operand)) (spot p ts) (spot q [])
-      by_text (operand, ts, q, fine) = by_moves operand ts q (moves longer_one w.clearly.clear operand p ts (spot q []) fine)
+      by_text (operand, ts, q, fine) = by_moves operand ts q (moves (longer_one (wanted_part shape (length before.trees) place)) (w (wanted_part shape (length before.trees) place)).clearly.clear operand p ts (spot q []) fine)
 
   -- the last part
   last_part_text : (shape : Shape) (place : ℕ) (before : Parts) (k : Kind) → part_end_in shape (length before.trees) k ≡ Some true → HasText (rounds (part_form longer_one shape place) before)
@@ -199,14 +205,14 @@ module _ (expression longer_one : Grammar Operand) (w : Whole expression longer_
         moved.taken ++ more,
         q,
         more_rounds (part_form longer_one shape place) before (with_part before operand) v (spot p (moved.taken ++ more)) (spot m more) (spot q [])
-            (moved.again more (inr (λ s. starts_never more ((clear_part_text longer_one w.clearly shape place before).spoils (onward (with_part before operand)) more s)))) fine,
+            (moved.again more (inr (λ s. starts_never more ((clear_part_text longer_one longer_known shape place before).spoils (onward (with_part before operand)) more s)))) fine,
       )
 
       by_text : (operand : Operand) × (ts : List Kind) × (m : ℕ) × Fine (part_form longer_one shape place before) (onward (with_part before operand)) (spot p ts) (spot m [])
           → (v : Parts) × (ts : List Kind) × (q : ℕ) × Fine (rounds (part_form longer_one shape place) before) v (spot p ts) (spot q [])
       by_text (operand, ts, m, fine) =
           by_others operand ts m
-          (moves (part_form longer_one shape place before) (clear_part_text longer_one w.clearly shape place before).clear (onward (with_part before operand)) p ts (spot m []) fine)
+          (moves (part_form longer_one shape place before) (clear_part_text longer_one longer_known shape place before).clear (onward (with_part before operand)) p ts (spot m []) fine)
           (others operand m)
 
   -- the parts of a shape, by what is known of those before each
@@ -217,10 +223,10 @@ module _ (expression longer_one : Grammar Operand) (w : Whole expression longer_
     supplied =
         supplied_rounds (part_form expression shape place) (part_form longer_one shape place) t I i (λ s j. by_token s (tokens s j)) keeps
         (λ s u j k.
-        can_end (part_form longer_one shape place s) (rounds (part_form longer_one shape place) u) (clear_part_text longer_one w.clearly shape place s).clear (onward u)
-        (text_free (part_form longer_one shape place s) (rounds (part_form longer_one shape place) u) (token_look operand_starts) (clear_part_text longer_one w.clearly shape place s) (texts u k) (onward u)))
-        (λ s u j k. can_follow (part_form longer_one shape place s) (rounds (part_form longer_one shape place) u) (clear_part_text longer_one w.clearly shape place s).clear (onward u));
-    clearly = clear_parts_rounds longer_one w.clearly shape place t;
+        can_end (part_form longer_one shape place s) (rounds (part_form longer_one shape place) u) (clear_part_text longer_one longer_known shape place s).clear (onward u)
+        (text_free (part_form longer_one shape place s) (rounds (part_form longer_one shape place) u) (token_look operand_starts) (clear_part_text longer_one longer_known shape place s) (texts u k) (onward u)))
+        (λ s u j k. can_follow (part_form longer_one shape place s) (rounds (part_form longer_one shape place) u) (clear_part_text longer_one longer_known shape place s).clear (onward u));
+    clearly = clear_parts_rounds longer_one longer_known shape place t;
     text = texts t i;
   }
     where
@@ -293,7 +299,7 @@ pub data Above : Deeper → Deeper → Type 1 where
 
 -- what a check always refuses is supplied by what it checks
 refused_is : (upper : Grammar Operand) → Clearly upper unary_look [] → HasText upper → Whole (checks (Some (Deep, 0)) upper) upper unary_look []
-refused_is upper known text = record { supplied = supplied_end (checks (Some (Deep, 0)) upper) upper (λ x. refl) (λ x. inr (inl refl)); clearly = known; text = text }
+refused_is upper known text = record { supplied = supplied_end (checks (Some (Deep, 0)) upper) upper (λ x. refl) (λ x. inr (inl (x.1, refl))); clearly = known; text = text }
 
 whole_opened : {A : Type 0} {f : Grammar Operand → Grammar A} {l : Look} (m : Mark) (inner outer : Deeper) → Above inner outer
     → ((unary upper : Grammar Operand) → Whole unary upper unary_look [] → Whole (f unary) (f upper) l []) → Whole (opened m inner f) (opened m outer f) (full_look (marked m ∷ []) l.ends) []
@@ -367,5 +373,5 @@ whole_unary at zero (suc more) less = whole_operand at nothing (deeper (unary_fo
 whole_unary at (suc levels) (suc more) less =
     whole_operand at (deeper (unary_form at levels)) (deeper (unary_form at more)) (next_level (unary_form at levels) (unary_form at more) (whole_unary at levels more (omega arith)))
 
-pub whole_expression_text : (at : Place) (levels more : ℕ) → levels < more → Whole (expression_form at levels) (expression_form at more) expression_look expression_bars
-whole_expression_text at levels more less = whole_expression (unary_form at levels) (unary_form at more) (whole_unary at levels more less)
+pub whole_expression_text : (at : Place) (levels more : ℕ) → levels < more → (wanted : Wanted) → Whole (expression_form at levels wanted) (expression_form at more wanted) expression_look expression_bars
+whole_expression_text at levels more less wanted = whole_expression (unary_form at levels) (unary_form at more) (whole_unary at levels more less) wanted

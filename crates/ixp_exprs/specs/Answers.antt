@@ -6,7 +6,7 @@ use Rattle.ixp_tokens.specs.declared.fault.Fault.TheVariants.{NoMemory, Stop}
 use Rattle.ixp_tokens.specs.declared.token.Kind.{Kind}
 use Rattle.ixp_tokens.specs.Reading.{Read}
 
--- a test that takes no memory refuses for this, if for anything
+-- a test that does not allocate refuses for this, if for anything
 abbrev pub Refuses : Result (Unit {0}) Fault → Option (Cause × ℕ) → Type 0
 Refuses (Ok passed) r = r ≡ None
 Refuses (Err NoMemory) r = ⊥

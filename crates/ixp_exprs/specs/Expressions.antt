@@ -1,6 +1,6 @@
 -- Expressions (BIRD 2 User's Guide, chapter "Filters", expressions), with their types and what names stand for.
 use Rattle.std.specs.Prelude.{ℕ, zero, suc, Bool, true, false, ◌&&◌, ◌||◌, ◌==◌, not, nat_le, nat_lt, List, [], ◌∷◌, ◌++◌, length, codes, Option, Some, None, option_map, if◌then◌else◌}
-use Rattle.std.specs.Option.{is_some, is_none}
+use Rattle.std.specs.Option.{is_some, is_none, option_or}
 use Rattle.ixp_num.specs.declared.roa.Validity.{Validity}
 use Rattle.ixp_num.specs.declared.roa.Validity.TheVariants.{Valid, Invalid, Unknown as Not_found}
 use Rattle.ixp_lang.specs.Trees.{ExprTree, literal, named, attribute, call, roa_check, set_literal, conjunction, disjunction, ExprTrees, exprs}
@@ -17,17 +17,18 @@ use Rattle.ixp_tokens.specs.declared.token.Mark.{Mark}
 use Rattle.ixp_tokens.specs.declared.token.Mark.TheVariants as mark
 use Rattle.ixp_tokens.specs.Grammars.{Grammar, gives, takes, sequence, choice, rounds, checks, bars, here, Step, onward, done}
 use Rattle.ixp_tokens.specs.Pieces.{the_mark, is_mark, is_next, if_so, is_word, same_word, a_name}
+use Rattle.ixp_exprs.specs.declared.wanted.Wanted.{Wanted}
 use Rattle.ixp_exprs.specs.declared.types.ValueType.{ValueType}
 use Rattle.ixp_exprs.specs.declared.types.ValueType.TheVariants.{Int, Bool as Truth, Ip, Prefix, Pair, Triple, State}
 use Rattle.ixp_exprs.specs.declared.env.Signature.{Signature}
 use Rattle.ixp_exprs.specs.declared.env.Declared.{Declared}
 use Rattle.ixp_exprs.specs.declared.env.Declared.TheVariants.{Table, Parameter}
 use Rattle.ixp_exprs.specs.declared.context.Scope.{Scope}
-use Rattle.ixp_exprs.specs.Types.{attribute_type, same_type, takes_right}
+use Rattle.ixp_exprs.specs.Types.{attribute_type, same_type}
 use Rattle.ixp_exprs.specs.Names.{Names, function_of, value_of, is_define}
 use Rattle.ixp_exprs.specs.Lists.{never, only, ended}
 use Rattle.ixp_exprs.specs.Sets.{if_missing, unless_so, part_too_great, elements}
-use Rattle.ixp_exprs.specs.Operands.{Operand, closed, or_else, misfit_at, settled, fits, fits_left, refused_now, negated, compared, literal_number, pair_tree, triple_tree}
+use Rattle.ixp_exprs.specs.Operands.{Operand, closed, misfit_at, settled, fits, fits_left, anything, one_type, in_vain, no_truth, refused_now, fits_negation, negated, compared, literal_number, pair_tree, triple_tree}
 
 -- Where an expression stands: what names stand for, what it is a part of, and how many tokens are left at the first token of
 -- its statement or definition.
@@ -90,7 +91,7 @@ word_in class _ = None
 
 abbrev pub literal_word : List ℕ → Option Operand
 literal_word word =
-    or_else (option_map (λ b. closed (literal (value.Bool b)) Truth) (truth_in word)) (option_map (λ s. closed (literal (value.Roa s)) State) (state_in word))
+    option_or (option_map (λ b. closed (literal (value.Bool b)) Truth) (truth_in word)) (option_map (λ s. closed (literal (value.Roa s)) State) (state_in word))
 
 abbrev pub literal_in : Kind → Option Operand
 literal_in (kind.Number number) = Some (closed (literal (value.Int number)) Int)
@@ -147,8 +148,8 @@ part_end_in shape index token =
 -- the argument has its parameter's type, and is the last one where that one is
 abbrev pub fits_argument : List ValueType → ℕ → Bool → Operand → ℕ → Option (Cause × ℕ)
 fits_argument [] index is_last part place = Some (misfit_at place)
-fits_argument (wanted ∷ []) zero is_last part place = or_else (fits part wanted place) (unless_so is_last (misfit_at place))
-fits_argument (wanted ∷ other ∷ others) zero is_last part place = or_else (fits part wanted place) (unless_so (not is_last) (misfit_at place))
+fits_argument (wanted ∷ []) zero is_last part place = option_or (fits part wanted place) (unless_so is_last (misfit_at place))
+fits_argument (wanted ∷ other ∷ others) zero is_last part place = option_or (fits part wanted place) (unless_so (not is_last) (misfit_at place))
 fits_argument (wanted ∷ others) (suc index) is_last part place = fits_argument others index is_last part place
 
 -- the parts so far, how many tokens were left at the first one, and the last one's type
@@ -174,7 +175,7 @@ fits_pair tree left = too_great_if (literal_number tree) left
 abbrev pub fits_plain : List ExprTree → ℕ → Bool → Operand → ℕ → ℕ → Option (Cause × ℕ)
 fits_plain [] first true part left place = settled part
 fits_plain [] first false part left place = fits part Int place
-fits_plain (a ∷ []) first true part left place = or_else (fits_pair a first) (or_else (fits_pair part.tree left) (fits part Int place))
+fits_plain (a ∷ []) first true part left place = option_or (fits_pair a first) (option_or (fits_pair part.tree left) (fits part Int place))
 fits_plain (a ∷ []) first false part left place = fits part Int place
 fits_plain (a ∷ b ∷ others) first is_last part left place = fits part Int place
 
@@ -194,11 +195,24 @@ part_ending shape place left before operand =
     sequence (takes (part_end_in shape (length before.trees))) (λ is_last.
     checks (fits_next shape before is_last operand left place) (gives (ends_with is_last (with_part before operand))))
 
--- one part, and what ends it
-abbrev pub part_form : Grammar Operand → Shape → ℕ → Parts → Grammar (Step Parts Parts)
-part_form expression shape place before = here (λ left. sequence expression (λ operand. part_ending shape place left before operand))
+-- what is wanted of the argument of this index
+abbrev pub argument_wanted : List ValueType → ℕ → ℕ → Wanted
+argument_wanted [] index place = anything
+argument_wanted (ty ∷ others) zero place = one_type ty place
+argument_wanted (ty ∷ others) (suc index) place = argument_wanted others index place
 
-abbrev pub some_parts : Grammar Operand → Shape → ℕ → Grammar Parts
+-- what is wanted of the part of this index; misfits are at the place
+abbrev pub wanted_part : Shape → ℕ → ℕ → Wanted
+wanted_part plain index place = if index == 0 then anything else one_type Int place
+wanted_part (arguments params) index place = argument_wanted params index place
+wanted_part roa_values index place = one_type (if index == 0 then Prefix else Int) place
+
+-- one part, and what ends it
+abbrev pub part_form : (Wanted → Grammar Operand) → Shape → ℕ → Parts → Grammar (Step Parts Parts)
+part_form expression shape place before =
+    here (λ left. sequence (expression (wanted_part shape (length before.trees) place)) (λ operand. part_ending shape place left before operand))
+
+abbrev pub some_parts : (Wanted → Grammar Operand) → Shape → ℕ → Grammar Parts
 some_parts expression shape place = here (λ left. rounds (part_form expression shape place) (no_parts left))
 
 -- what an operand may begin with, as far as the first token tells
@@ -228,7 +242,7 @@ front at =
     choice (takes front_in) (here (λ left. sequence a_name (λ name. checks (unless_so (is_operand_name at name) (no_value at name left)) (gives tt))))
 
 -- what is enclosed, up to the end of the parenthesis; a function without parameters has nothing there
-abbrev pub enclosed : Place → Grammar Operand → Shape → ℕ → Grammar Parts
+abbrev pub enclosed : Place → (Wanted → Grammar Operand) → Shape → ℕ → Grammar Parts
 enclosed at expression (arguments []) place =
     here (λ left. choice (ended mark.Close (no_parts left)) (sequence (front at) (λ tt. checks (Some (misfit_at place)) (gives (no_parts left)))))
 enclosed at expression (arguments (p ∷ ps)) place =
@@ -291,7 +305,7 @@ longer chain part place = record { parts = chain.parts ++ part.tree ∷ []; plac
 
 -- a part's misfit, which waits for the token behind it: one that waited, or at the joint before the part
 abbrev pub part_misfit : Operand → ℕ → Option ℕ
-part_misfit part place = or_else part.misfit (if same_type part.ty Truth then None else Some place)
+part_misfit part place = option_or part.misfit (if same_type part.ty Truth then None else Some place)
 
 abbrev pub chained : (ExprTrees → ExprTree) → Chain → Operand → Operand
 chained joined chain last =
@@ -309,20 +323,20 @@ part_joint joint other joined chain part =
 -- Over what stands alone at a level, `unary`.
 module _ (unary : Grammar Operand) where
   -- an operand, or a comparison of two
-  abbrev pub comparison_of : Grammar Operand
-  comparison_of =
+  abbrev pub comparison_of : Wanted → Grammar Operand
+  comparison_of wanted =
       sequence unary (λ left.
-      here (λ place.
+      checks (in_vain wanted left)
+      (here (λ place.
       choice
       (sequence (takes operator_in) (λ op.
-      checks (fits_left op left place)
-      (sequence unary (λ right.
-      checks (refused_now right (takes_right op left.ty right.ty) place) (gives (compared op left right place))))))
-      (gives left)))
+      checks (option_or (fits_left op left place) (no_truth wanted))
+      (sequence unary (λ right. checks (refused_now op left right place) (gives (compared op left right place))))))
+      (gives left))))
 
   -- one more part of a chain, and whether the chain goes on
   abbrev pub chain_part : Mark → Mark → (ExprTrees → ExprTree) → Chain → Grammar (Step Chain Operand)
-  chain_part joint other joined chain = sequence comparison_of (λ part. part_joint joint other joined chain part)
+  chain_part joint other joined chain = sequence (comparison_of (one_type Truth chain.place)) (λ part. part_joint joint other joined chain part)
 
   -- the chain of these joints that goes on from this part
   abbrev pub chain_of : Mark → Mark → (ExprTrees → ExprTree) → Operand → ℕ → Grammar Operand
@@ -330,9 +344,9 @@ module _ (unary : Grammar Operand) where
       sequence (the_mark joint) (λ tt. checks (fits first Truth place) (rounds (chain_part joint other joined) (begun_with first place)))
 
   -- a comparison or an operand, or a chain of them
-  abbrev pub expression_of : Grammar Operand
-  expression_of =
-      sequence comparison_of (λ first.
+  abbrev pub expression_of : Wanted → Grammar Operand
+  expression_of wanted =
+      sequence (comparison_of wanted) (λ first.
       here (λ place.
       choice (chain_of mark.And mark.Or conjunction first place)
       (choice (chain_of mark.Or mark.And disjunction first place)
@@ -356,7 +370,7 @@ abbrev pub negation_form : Deeper → Grammar Operand
 negation_form inner =
     here (λ place.
     opened mark.Not inner (λ unary.
-    sequence unary (λ operand. checks (refused_now operand (same_type operand.ty Truth) place) (gives (negated operand place)))))
+    sequence unary (λ operand. checks (fits_negation operand place) (gives (negated operand)))))
 
 -- an expression in parentheses, a pair or a triple
 abbrev pub plain_form : Place → Deeper → Grammar Operand
@@ -416,6 +430,7 @@ abbrev pub unary_form : Place → ℕ → Grammar Operand
 unary_form at zero = operand_form at nothing
 unary_form at (suc levels) = operand_form at (deeper (unary_form at levels))
 
--- an expression, with so many levels below it at most
-abbrev pub expression_form : Place → ℕ → Grammar Operand
-expression_form at levels = expression_of (unary_form at levels)
+-- An expression, with so many levels below it at most. Its first operand alone is tested against what is wanted of it, as
+-- far as no token behind could help; what may stand behind the expression is tested before its type is.
+abbrev pub expression_form : Place → ℕ → Wanted → Grammar Operand
+expression_form at levels wanted = expression_of (unary_form at levels) wanted

@@ -93,7 +93,7 @@ finishing opened r = r >>= finished_read opened
 
 -- what is read where a group may have no part: None where its parts have to be read
 abbrev pub partless : Place → Shape → ℕ → List Kind → Option (Read Parts)
-partless at (arguments []) place tokens = Some (read (enclosed at never (arguments []) place) tokens)
+partless at (arguments []) place tokens = Some (read (enclosed at (λ wanted. never) (arguments []) place) tokens)
 partless at (arguments (p ∷ ps)) place tokens = if is_next (is_mark mark.Close) tokens then Some (Err (misfit_at place)) else None
 partless at plain place tokens = None
 partless at roa_values place tokens = None

@@ -1,11 +1,13 @@
 -- Types, and which operands an operator takes (BIRD 2 User's Guide, chapter "Filters", operators).
-use Rattle.std.specs.Prelude.{ℕ, Bool, true, false, ◌||◌, ◌==◌}
+use Rattle.std.specs.Prelude.{ℕ, Bool, true, false, ◌||◌, ◌&&◌, ◌==◌, Option, Some, None}
 use Rattle.ixp_lang.specs.declared.expr.Attr.{Attr}
 use Rattle.ixp_lang.specs.declared.expr.Attr.TheVariants as attr
 use Rattle.ixp_lang.specs.declared.expr.Op.{Op}
 use Rattle.ixp_lang.specs.declared.expr.Op.TheVariants as op
 use Rattle.ixp_lang.specs.declared.item.Ty.{Ty}
 use Rattle.ixp_lang.specs.declared.item.Ty.TheVariants as ty
+use Rattle.ixp_exprs.specs.declared.wanted.Expected.{Expected}
+use Rattle.ixp_exprs.specs.declared.wanted.Expected.TheVariants.{Anything, One, Value, NumberOrState}
 use Rattle.ixp_exprs.specs.declared.types.ValueType.{ValueType}
 use Rattle.ixp_exprs.specs.declared.types.ValueType.TheVariants.{Int, Bool as Truth, Ip, Prefix, Pair, Triple, State, IntSet, IpSet, PrefixSet, PairSet, TripleSet, Path, Pairs, Triples}
 
@@ -120,3 +122,19 @@ takes_right op.Gt left right = same_type right Int
 takes_right op.Ge left right = same_type right Int
 takes_right op.In left right = holds right left
 takes_right op.NotIn left right = holds right left
+
+-- some operator takes one of this type on its left
+abbrev pub is_compared : ValueType → Bool
+is_compared ty = is_comparable ty || is_sought ty
+
+-- the type that was written or returned before, if one was
+abbrev pub same_as : Option ValueType → ValueType → Bool
+same_as None ty = true
+same_as (Some wanted) ty = same_type wanted ty
+
+-- an expression of this type may stand there
+abbrev pub is_expected : Expected → ValueType → Bool
+is_expected Anything ty = true
+is_expected (One wanted) ty = same_type ty wanted
+is_expected (Value before) ty = is_of_values ty && same_as before ty
+is_expected NumberOrState ty = same_type ty Int || same_type ty State

@@ -1,12 +1,13 @@
 //! Expressions: chains of comparisons of operands.
 ghost use Rattle.std.specs.Prelude.{◌≡◌, ◌<◌, ◌≤◌, length, IfOk, OnOk, option_map};
+ghost use Rattle.std.specs.Option.{option_or};
 ghost use Rattle.ixp_lang.specs.Views.{exprs_view};
 ghost use Rattle.ixp_tokens.specs.Grammars.{checks, gives, sequence};
 ghost use Rattle.ixp_tokens.specs.Reading.{read, kinds, Gives};
 ghost use Rattle.ixp_exprs.specs.declared.types.ValueType.TheVariants.{Bool as Truth};
 ghost use Rattle.ixp_exprs.specs.Answers.{Refuses, Makes, Passes};
-ghost use Rattle.ixp_exprs.specs.Types.{same_type, takes_right};
-ghost use Rattle.ixp_exprs.specs.Operands.{operand_of, waiting, refused_now, negated, fits, fits_left, compared, misfit_at};
+ghost use Rattle.ixp_exprs.specs.Operands.{operand_of, refused_now, fits_negation, negated, fits, fits_left, compared, misfit_at};
+ghost use Rattle.ixp_exprs.specs.Operands.{one_type, no_truth};
 ghost use Rattle.ixp_exprs.specs.Groups.{least, limit, place_of, shape_of, parts_of};
 ghost use Rattle.ixp_exprs.specs.Joints.{joint_mark, other_mark, joined_by, chain_of, ended_chain, linked};
 ghost use Rattle.ixp_exprs.specs.Expressions.{part_misfit, begun_with, longer, chained, part_joint, unary_form, comparison_of};
@@ -18,27 +19,22 @@ use crate::leaf::atom_at;
 use crate::operator::{Joint, joint_at, operator_at};
 use crate::parts::Parts;
 use crate::tree::made;
-use crate::types::{settled, takes_left, takes_right};
-use crate::{Context, Signature, Typed, ValueType, fits};
+use crate::types::{takes_left, takes_right};
+use crate::{Context, Signature, Typed, ValueType, Wanted, fits};
 use ixp_lang::{Expr, Op};
 use ixp_tokens::{Fault, Mark, Token, after_mark, mark_at};
 use std::alloc::Global;
 
-/// The misfit of an operand that waits for the next token: one that waited before, or one at this place, where the
-/// operand doesn't fit and a `.` would make it another one.
-fn waiting(operand: &Typed, is_fit: bool, place: usize) -> Result<Option<usize>, Fault>
-    ensures { Passes (λ m. m) result (refused_now (operand_of operand.now) is_fit place) (waiting (operand_of operand.now) is_fit place) }
+/// Whether the operator at this place takes the operand on its right, or may take a part of it, which is a number.
+fn fits_right(op: Op, left: &Typed, right: &Typed, place: usize) -> Result<(), Fault>
+    ensures { Refuses result (refused_now op (operand_of left.now) (operand_of right.now) place) }
 {
-    if operand.misfit.is_some() {
-        return Ok(operand.misfit);
+    let may_fit = right.is_open && takes_right(op, left.ty, ValueType::Int);
+    if takes_right(op, left.ty, right.ty) || may_fit {
+        Ok(())
+    } else {
+        Err(misfit(place))
     }
-    if is_fit {
-        return Ok(None);
-    }
-    if operand.is_open {
-        return Ok(Some(place));
-    }
-    Err(misfit(place))
 }
 
 /// The negation, whose `!` is at this place, before the rest.
@@ -48,31 +44,33 @@ fn negated<'t>(
     place: usize,
     rest: &'t [Token],
 ) -> Result<(Typed, &'t [Token]), Fault>
-    ensures reads { Gives (λ x. (operand_of x.0, kinds x.1.now)) result (read (checks (refused_now (operand_of operand) (same_type operand.ty Truth) place) (gives (negated (operand_of operand) place))) (kinds rest.now)) }
+    ensures reads { Gives (λ x. (operand_of x.0, kinds x.1.now)) result (read (checks (fits_negation (operand_of operand) place) (gives (negated (operand_of operand)))) (kinds rest.now)) }
     ensures shorter { IfOk result (λ x. length x.1.now ≤ length rest.now) }
 {
-    let misfit = waiting(&operand, operand.ty.is(ValueType::Bool), place)?;
-    let is_open = operand.is_open;
+    if !operand.ty.is(ValueType::Bool) {
+        return Err(misfit(place));
+    }
     let expr = Expr::Not(Box::new(alloc, operand.expr)?);
-    let typed = Typed {
-        expr,
-        ty: ValueType::Bool,
-        is_open,
-        misfit,
-    };
-    Ok((typed, rest))
+    Ok((Typed::closed(expr, ValueType::Bool), rest))
 }
 
-/// Whether the operator at this place, which has been read, takes the operand on its left.
+/// Whether the operator at this place takes the operand on its left.
 fn fits_left(op: Op, left: &Typed, place: usize) -> Result<(), Fault>
     ensures { Refuses result (fits_left op (operand_of left.now) place) }
 {
-    settled(left)?;
     if takes_left(op, left.ty) {
         Ok(())
     } else {
         Err(misfit(place))
     }
+}
+
+/// The same of the operator that has been read, and whether a comparison is wanted.
+fn fits_wanted(wanted: Wanted, op: Op, left: &Typed, place: usize) -> Result<(), Fault>
+    ensures { Refuses result (option_or (fits_left op (operand_of left.now) place) (no_truth wanted)) }
+{
+    fits_left(op, left, place)?;
+    wanted.compares()
 }
 
 /// The comparison, whose operator is at this place, before the rest.
@@ -83,10 +81,15 @@ fn compared<'t>(
     right: Typed,
     at: (usize, &'t [Token]),
 ) -> Result<(Typed, &'t [Token]), Fault>
-    ensures reads { Gives (λ x. (operand_of x.0, kinds x.1.now)) result (read (checks (refused_now (operand_of right) (takes_right op left.ty right.ty) at.entry.0) (gives (compared op (operand_of left) (operand_of right) at.entry.0))) (kinds at.entry.1.now)) }
+    ensures reads { Gives (λ x. (operand_of x.0, kinds x.1.now)) result (read (checks (refused_now op (operand_of left) (operand_of right) at.entry.0) (gives (compared op (operand_of left) (operand_of right) at.entry.0))) (kinds at.entry.1.now)) }
     ensures shorter { IfOk result (λ x. length x.1.now ≤ length at.entry.1.now) }
 {
-    let misfit = waiting(&right, takes_right(op, left.ty, right.ty), at.0)?;
+    fits_right(op, &left, &right, at.0)?;
+    let misfit = if takes_right(op, left.ty, right.ty) {
+        None
+    } else {
+        Some(at.0)
+    };
     let left = Box::new(alloc, left.expr)?;
     let right = Box::new(alloc, right.expr)?;
     let typed = Typed {
@@ -124,6 +127,13 @@ fn misfit_of(part: &Typed, place: usize) -> Option<usize>
 }
 
 impl Chain {
+    /// What is wanted of the next part.
+    fn wanted(&self) -> Wanted
+        ensures { result ≡ one_type Truth (chain_of self.now).place }
+    {
+        Wanted::one(ValueType::Bool, self.place)
+    }
+
     /// The chain that begins with this part. The joint is at this place.
     fn begun(alloc: Global, joint: Joint, first: Typed, place: usize) -> Result<Chain, Fault>
         ensures exact { Passes chain_of result (fits (operand_of first) Truth place) (begun_with (operand_of first) place) }
@@ -186,10 +196,11 @@ impl Chain {
     {
         let Chain {
             joint,
-            parts,
+            mut parts,
             misfit,
             ..
         } = self;
+        parts.shrink_to_fit();
         let expr = match joint {
             Joint::And => Expr::And(parts),
             Joint::Or => Expr::Or(parts),
@@ -237,39 +248,42 @@ fn unary<'t>(
 fn comparison<'t>(
     cx: Context<'_>,
     depth: u32,
+    wanted: Wanted,
     tokens: &'t [Token],
 ) -> Result<(Typed, &'t [Token]), Fault>
-    ensures reads { Gives (λ x. (operand_of x.0, kinds x.1.now)) result (read (comparison_of (unary_form (place_of cx.entry) depth)) (kinds tokens.now)) }
+    ensures reads { Gives (λ x. (operand_of x.0, kinds x.1.now)) result (read (comparison_of (unary_form (place_of cx.entry) depth) wanted) (kinds tokens.now)) }
     ensures shorter { IfOk result (λ x. length x.1.now < length tokens.now) }
 {
     let (left, rest) = unary(cx, depth, tokens)?;
+    wanted.begins(&left)?;
     let Some((op, behind)) = operator_at(rest) else {
         return Ok((left, rest));
     };
-    fits_left(op, &left, rest.len())?;
+    fits_wanted(wanted, op, &left, rest.len())?;
     let (right, end) = unary(cx, depth, behind)?;
     compared(cx.alloc, op, left, right, (rest.len(), end))
 }
 
-/// The expression at the front, with so many levels below it at most. What may stand behind it is the caller's to
-/// test, and then whether it fits.
+/// The expression at the front, with so many levels below it at most. It is refused as soon as it can't be what is wanted,
+/// whatever is behind. What may stand behind it is the caller's to test, and then whether it fits.
 #[cycle(expr)]
 pub fn expression<'t>(
     cx: Context<'_>,
     depth: u32,
+    wanted: Wanted,
     tokens: &'t [Token],
 ) -> Result<(Typed, &'t [Token]), Fault>
-    ensures reads { Gives (λ x. (operand_of x.0, kinds x.1.now)) result (read (expression_form (place_of cx.entry) depth) (kinds tokens.now)) }
+    ensures reads { Gives (λ x. (operand_of x.0, kinds x.1.now)) result (read (expression_form (place_of cx.entry) depth wanted) (kinds tokens.now)) }
     ensures shorter { IfOk result (λ x. length x.1.now < length tokens.now) }
 {
-    let (first, rest) = comparison(cx, depth, tokens)?;
+    let (first, rest) = comparison(cx, depth, wanted, tokens)?;
     let Some(joint) = joint_at(rest) else {
         return Ok((first, rest));
     };
     let mut left = mark_at(joint.mark(), rest)?;
     let mut chain = Chain::begun(cx.alloc, joint, first, rest.len())?;
     'parts: loop {
-        let (part, after) = comparison(cx, depth, left)?;
+        let (part, after) = comparison(cx, depth, chain.wanted(), left)?;
         let (is_last, next) = chain.link(part, after)?;
         if is_last {
             return Ok((chain.ended(), next));
@@ -297,7 +311,7 @@ fn parts_at<'t>(
     }
     let mut left = tokens;
     'parts: loop {
-        let (part, after) = expression(cx, depth, left)?;
+        let (part, after) = expression(cx, depth, parts.wanted(group), left)?;
         let (is_last, next) = parts.add(group, part, left.len(), after)?;
         if is_last {
             return Ok((parts, next));

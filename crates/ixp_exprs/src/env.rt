@@ -106,7 +106,7 @@ fn table_in(declared: &Declared) -> Option<Table>
 }
 
 impl Env {
-    /// No name is declared. It takes no memory.
+    /// No name is declared. It does not allocate.
     pub fn new(alloc: Global) -> Env
         ensures { names_of result ≡ nothing_declared }
     {

@@ -1,5 +1,5 @@
 //! What stands in parentheses: one expression or a tuple, a call's arguments, the two values of `roa_check`.
-ghost use Rattle.std.specs.Prelude.{◌≡◌, ◌<◌, ◌≤◌, ◌+◌, length, IfSome, IfOk, IsTrue, [], option_map, ◌-◌};
+ghost use Rattle.std.specs.Prelude.{◌≡◌, ◌<◌, ◌≤◌, ◌+◌, length, drop, IfSome, IfOk, IsTrue, [], option_map, ◌-◌};
 ghost use Rattle.ixp_tokens.specs.Pieces.{if_so};
 ghost use Rattle.ixp_tokens.specs.Reading.{read, kinds, Gives};
 ghost use Rattle.ixp_exprs.specs.Answers.{Refuses, Leads, Begun};
@@ -7,13 +7,13 @@ ghost use Rattle.ixp_exprs.specs.declared.group.Opening.TheVariants.{Call, Check
 ghost use Rattle.ixp_exprs.specs.Lists.{never, first_in};
 ghost use Rattle.ixp_exprs.specs.Groups.{least, limit, place_of, shape_of, shape_in, partless, below, call_in, call_or};
 ghost use Rattle.ixp_exprs.specs.Groups.{check_or, plain_or, from_opening, finishing};
-ghost use Rattle.ixp_exprs.specs.Expressions.{may_go_on, may_end, is_front_mark, front_in, is_operand_name, front};
+ghost use Rattle.ixp_exprs.specs.Expressions.{may_go_on, may_end, argument_wanted, wanted_part, is_front_mark, front_in, is_operand_name, front};
 ghost use Rattle.ixp_exprs.specs.Expressions.{enclosed, no_parts, arguments, no_roa_table, roa_table, call_form};
 ghost use Rattle.ixp_exprs.specs.Expressions.{outside_define, check_word, checked_form, expression_form, roa_values, word_in, called};
 
 use crate::context::{deep, misfit, unknown};
 use crate::leaf::{begins_operand, no_value};
-use crate::{Context, Declared, Signature};
+use crate::{Context, Declared, Signature, ValueType, Wanted};
 use ixp_num::Name;
 use ixp_tokens::{Fault, Kind, Mark, Token, after_mark, after_word, mark_at, name_at, unexpected};
 
@@ -88,6 +88,46 @@ impl<'e> Group<'e> {
             Shape::RoaCheck => index == 1,
         }
     }
+
+    /// What is wanted of the part of this index.
+    pub(crate) fn wanted(self, index: usize) -> Wanted
+        ensures { result ≡ wanted_part (shape_of self.entry.shape) index self.entry.place }
+    {
+        match self.shape {
+            Shape::Plain if index == 0 => Wanted::anything(),
+            Shape::Plain => Wanted::one(ValueType::Int, self.place),
+            Shape::Call(signature) => {
+                argument_wanted(signature.params.as_slice(), index, self.place)
+            }
+            Shape::RoaCheck if index == 0 => Wanted::one(ValueType::Prefix, self.place),
+            Shape::RoaCheck => Wanted::one(ValueType::Int, self.place),
+        }
+    }
+}
+
+/// The parameters from this index on.
+pub(crate) fn from_index(params: &[ValueType], index: usize) -> &[ValueType]
+    ensures { result.now ≡ drop index params.now }
+{
+    params.get(index..).unwrap_or(&[])
+}
+
+/// What is wanted of the argument for the first of these parameters. A misfit is at the place.
+fn first_wanted(params: &[ValueType], place: usize) -> Wanted
+    ensures { result ≡ argument_wanted params.now 0 place }
+{
+    match params {
+        [] => Wanted::anything(),
+        [ty, ..] => Wanted::one(*ty, place),
+    }
+}
+
+/// The same for the parameter of this index.
+#[tactic(auto, using(crate::proofs::Params::drop_wanted))]
+fn argument_wanted(params: &[ValueType], index: usize, place: usize) -> Wanted
+    ensures { result ≡ argument_wanted params.now index place }
+{
+    first_wanted(from_index(params, index), place)
 }
 
 /// Whether an expression may begin with this mark.
@@ -107,7 +147,7 @@ fn is_front(kind: &Kind) -> bool
     match kind {
         Kind::Number(_) | Kind::Addr(_) | Kind::Prefix(_) => true,
         Kind::Mark(mark) => is_front_mark(*mark),
-        Kind::Word(word) => begins_operand(word.get().as_bytes()),
+        Kind::Word(word) => begins_operand(word.as_bytes()),
         _ => false,
     }
 }
@@ -143,7 +183,7 @@ fn no_arguments_at<'t>(
     place: usize,
     tokens: &'t [Token],
 ) -> Result<&'t [Token], Fault>
-    ensures reads { Gives (λ r. (no_parts (length tokens.now), kinds r.now)) result (read (enclosed (place_of cx.entry) never (arguments []) place) (kinds tokens.now)) }
+    ensures reads { Gives (λ r. (no_parts (length tokens.now), kinds r.now)) result (read (enclosed (place_of cx.entry) (λ wanted. never) (arguments []) place) (kinds tokens.now)) }
     ensures shorter { IfOk result (λ r. length r.now < length tokens.now) }
 {
     if let Some(rest) = after_mark(Mark::Close, tokens) {

@@ -147,7 +147,7 @@ fn part_at(attr: Attr, tokens: &[Token]) -> Result<(Attr, &[Token]), Fault>
     let Kind::Word(word) = &first.kind else {
         return Err(unexpected(tokens));
     };
-    match part_of(attr, word.get().as_bytes()) {
+    match part_of(attr, word.as_bytes()) {
         Some(part) => Ok((part, rest)),
         None => Err(unexpected(tokens)),
     }
@@ -211,7 +211,7 @@ fn literal_of(kind: &Kind) -> Option<Typed>
             let literal = Expr::Lit(Value::Net(*prefix.get()));
             Some(Typed::closed(literal, ValueType::Prefix))
         }
-        Kind::Word(word) => literal_word(word.get().as_bytes()),
+        Kind::Word(word) => literal_word(word.as_bytes()),
         _ => None,
     }
 }
@@ -238,7 +238,7 @@ fn attribute_next<'t>(cx: Context<'_>, tokens: &'t [Token]) -> Option<(Attr, &'t
     let Kind::Word(word) = &first.kind else {
         return None;
     };
-    let attr = attribute_word(cx, word.get().as_bytes())?;
+    let attr = attribute_word(cx, word.as_bytes())?;
     Some((attr, rest))
 }
 

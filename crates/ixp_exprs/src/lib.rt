@@ -16,9 +16,11 @@ mod parts;
 mod set;
 mod tree;
 mod types;
+mod wanted;
 
 pub use chain::{arguments, expression};
 pub use context::{Context, Scope};
 pub use env::{Declared, Env, Signature, Table, defined_number, own_name_at};
 pub use leaf::state_of;
 pub use types::{Typed, ValueType, fits, settled, type_of};
+pub use wanted::{Expected, Wanted};

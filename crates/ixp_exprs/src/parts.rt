@@ -1,5 +1,5 @@
 //! The parts of what stands in parentheses.
-ghost use Rattle.std.specs.Prelude.{◌≡◌, ◌<◌, ◌≤◌, ◌+◌, length, drop, IfOk, OnOk, IsTrue, IsFalse, IfSome, []};
+ghost use Rattle.std.specs.Prelude.{◌≡◌, ◌<◌, ◌≤◌, ◌+◌, length, IfOk, OnOk, IsTrue, IsFalse, IfSome, []};
 ghost use Rattle.ixp_lang.specs.Views.{expr_view};
 ghost use Rattle.ixp_tokens.specs.Grammars.{takes};
 ghost use Rattle.ixp_tokens.specs.Reading.{read, kinds, Gives};
@@ -8,13 +8,13 @@ ghost use Rattle.ixp_exprs.specs.Sets.{unless_so};
 ghost use Rattle.ixp_exprs.specs.Operands.{operand_of, literal_number, misfit_at};
 ghost use Rattle.ixp_exprs.specs.Groups.{least, limit, shape_of, parts_of};
 ghost use Rattle.ixp_exprs.specs.Expressions.{part_end_in, fits_argument, fits_pair, fits_plain, fits_next, no_parts};
-ghost use Rattle.ixp_exprs.specs.Expressions.{with_part, ends_with, part_ending};
+ghost use Rattle.ixp_exprs.specs.Expressions.{with_part, ends_with, wanted_part, part_ending};
 
 use crate::context::misfit;
 use crate::elements::small_part;
-use crate::group::{Group, Shape};
+use crate::group::{Group, Shape, from_index};
 use crate::types::settled;
-use crate::{Typed, ValueType, fits};
+use crate::{Typed, ValueType, Wanted, fits};
 use ixp_lang::{Expr, Value};
 use ixp_tokens::{Fault, Mark, Token, is_mark, unexpected};
 use std::alloc::Global;
@@ -81,13 +81,6 @@ fn part_end<'t>(
     }
 }
 
-/// The parameters from this index on.
-fn from_index(params: &[ValueType], index: usize) -> &[ValueType]
-    ensures { result.now ≡ drop index params.now }
-{
-    params.get(index..).unwrap_or(&[])
-}
-
 /// A misfit at the place, unless it is so.
 fn holds_there(is_so: bool, place: usize) -> Result<(), Fault>
     ensures { Refuses result (unless_so is_so (misfit_at place)) }
@@ -127,6 +120,13 @@ fn fits_argument(
 }
 
 impl Parts {
+    /// What is wanted of the next part.
+    pub(crate) fn wanted(&self, group: Group<'_>) -> Wanted
+        ensures { result ≡ wanted_part (shape_of group.entry.shape) (length (parts_of self.now).trees) group.entry.place }
+    {
+        group.wanted(self.exprs.len())
+    }
+
     pub(crate) fn new(alloc: Global, first: usize) -> Parts
         ensures exact { parts_of result ≡ no_parts first }
         ensures none { result.exprs.items ≡ [] }

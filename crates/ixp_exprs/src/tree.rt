@@ -102,12 +102,13 @@ fn call_of(
     alloc: Global,
     name: &Name,
     signature: &Signature,
-    args: Vec<Expr>,
+    mut args: Vec<Expr>,
 ) -> Result<Typed, Fault>
     ensures { Makes operand_of result (call_tree name.now signature.now (exprs_view args.items)) }
 {
     let ty = signature.returns.unwrap_or(ValueType::Bool);
     let name = name.copied(alloc)?;
+    args.shrink_to_fit();
     Ok(Typed::closed(Expr::Call { name, args }, ty))
 }
 

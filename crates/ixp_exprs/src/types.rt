@@ -2,7 +2,7 @@
 ghost use Rattle.std.specs.Prelude.{◌≡◌};
 ghost use Rattle.ixp_lang.specs.Views.{expr_view};
 ghost use Rattle.ixp_exprs.specs.Types.{type_rank, same_type, type_of, attribute_type, is_comparable, is_sought};
-ghost use Rattle.ixp_exprs.specs.Types.{is_of_values, holds, takes_left, takes_right};
+ghost use Rattle.ixp_exprs.specs.Types.{is_of_values, holds, takes_left, takes_right, is_compared};
 ghost use Rattle.ixp_exprs.specs.Answers.{Refuses};
 ghost use Rattle.ixp_exprs.specs.Operands.{operand_of, closed, settled, fits};
 
@@ -147,6 +147,13 @@ impl ValueType {
             ValueType::Path | ValueType::Pairs | ValueType::Triples => true,
             _ => false,
         }
+    }
+
+    /// Whether some operator takes one of this type on its left.
+    pub(crate) fn is_compared(self) -> bool
+        ensures { result ≡ is_compared self }
+    {
+        self.is_comparable() || self.is_sought()
     }
 
     /// Whether it is the type of values, and not of an attribute that stands at `~` and `!~` alone.

@@ -1,25 +1,14 @@
 -- A map after one name's values were set.
-use Rattle.std.proofs.Common.{◌≡◌, ◌⊎◌, inl, inr, ℕ, Bool, true, false, ◌&&◌, ◌==◌, if◌then◌else◌, List, [], ◌∷◌, ◌++◌, Option, Some, None, Bor, nat_cmp, bytes_eq, refl, sym, ap, ◌∙◌}
+use Rattle.std.proofs.Common.{◌≡◌, ◌⊎◌, inl, inr, ℕ, Bool, true, false, if◌then◌else◌, List, [], ◌∷◌, ◌++◌, Option, Bor, nat_cmp, bytes_eq, refl, sym, ap, ◌∙◌}
 use Rattle.std.proofs.lemmas.Bool.{cases_Bool, cond-true, cond-false}
 use Rattle.std.specs.Cmp.Lexicographic.{same_text, slice_cmp}
-use lib.Pointwise.{pointwise}
 use Rattle.ixp_lang.specs.Meaning.{same_name}
+use Rattle.ixp_lang.proofs.SameNames.{same_bytes}
 use Rattle.std.specs.BTreeMap.{BTreeMap, UpdatesBy, get_by}
 use Rattle.std.specs.declared.cmp.Ordering.{Ordering}
 use Rattle.std.specs.Global.{Vec}
 use Rattle.std.proofs.lemmas.Map.Text.{btree_map_updates_str}
 use Rattle.ixp_groups.specs.Values.{values_in, values_or_none}
-
--- `==` of two lists of bytes is equality of names
-and_if : (a b : Bool) → (a && b) ≡ (if a then b else false)
-and_if true b = refl
-and_if false b = refl
-
-pub same_bytes : (m n : List ℕ) → pointwise (λ a b. a == b) m n ≡ same_name m n
-same_bytes [] [] = refl
-same_bytes [] (b ∷ n) = refl
-same_bytes (a ∷ m) [] = refl
-same_bytes (a ∷ m) (b ∷ n) = and_if (a == b) (pointwise (λ a b. a == b) m n) ∙ ap (λ x. if a == b then x else false) (same_bytes m n)
 
 pub same_is : (m n : List ℕ) → same_name m n ≡ true → m ≡ n
 same_is m n e = same_text m n (sym (same_bytes m n ∙ e))

@@ -24,7 +24,7 @@ impl Model for Buf {
 }
 
 impl Buf {
-    /// No bytes. It takes no memory.
+    /// No bytes. It does not allocate.
     pub fn new(alloc: Global) -> Buf
         ensures { result ≡ [] }
     {

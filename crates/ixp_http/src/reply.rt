@@ -182,7 +182,7 @@ fn write_parts<L: Sink>(link: &mut L, reply: &HttpReply, parts: &[Part]) -> Resu
     write_all(link, held.as_slice())
 }
 
-/// Writes a reply, with one write where it is short. It takes no memory.
+/// Writes a reply, with one write where it is short. It does not allocate.
 pub fn write_reply<L: Sink>(link: &mut L, reply: &HttpReply) -> Result<(), HttpFault>
     ensures ok { OnOk result (Takes (L.written link.old) (L.written link.new) (spec.reply_bytes reply.now)) }
     ensures err { OnErr result (TakesPart (L.written link.old) (L.written link.new) (spec.reply_bytes reply.now)) }

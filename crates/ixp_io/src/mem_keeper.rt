@@ -23,7 +23,7 @@ pub struct MemKeeper {
 }
 
 impl MemKeeper {
-    /// A keeper without rows. It takes no memory.
+    /// A keeper without rows. It does not allocate.
     pub fn new(alloc: Global, plan: Plan) -> MemKeeper
         ensures rows { table_of result.rows ≡ empty }
         ensures plan { result.plan ≡ plan }

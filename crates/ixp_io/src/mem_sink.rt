@@ -15,7 +15,7 @@ pub struct MemSink {
 }
 
 impl MemSink {
-    /// An empty sink, whose writes take all. It takes no memory.
+    /// An empty sink, whose writes take all. It does not allocate.
     pub fn new(alloc: Global, plan: Plan) -> MemSink
         ensures bytes { result.bytes.items ≡ [] }
         ensures most { result.most ≡ usize.MAX }

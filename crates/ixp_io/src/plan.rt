@@ -19,7 +19,7 @@ pub struct Plan {
 }
 
 impl Plan {
-    /// No call is to fail. It takes no memory.
+    /// No call is to fail. It does not allocate.
     pub fn smooth(alloc: Global) -> Plan
         ensures { result ≡ record { failing = []; calls = 0; faults = 0 } }
     {

@@ -51,7 +51,7 @@ fn given(found: Result<Option<Row>, StoreError>) -> Result<Option<Row>, Error> {
 }
 
 impl<S: Alter + Drop> SqlKeeper<S> {
-    /// A keeper over this connection. It takes no memory; the first call makes the table, where the database is empty.
+    /// A keeper over this connection. It does not allocate; the first call makes the table, where the database is empty.
     pub fn adopt(conn: Connection<S>) -> SqlKeeper<S>
         ensures { ⟦<SqlKeeper<S> as Keeper>⟧.faults result ≡ 0 }
     {

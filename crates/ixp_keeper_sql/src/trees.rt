@@ -77,7 +77,7 @@ pub fn places_in<S: Alter>(conn: &Connection<S>) -> Option<Places> {
 }
 
 impl<S: Alter> Trees<S> {
-    /// It takes no memory.
+    /// It does not allocate.
     pub fn over(alloc: Global, store: S, places: Places) -> Trees<S> {
         Trees {
             store,

@@ -3,6 +3,7 @@ pub mod DeadEnds
 pub mod ListDeadEnds
 pub mod LongLists
 pub mod NumberedNames
+pub mod NumbersAbove
 pub mod PathSets
 pub mod PrintedRoutes
 pub mod RouteAnswerLaws
@@ -12,4 +13,6 @@ pub mod RouteListTexts
 pub mod RouteLists
 pub mod RouteStops
 pub mod Sequences
+pub mod SameNames
 pub mod TableNames
+pub mod Weights

@@ -1,6 +1,6 @@
 -- How a route text is read: numbers and items at the front of a text, lists, and fields.
-use Rattle.std.specs.Prelude.{ℕ, zero, suc, ◌-◌, Bool, true, false, not, ◌≡◌, ◌==◌, nat_le, List, [], ◌∷◌, length, take, drop, position, unwrap_or, Option, Some, None, Result, Ok, Err, if◌then◌else◌}
-use Rattle.std.specs.List.{slice_get}
+use Rattle.std.specs.Prelude.{ℕ, zero, suc, ◌+◌, ◌-◌, Bool, true, false, not, ◌&&◌, ◌||◌, ◌≡◌, ◌==◌, nat_le, nat_lt, List, [], ◌∷◌, length, take, drop, position, unwrap_or, Option, Some, None, Result, Ok, Err, if◌then◌else◌}
+use Rattle.std.specs.List.{list_any, slice_get}
 use Rattle.ixp_num.specs.declared.addr.Addr.{Addr}
 use Rattle.ixp_num.specs.declared.prefix.Prefix.{Prefix}
 use Rattle.ixp_num.specs.declared.fault.NumFault.{NumFault}
@@ -8,7 +8,7 @@ use Rattle.ixp_num.specs.declared.fault.NumFault.TheVariants as fault
 use Rattle.ixp_num.specs.Answers.{AddrAnswer, PrefixAnswer}
 use Rattle.ixp_lang.specs.declared.route.Route.{Route}
 use Rattle.ixp_num.specs.declared.asn.Asn.{Asn}
-use Rattle.ixp_num.specs.Reading.{◌>>=◌, number_at, mark_at}
+use Rattle.ixp_num.specs.Reading.{◌>>=◌, is_digit, number_at, mark_at}
 use Rattle.ixp_lang.specs.declared.reading.fault.Stop.{Stop}
 use Rattle.ixp_lang.specs.declared.reading.fault.Stop.TheVariants.{Text, Set, TooLong, NoMemory}
 
@@ -92,9 +92,33 @@ from_blank t = drop (blank_at t) t
 abbrev pub after_blank : List ℕ → Result (List ℕ) Stop
 after_blank t = texted (mark_at 32 t)
 
+abbrev pub begins_with : ℕ → List ℕ → Bool
+begins_with b [] = false
+begins_with b (c ∷ cs) = c == b
+
+-- Whether the number that is read behind the byte `before` is above its bound, whatever follows it. One beside a dot is a part of an IPv4 address
+-- and at most 255; one behind a slash is a length, and at most `bits`.
+abbrev pub is_above : ℕ → ℕ → Result (ℕ × List ℕ) ℕ → Bool
+is_above bits before (Ok p) = ((before == 46 || begins_with 46 p.1) && nat_lt 255 p.0) || (before == 47 && nat_lt bits p.0)
+is_above bits before (Err left) = false
+
+-- where the first such number begins, in what follows the byte `before` from this place on
+abbrev pub first_above : ℕ → ℕ → ℕ → List ℕ → Option ℕ
+first_above bits before place [] = None
+first_above bits before place (c ∷ cs) =
+    if not (is_digit before) && is_above bits before (number_at (c ∷ cs)) then Some place else first_above bits c (place + 1) cs
+
+-- the bits of an address, by whether a colon stands in it
+abbrev pub bits_in : List ℕ → ℕ
+bits_in front = if list_any (λ b. b == 58) front then 128 else 32
+
+-- the place of an address's fault that no address goes on at: a number above its bound that stands before is the first fault
+abbrev pub halt_place : List ℕ → ℕ → ℕ
+halt_place front at = unwrap_or (first_above (bits_in front) 32 0 front) at
+
 -- the fault of a field, with which the text begins; bits behind a net's length are told at its first byte
 abbrev pub stop_at : List ℕ → NumFault → Stop
-stop_at t (fault.Text at) = Text (length t - at)
+stop_at t (fault.Text at) = Text (length t - halt_place (take at t) at)
 stop_at t (fault.Range at) = Text (length t - at)
 stop_at t fault.HostBits = Text (length t)
 

@@ -92,6 +92,25 @@ pub record ExceedsAt (L : List ℕ → Type 0) (bound : ℕ) (t : List ℕ) (pla
 abbrev pub HaltsAt : (List ℕ → Type 0) → ℕ → List ℕ → ℕ → Type 0
 HaltsAt L bound t place = StopsAt L t place ⊎ ExceedsAt L bound t place
 
+-- the bytes end with this one
+abbrev pub EndsIn : ℕ → List ℕ → Type 0
+EndsIn b bytes = (front : List ℕ) × (bytes ≡ front ++ b ∷ [])
+
+abbrev pub BeginsIn : ℕ → List ℕ → Type 0
+BeginsIn b bytes = (rest : List ℕ) × (bytes ≡ b ∷ rest)
+
+-- At the place of the bytes stands a number that no address has, whatever follows it: one above 255 beside a dot, or one above `bits`
+-- behind a slash.
+pub record NumberAbove (bits : ℕ) (bytes : List ℕ) (place : ℕ) : Type 0 where
+  pub before : List ℕ
+  pub number : List ℕ
+  pub behind : List ℕ
+  pub value : ℕ
+  pub whole : bytes ≡ before ++ (number ++ behind)
+  pub here : length before ≡ place
+  pub is_number : IsDecimal number value
+  pub above : ((255 < value) × (EndsIn 46 before ⊎ BeginsIn 46 behind)) ⊎ ((bits < value) × EndsIn 47 before)
+
 -- the text but for its last `left` bytes is a list of 1,000 items and a comma, and what is left begins as an item does
 abbrev pub IsLongList : {A : Type 0} → (A → List ℕ → Type 0) → (A → Type 0) → List ℕ → ℕ → Type 0
 IsLongList {A} Is Fits t left =

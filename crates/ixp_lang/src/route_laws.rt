@@ -1,5 +1,5 @@
 //! Laws of route texts and of steering. The functions do nothing: each is called for what it ensures.
-ghost use Rattle.std.specs.Prelude.{◌≡◌, ◌≢◌, ◌-◌, ℕ, List, [], ◌∷◌, length, Some, Result, Ok, Err, true, false};
+ghost use Rattle.std.specs.Prelude.{◌≡◌, ◌≢◌, ◌⊎◌, ◌-◌, ℕ, List, [], ◌∷◌, length, Some, Result, Ok, Err, true, false};
 ghost use Rattle.std.specs.List.{slice_get};
 ghost use Rattle.ixp_num.specs.Forms.{StopsAt};
 ghost use Rattle.ixp_lang.specs.declared.route.Route.{Route};
@@ -7,8 +7,8 @@ ghost use Rattle.ixp_lang.specs.declared.reading.fault.RouteFault.{RouteFault};
 ghost use Rattle.ixp_lang.specs.declared.reading.fault.RouteFault.TheVariants.{NoMemory};
 ghost use Rattle.ixp_lang.specs.Texts.{route_text};
 ghost use Rattle.ixp_lang.specs.declared.reading.fault.Stop.TheVariants.{Text, Set, TooLong};
-ghost use Rattle.ixp_lang.specs.RouteReading.{◌then◌, list_at, after_blank, at_end, path_at, asn_item, pair_item, triple_item};
-ghost use Rattle.ixp_lang.specs.RouteTexts.{IsBounded, IsAsnText, IsPairText, IsTripleText, AsnFits, PairFits, TripleFits, BeginsList, IsBoundedList, IsFieldText, IsLongList, HaltsAt};
+ghost use Rattle.ixp_lang.specs.RouteReading.{◌then◌, bits_in, halt_place, list_at, after_blank, at_end, path_at, asn_item, pair_item, triple_item};
+ghost use Rattle.ixp_lang.specs.RouteTexts.{IsBounded, IsAsnText, IsPairText, IsTripleText, AsnFits, PairFits, TripleFits, BeginsList, IsBoundedList, IsFieldText, IsLongList, HaltsAt, NumberAbove};
 ghost use Rattle.ixp_lang.specs.Steering.{sends, prepends};
 ghost use Rattle.ixp_lang.specs.Samples.{route_with};
 ghost use Rattle.ixp_lang.specs.RouteAnswers.{RouteAnswer, IsOfOneFamily};
@@ -34,6 +34,12 @@ pub fn the_first_line_decides()
     ensures prepends_for_all { prepends 65500 (route_with [] ((65500, 101, 0) ∷ (65500, 102, 0) ∷ [])) 65001 ≡ 2 }
     ensures prepends_for_peer { prepends 65500 (route_with [] ((65500, 103, 0) ∷ (65500, 101, 65001) ∷ [])) 65001 ≡ 1 }
     ensures prepends_not { prepends 65500 (route_with [] ((65500, 103, 0) ∷ (65500, 1, 65001) ∷ [])) 65001 ≡ 0 }
+{}
+
+/// A net or next hop that no address goes on with at a byte is refused there, or at a number before that no address has, whatever
+/// follows it: one above 255 beside a dot, or a length above the bits of the address. `bytes` are those before the byte.
+pub fn addresses_halt_at_their_faults()
+    ensures { (bytes : List ℕ) (at : ℕ) → (halt_place bytes at ≡ at) ⊎ NumberAbove (bits_in bytes) bytes (halt_place bytes at) }
 {}
 
 /// Where a list's text can't go on, what stands before is the beginning of a list.

@@ -31,7 +31,7 @@ impl<T: Drop> Held<T> {
         Ok(Held { arc })
     }
 
-    /// The same value for one more owner. It takes no memory; it is refused where no more owners can be counted.
+    /// The same value for one more owner. It does not allocate; it is refused where no more owners can be counted.
     pub fn shared(&self) -> Result<Held<T>, AllocError>
         ensures { IfOk result (λ h. h ≡ self.now) }
     {
@@ -46,7 +46,7 @@ impl<T: Drop> Held<T> {
         &*self.arc
     }
 
-    /// The value itself, where this is its sole owner, else the owner again. It takes no memory.
+    /// The value itself, where this is its sole owner, else the owner again. It does not allocate.
     pub fn into_inner(self) -> Result<T, Held<T>>
         ensures { MatchResult result (λ v. v ≡ self) (λ h. h ≡ self) }
     {

@@ -20,7 +20,7 @@ impl<T> Model for Items<T> {
 }
 
 impl<T> Items<T> {
-    /// A list without items. It takes no memory.
+    /// A list without items. It does not allocate.
     pub fn new(alloc: Global) -> Items<T>
         ensures { result ≡ [] }
     {

@@ -20,7 +20,7 @@ impl<T> Model for Stack<T> {
 }
 
 impl<T> Stack<T> {
-    /// A stack without items. It takes no memory.
+    /// A stack without items. It does not allocate.
     pub fn new(alloc: Global) -> Stack<T>
         ensures { result ≡ [] }
     {

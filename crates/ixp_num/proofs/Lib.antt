@@ -1,6 +1,7 @@
 pub mod AnswerLaws
 pub mod ColonTexts
 pub mod Digits
+pub mod FirstBits
 pub mod FormLaws
 pub mod Groups
 pub mod NoBlanks

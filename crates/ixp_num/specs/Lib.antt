@@ -3,6 +3,7 @@ pub mod Answers
 pub mod Families
 pub mod Forms
 pub mod Names
+pub mod Orders
 pub mod Prefixes
 pub mod Printing
 pub mod Reading

@@ -18,6 +18,7 @@ mod laws;
 mod name;
 mod pattern;
 mod prefix;
+mod prefix_order;
 mod print;
 mod read;
 mod reading;

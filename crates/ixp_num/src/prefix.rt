@@ -6,10 +6,11 @@ use crate::bits::{first_bits, fits, host_bits, without_host_bits};
 use crate::{Addr, Family};
 
 /// An address prefix (RFC 4632 section 3.1): the first `len` bits of `value`; all its other bits are 0.
-#[derive(Clone, Copy, Debug, PartialEq, Eq, PartialOrd, Ord)]
+/// Prefixes are in the order of their families, then of their numbers, then of their lengths. The number stands first, so that a prefix takes 32 bytes and not 48.
+#[derive(Clone, Copy, Debug, PartialEq, Eq)]
 pub struct Prefix {
-    pub family: Family,
     pub value: u128,
+    pub family: Family,
     pub len: u8,
     pub ghost short: { len ≤ bits_of family },
     pub ghost fits: { value < 2 ^ bits_of family },

@@ -17,7 +17,7 @@ fn group(family: Family, len: u8) -> u16
     }
 }
 
-/// The rows by group, those of each by their numbers. It takes no memory.
+/// The rows by group, those of each by their numbers. It does not allocate.
 pub(crate) fn in_groups(mut rows: Vec<Prefix>) -> Vec<Prefix>
     ensures sorted { IsNonDecreasingBy rank result.items }
     ensures rows { IsPermutation rows.items result.items }

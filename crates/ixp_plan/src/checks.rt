@@ -71,7 +71,7 @@ fn checked(
 /// Whether the interface may get the address as its one of the family. X4: there is no such interface. X7: the
 /// address isn't of the family, or the interface's VLAN has no prefix of it. X8: it lies outside the VLAN's prefix, or
 /// nobody may have it there. X9: another interface or a router has it; for a blackhole address the router is the first
-/// one by handle. It takes no memory.
+/// one by handle. It does not allocate.
 pub fn check_address(
     registry: &Registry,
     interface: u32,

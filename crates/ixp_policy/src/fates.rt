@@ -122,7 +122,7 @@ pub fn fate_plain(
     }
 }
 
-/// The number with which the route is refused there, if it is; None where there is no such session. It takes no memory.
+/// The number with which the route is refused there, if it is; None where there is no such session. It does not allocate.
 pub fn number_plain(
     registry: &Registry,
     router: &Name,

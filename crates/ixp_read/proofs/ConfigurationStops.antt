@@ -1,24 +1,26 @@
--- Where syntax stops the reading of a configuration, no configuration goes on, and up to there one does.
+-- Where syntax stops the reading of a configuration, no configuration goes on, and up to there one does; where a check refuses it, none
+-- begins so.
 use Rattle.std.proofs.Common.{◌≡◌, ℕ, ◌+◌, ◌<◌, ◌⊎◌, inl, inr, Bool, false, List, [], length, Err, arith, refl, sym, ◌∙◌, subst}
 use Rattle.ixp_lang.specs.Trees.{ItemTree}
 use Rattle.ixp_tokens.specs.declared.fault.Cause.{Cause}
 use Rattle.ixp_tokens.specs.declared.fault.Cause.TheVariants.{Deep}
 use Rattle.ixp_tokens.specs.declared.token.Kind.{Kind}
-use Rattle.ixp_tokens.specs.Grammars.{Grammar}
+use Rattle.ixp_tokens.specs.Grammars.{Grammar, Took}
 use Rattle.ixp_tokens.specs.Reading.{read}
 use Rattle.ixp_tokens.specs.Syntax.{spot, Scan, scan, stopped, refused, IsFineText, StopsAt}
 use Rattle.ixp_tokens.proofs.Clear.{IsSeen, ClearBy}
 use Rattle.ixp_tokens.proofs.Seen.{first_alone}
 use Rattle.ixp_tokens.proofs.Scans.{Agrees, agrees}
 use Rattle.ixp_tokens.proofs.StopLaws.{no_more_behind, not_text}
-use Rattle.ixp_tokens.proofs.Quiet.{Steady}
+use Rattle.ixp_tokens.proofs.Quiet.{Steady, quiet_of}
+use Rattle.ixp_tokens.proofs.Lawful.{took_lawful, lawful_took, refused_at}
 use Rattle.ixp_tokens.proofs.Viable.{Supplied, Goes, goes, Viable, viable}
 use Rattle.ixp_exprs.specs.Names.{Names}
 use Rattle.ixp_exprs.specs.Declarations.{Declares}
 use Rattle.ixp_exprs.proofs.Sure.{behind_else}
 use Rattle.ixp_read.specs.Functions.{levels_inside}
 use Rattle.ixp_read.specs.Items.{define_levels, Levels, all_levels, item_within, declaration_form, table_or, item_form, config_form}
-use Rattle.ixp_read.specs.Stops.{config_with, IsRefused, NoneGoesOn}
+use Rattle.ixp_read.specs.Stops.{config_with, IsLawful, IsRefused, NoneGoesOn}
 use Rattle.ixp_read.proofs.SureItems.{sure_item_within, clear_config, config_clear}
 use Rattle.ixp_read.proofs.SteadyItems.{item_begins_within, item_steady_within, steady_config, config_steady}
 use Rattle.ixp_read.proofs.WholeItems.{Fewer, item_supplied, item_exchanges, config_supplied, config_has_text}
@@ -43,7 +45,7 @@ stop_of f h clear steady_f tokens n cause rest e m = record {
 -- where it isn't levels that are wanting, the second stops there too
 stops_both : {A : Type 0} (s t : Scan A) (cause : Cause) (rest : List Kind) → Goes s t → s ≡ stopped cause rest → ¬ (cause ≡ Deep) → t ≡ stopped cause rest
 stops_both s t cause rest (inl same) e levels = sym same ∙ e
-stops_both s t cause rest (inr (inl h)) e levels = absurd cc
+stops_both s t cause rest (inr (inl (r, h))) e levels = absurd cc
 stops_both s t cause rest (inr (inr (r, h))) e levels = absurd (levels cc)
 
 -- Configurations with more levels.
@@ -83,6 +85,14 @@ stop_is tokens cause rest e more some =
 pub config_stops : (tokens : List Kind) (cause : Cause) (left : ℕ) → read config_form tokens ≡ Err (cause, left) → IsRefused tokens ⊎ NoneGoesOn tokens cause left
 config_stops tokens cause left e = by_end (subst (λ r. Agrees r (scan config_form (spot (length tokens) tokens))) e (agrees config_form tokens))
   where
-    by_end : ((rest : List Kind) × (scan config_form (spot (length tokens) tokens) ≡ stopped cause rest) × (left ≡ length rest)) ⊎ (scan config_form (spot (length tokens) tokens) ≡ refused) → IsRefused tokens ⊎ NoneGoesOn tokens cause left
-    by_end (inr refuses) = inl refuses
+    by_end : ((rest : List Kind) × (scan config_form (spot (length tokens) tokens) ≡ stopped cause rest) × (left ≡ length rest)) ⊎ ((rest : List Kind) × (scan config_form (spot (length tokens) tokens) ≡ refused rest)) → IsRefused tokens ⊎ NoneGoesOn tokens cause left
+    by_end (inr (rest, refuses)) = inl (refused_at fails config_form config_clear (quiet_of config_form config_steady) tokens rest refuses)
     by_end (inl (rest, at, is)) = inr (subst (NoneGoesOn tokens cause) (sym is) (stop_is tokens cause rest at))
+
+-- What is lawful, its places numbered by its tokens, is a configuration.
+
+pub lawful_config : (tokens : List Kind) → IsLawful (length tokens) tokens → (c : List ItemTree) × Took config_form c tokens []
+lawful_config tokens (c, last, lawful) = (c, lawful_took config_form c tokens (spot last []) lawful)
+
+pub config_lawful : (tokens : List Kind) (c : List ItemTree) → Took config_form c tokens [] → IsLawful (length tokens) tokens
+config_lawful tokens c took = (c, 0, took_lawful config_form c tokens [] took)

@@ -12,6 +12,7 @@ use Rattle.ixp_tokens.proofs.Fronts.{name, Front, keyword, addr, one_of, starts_
 use Rattle.ixp_tokens.proofs.Looks.{token_look}
 use Rattle.ixp_tokens.proofs.ClearLooks.{clear_gives, clear_takes, clear_mark, clear_sequence, clear_then, clear_choice, clear_checks, clear_here, clear_wider}
 use Rattle.ixp_exprs.specs.Names.{Names}
+use Rattle.ixp_exprs.specs.Operands.{anything}
 use Rattle.ixp_exprs.specs.Declarations.{Declares}
 use Rattle.ixp_exprs.proofs.ClearLists.{clear_ended}
 use Rattle.ixp_exprs.proofs.Sure.{behind_else, Sure, First, sure_of, clear_word, clear_free_name}
@@ -32,7 +33,7 @@ first_table kind names = clear_then (clear_word (codes "table")) (λ x. clear_th
 
 first_value : (levels statement : ℕ) (names : Names) → First (value_within levels statement names) (token_look operand_starts)
 first_value levels statement names =
-    clear_sequence (clear_expression_text (define_place statement names) levels) (λ value. clear_then (clear_mark mark.Semicolon) (λ x. clear_checks (clear_gives _))) refl
+    clear_sequence (clear_expression_text (define_place statement names) levels anything) (λ value. clear_then (clear_mark mark.Semicolon) (λ x. clear_checks (clear_gives _))) refl
 
 pub first_define : (levels statement : ℕ) (names : Names) → First (define_within levels statement names) (token_look (name ∷ []))
 first_define levels statement names =

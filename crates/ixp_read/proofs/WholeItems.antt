@@ -23,7 +23,7 @@ use Rattle.ixp_tokens.proofs.Exchanges.{Exchanges, whatever, clearly_exchanges, 
 use Rattle.ixp_exprs.specs.Names.{Names}
 use Rattle.ixp_exprs.specs.Declarations.{Declares, free_name}
 use Rattle.ixp_exprs.specs.Sets.{unless_so}
-use Rattle.ixp_exprs.specs.Operands.{misfit_at}
+use Rattle.ixp_exprs.specs.Operands.{anything, misfit_at}
 use Rattle.ixp_exprs.specs.Expressions.{word_in}
 use Rattle.ixp_exprs.specs.declared.types.ValueType.{ValueType}
 use Rattle.ixp_exprs.specs.declared.context.Scope.TheVariants as scope
@@ -209,7 +209,7 @@ whole_table kind names = whole_then (whole_word (codes "table")) (λ x. whole_th
 
 whole_value : (levels more : ℕ) → levels < more → (statement : ℕ) (names : Names) → Whole (value_within levels statement names) (value_within more statement names) (token_look operand_starts) []
 whole_value levels more less statement names =
-    whole_sequence (whole_expression_text (define_place statement names) levels more less) (λ value. whole_then (whole_mark mark.Semicolon) (λ x. whole_checks (whole_gives _))) refl refl
+    whole_sequence (whole_expression_text (define_place statement names) levels more less anything) (λ value. whole_then (whole_mark mark.Semicolon) (λ x. whole_checks (whole_gives _))) refl refl
 
 whole_define : (levels more : ℕ) → levels < more → (statement : ℕ) (names : Names) → Whole (define_within levels statement names) (define_within more statement names) (token_look (name ∷ [])) []
 whole_define levels more less statement names =

@@ -16,7 +16,7 @@ use Rattle.ixp_exprs.specs.declared.env.Table.{Table}
 use Rattle.ixp_exprs.specs.declared.context.Scope.TheVariants as scope
 use Rattle.ixp_exprs.specs.Names.{Names, defined_number}
 use Rattle.ixp_exprs.specs.Lists.{ended}
-use Rattle.ixp_exprs.specs.Operands.{Operand, settled}
+use Rattle.ixp_exprs.specs.Operands.{Operand, anything, settled}
 use Rattle.ixp_exprs.specs.Expressions.{Place, expression_form}
 use Rattle.ixp_exprs.specs.Declarations.{nothing_declared, Declares, standing, free_name}
 use Rattle.ixp_read.specs.Functions.{levels_inside, function_within, filter_within}
@@ -60,7 +60,7 @@ define_place statement names = record { names = names; scope = scope.Define; sta
 -- a definition's value with so many levels at most, built of literals and defined names alone, and the semicolon
 abbrev pub value_within : ℕ → ℕ → Names → Grammar Operand
 value_within levels statement names =
-    sequence (expression_form (define_place statement names) levels) (λ value.
+    sequence (expression_form (define_place statement names) levels anything) (λ value.
     sequence (the_mark Semicolon) (λ tt. checks (settled value) (gives value)))
 
 abbrev pub defined_value : ℕ → Names → Grammar Operand

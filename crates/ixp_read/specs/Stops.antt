@@ -1,11 +1,11 @@
--- Where no configuration goes on, as far as syntax tells: types, names and the ranges of numbers left aside.
+-- Where no configuration goes on: as far as syntax tells, or for what is checked of names, types, ranges and levels.
 use Rattle.std.specs.Prelude.{◌≡◌, ℕ, ◌+◌, ◌<◌, List, length}
 use Rattle.ixp_lang.specs.Trees.{ItemTree}
 use Rattle.ixp_tokens.specs.declared.fault.Cause.{Cause}
 use Rattle.ixp_tokens.specs.declared.fault.Cause.TheVariants.{Deep}
 use Rattle.ixp_tokens.specs.declared.token.Kind.{Kind}
 use Rattle.ixp_tokens.specs.Grammars.{Grammar}
-use Rattle.ixp_tokens.specs.Syntax.{spot, scan, refused, IsFineText, StopsAt}
+use Rattle.ixp_tokens.specs.Syntax.{IsFineText, IsLawfulText, StopsAt, RefusedAt}
 use Rattle.ixp_read.specs.Functions.{levels_inside}
 use Rattle.ixp_read.specs.Items.{define_levels, item_within, config_of, config_form}
 
@@ -21,9 +21,13 @@ IsFine = IsFineText config_form
 abbrev pub IsFineWith : ℕ → ℕ → List Kind → Type 0
 IsFineWith more = IsFineText (config_with more)
 
--- the reading ends at something that isn't syntax
+-- the tokens are a configuration; places are numbered from so many down
+abbrev pub IsLawful : ℕ → List Kind → Type 0
+IsLawful = IsLawfulText config_form
+
+-- a check of names, types, ranges or levels refuses the tokens, and all that begin as they do, up to the token that is next there
 abbrev pub IsRefused : List Kind → Type 0
-IsRefused tokens = scan config_form (spot (length tokens) tokens) ≡ refused
+IsRefused = RefusedAt config_form
 
 -- With so many tokens left no configuration goes on: some configuration begins with what is before the place, with a level more
 -- than there may be perhaps, and none with what is before it and the token there. If the cause isn't that there are too many

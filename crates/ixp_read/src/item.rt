@@ -9,7 +9,10 @@ ghost use Rattle.ixp_read.specs.Items.{v4_addr_in, is_roa, router_id_end, table_
 ghost use Rattle.ixp_read.specs.Views.{begun_of, round_says};
 
 use crate::function::{filter_at, function_at};
-use ixp_exprs::{Context, Declared, Env, Scope, Table, Typed, defined_number, expression, settled};
+use ixp_exprs::{
+    Context, Declared, Env, Expected, Scope, Table, Typed, Wanted, defined_number, expression,
+    settled,
+};
 use ixp_lang::{Item, Kind};
 use ixp_num::{Addr, Family};
 use ixp_protocols::protocol_at;
@@ -106,7 +109,11 @@ fn value_at<'t>(
         scope: Scope::Define,
         statement: place,
     };
-    let (value, rest) = expression(cx, DEPTH, tokens)?;
+    let wanted = Wanted {
+        expected: Expected::Anything,
+        place: 0,
+    };
+    let (value, rest) = expression(cx, DEPTH, wanted, tokens)?;
     let rest = mark_at(Mark::Semicolon, rest)?;
     settled(&value)?;
     Ok((value, rest))

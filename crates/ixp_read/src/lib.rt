@@ -2,7 +2,8 @@
 //!
 //! [`read_config`] gives the tree that the text's tokens spell by the grammar of `specs/Items.antt`, or the place where
 //! the reading of the tokens stops, and why (`ConfigAnswer` of `specs/Answers.antt`). A text has one such answer
-//! ([`laws::one_answer`]); where syntax stops a reading, no configuration goes on ([`laws::none_goes_on`]).
+//! ([`laws::one_answer`]); where syntax stops a reading no configuration goes on, and where a check refuses it none begins
+//! so ([`laws::none_goes_on`]).
 #![tactic(auto)]
 
 mod fault;

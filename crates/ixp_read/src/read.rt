@@ -39,7 +39,7 @@ fn refused(kind: &Kind, at: usize) -> ReadFault
         Kind::BadByte => ReadFault::Byte { at },
         Kind::BadNumber => ReadFault::Number { at },
         Kind::Mark(mark) => unless_foreign(is_foreign_mark(*mark), at),
-        Kind::Word(word) => unless_foreign(is_foreign(word.get().as_bytes()), at),
+        Kind::Word(word) => unless_foreign(is_foreign(word.as_bytes()), at),
         _ => ReadFault::Unexpected { at },
     }
 }

@@ -37,7 +37,7 @@ fn token_type(kind: &Kind) -> Option<Ty>
     ensures { result ≡ word_in type_in kind.now }
 {
     match kind {
-        Kind::Word(word) => word_type(word.get().as_bytes()),
+        Kind::Word(word) => word_type(word.as_bytes()),
         _ => None,
     }
 }

@@ -1,4 +1,4 @@
-//! Copies of names that take no memory.
+//! Copies of names that do not allocate.
 ghost use Rattle.std.specs.Prelude.{◌≡◌};
 
 use arrayvec::ArrayVec;

@@ -12,7 +12,7 @@ pub enum Right {
     Member(u32),
 }
 
-/// What names a row among those of its kind, or the subject of an edit among those of its kind. It takes no memory.
+/// What names a row among those of its kind, or the subject of an edit among those of its kind. It does not allocate.
 #[derive(Debug, Drop)]
 pub enum RowKey {
     Number(u32),

@@ -103,7 +103,7 @@ impl Index {
         Ok(Index { rows, links })
     }
 
-    /// What the ROAs say of a route to the net with the origin. It takes no memory.
+    /// What the ROAs say of a route to the net with the origin. It does not allocate.
     pub(crate) fn validity(&self, net: &Prefix, origin: Asn) -> Validity
         ensures { result ≡ validity self.now net.now origin.0 }
     {

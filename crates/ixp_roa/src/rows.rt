@@ -26,7 +26,7 @@ fn is_matched(rows: &[Roa], net: &Prefix, origin: Asn) -> bool
     rows.iter().any(|r| is_match(r, net, origin))
 }
 
-/// What the ROAs say of a route to the prefix with the origin. It takes no memory.
+/// What the ROAs say of a route to the prefix with the origin. It does not allocate.
 pub fn validity(rows: &[Roa], net: &Prefix, origin: Asn) -> Validity
     ensures { result ≡ validity rows.now net.now origin.0 }
 {

@@ -74,7 +74,7 @@ impl RoaTable {
         listed(alloc, t, MOST)
     }
 
-    /// What the ROAs say of a route to the prefix with the origin. It takes no memory.
+    /// What the ROAs say of a route to the prefix with the origin. It does not allocate.
     pub fn validity(&self, net: &Prefix, origin: Asn) -> Validity
         ensures { result ≡ validity self.now net.now origin.0 }
     {

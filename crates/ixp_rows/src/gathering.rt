@@ -127,15 +127,16 @@ fn run<R: Listed>(first: &R, others: &[R]) -> usize
     count
 }
 
+/// The items of the rows of one list. Room is taken once.
 fn items_of<R: Listed>(alloc: Global, first: &R, others: &[R]) -> Result<Items<R::Item>, AllocError>
     ensures { IfOk result (λ items. items ≡ map R.item (first.now ∷ others.now)) }
 {
-    let mut items = Items::new(alloc);
+    let mut items = Vec::with_capacity(alloc, others.len().saturating_add(1))?;
     items.push(first.item())?;
     for row in others {
         items.push(row.item())?;
     }
-    Ok(items)
+    Ok(Items::from_vec(items))
 }
 
 /// The lists that rows make.

@@ -11,7 +11,7 @@ use Rattle.ixp_num.specs.declared.pattern.Pattern.{Pattern}
 use Rattle.ixp_num.specs.declared.asn.Asn.{Asn}
 use Rattle.ixp_num.specs.declared.roa.Roa.{Roa}
 use Rattle.ixp_num.specs.contracts.family.FamilyOrd.TheImpl as family_ord
-use Rattle.ixp_num.specs.contracts.prefix.PrefixOrd.TheImpl as prefix_ord
+use Rattle.ixp_num.specs.contracts.prefix_order.PrefixOrd.TheImpl as prefix_ord
 use Rattle.ixp_num.specs.contracts.pattern.PatternOrd.TheImpl as pattern_ord
 use Rattle.ixp_num.specs.contracts.asn.AsnOrd.TheImpl as asn_ord
 use Rattle.ixp_num.specs.contracts.roa.RoaOrd.TheImpl as roa_ord

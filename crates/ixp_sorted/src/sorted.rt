@@ -29,7 +29,7 @@ impl<T: Keyed> Model for Sorted<T> {
 }
 
 impl<T: Keyed> Sorted<T> {
-    /// A list without items. It takes no memory.
+    /// A list without items. It does not allocate.
     pub fn new(alloc: Global) -> Sorted<T>
         ensures { result ≡ [] }
     {
@@ -38,7 +38,7 @@ impl<T: Keyed> Sorted<T> {
         }
     }
 
-    /// The items in order, each once. It takes no memory.
+    /// The items in order, each once. It does not allocate.
     pub fn from_items(mut items: Vec<T>) -> Sorted<T>
         ensures { IsInOrder T.key items.items result }
     {
@@ -46,7 +46,7 @@ impl<T: Keyed> Sorted<T> {
         Sorted { items }
     }
 
-    /// Items that ascend. It takes no memory.
+    /// Items that ascend. It does not allocate.
     pub fn from_ascending(items: Vec<T>) -> Sorted<T>
         requires { Ascends T.key items.items }
         ensures { result ≡ items.items }
@@ -62,7 +62,7 @@ impl<T: Keyed> Sorted<T> {
         self.items.as_slice()
     }
 
-    /// The items in order. It takes no memory.
+    /// The items in order. It does not allocate.
     pub fn into_items(self) -> Vec<T>
         ensures items { result.items ≡ self }
         ensures ascends { Ascends T.key self }

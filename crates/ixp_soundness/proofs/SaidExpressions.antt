@@ -10,11 +10,12 @@ use Rattle.ixp_exprs.specs.declared.types.ValueType.TheVariants.{Bool as Truth}
 use Rattle.ixp_exprs.specs.declared.context.Scope.{Scope}
 use Rattle.ixp_exprs.specs.Types.{same_type, takes_left, takes_right}
 use Rattle.ixp_exprs.specs.Names.{Names}
-use Rattle.ixp_exprs.specs.Operands.{Operand, negated, compared, fits as fits_type}
+use Rattle.ixp_exprs.specs.declared.wanted.Wanted.{Wanted}
+use Rattle.ixp_exprs.specs.Operands.{Operand, fits_negation, negated, compared, fits_left, one_type, no_truth, fits as fits_type}
 use Rattle.ixp_exprs.specs.Expressions.{Chain, chained, part_misfit, comparison_of, chain_part, chain_of, expression_of}
 use Rattle.ixp_print.specs.Texts.{is_chain, is_compound}
 use Rattle.ixp_sound.specs.Sound.{wrapped, some_of, two_or_more, type_of, fits, parts_fit}
-use Rattle.ixp_soundness.proofs.Basics.{Within, within_more, both, none_settled, none_waits, none_unfit, none_left}
+use Rattle.ixp_soundness.proofs.Basics.{Within, within_more, both, both_none, is_so, if_none, none_settled, none_part, none_unfit}
 use Rattle.ixp_soundness.proofs.Saying.{Says, Next, says_gives, says_token, says_sequence, says_then, says_choice, says_checks, says_bars, says_here, says_rounds, says_mark, AreAll, all_more, some_more}
 
 -- a part behind others makes a chain
@@ -42,6 +43,10 @@ module _ (names : Names) (scope : Scope) where
   abbrev pub Sound : (ExprTree → Type 0) → Operand → Type 0
   Sound P o = (type_of names scope o.tree ≡ o.ty) × (o.misfit ≡ None → P o.tree)
 
+  -- the same where no misfit can wait
+  abbrev pub Settled : (ExprTree → Type 0) → Operand → Type 0
+  Settled P o = (type_of names scope o.tree ≡ o.ty) × (o.misfit ≡ None) × P o.tree
+
   -- a tree of this type
   abbrev pub Of : ValueType → ℕ → ExprTree → Type 0
   Of t n e = (same_type (type_of names scope e) t ≡ true) × Whole n e
@@ -68,29 +73,23 @@ module _ (names : Names) (scope : Scope) where
   negation_fits n e same wraps zero w = absurd w
   negation_fits n e same wraps (suc m) w = both same (wraps m w)
 
-  pub negated_sound : (n : ℕ) (o : Operand) (place : ℕ) → Sound (Alone n) o → Sound (Alone (suc n)) (negated o place)
-  negated_sound n o place sound = (
-    refl,
-    λ none.
-        (let f : (o.misfit ≡ None) × (same_type o.ty Truth ≡ true) = none_waits o (same_type o.ty Truth) place none in
-        let whole : Whole (suc n) (negation o.tree) = negation_fits n o.tree (typed Truth o sound.0 f.1) (sound.1 f.0).2 in
-        (whole, whole, whole)),
-  )
+  pub negated_sound : (n : ℕ) (o : Operand) (place : ℕ) → Settled (Alone n) o → fits_negation o place ≡ None → Settled (Alone (suc n)) (negated o)
+  negated_sound n o place (ty, settled, fit) e =
+      (let whole : Whole (suc n) (negation o.tree) = negation_fits n o.tree (typed Truth o ty (is_so (same_type o.ty Truth) _ e)) fit.2 in
+      (refl, refl, (whole, whole, whole)))
 
   comparison_fits : (n : ℕ) (op : Op) (e f : ExprTree) → takes_left op (type_of names scope e) ≡ true → takes_right op (type_of names scope e) (type_of names scope f) ≡ true → Wraps (is_compound e) n e → Wraps (is_compound f) n f
       → Whole n (comparison op e f)
   comparison_fits n op e f left right one two m w = both (both (both left right) (one m w)) (two m w)
 
-  compared_sound : (n : ℕ) (op : Op) (left right : Operand) (place : ℕ) → Sound (Alone n) left → Sound (Alone n) right → left.misfit ≡ None → takes_left op left.ty ≡ true
-      → Sound (Part n) (compared op left right place)
-  compared_sound n op left right place one two none takes = (
+  compared_sound : (n : ℕ) (op : Op) (left right : Operand) (place : ℕ) → Settled (Alone n) left → Settled (Alone n) right → takes_left op left.ty ≡ true → Sound (Part n) (compared op left right place)
+  compared_sound n op left right place one two takes = (
     refl,
-    λ no_misfit.
-        (let f : (right.misfit ≡ None) × (takes_right op left.ty right.ty ≡ true) = none_waits right (takes_right op left.ty right.ty) place no_misfit in
-        let is_left : takes_left op (type_of names scope left.tree) ≡ true = subst (λ t. takes_left op t ≡ true) (sym one.0) takes in
+    λ none.
+        (let is_left : takes_left op (type_of names scope left.tree) ≡ true = subst (λ t. takes_left op t ≡ true) (sym one.0) takes in
         let is_right : takes_right op (type_of names scope left.tree) (type_of names scope right.tree) ≡ true =
-        subst (λ t. takes_right op t (type_of names scope right.tree) ≡ true) (sym one.0) (subst (λ t. takes_right op left.ty t ≡ true) (sym two.0) f.1) in
-        let whole : Whole n (comparison op left.tree right.tree) = comparison_fits n op left.tree right.tree is_left is_right (one.1 none).2 (two.1 f.0).2 in
+        subst (λ t. takes_right op t (type_of names scope right.tree) ≡ true) (sym one.0) (subst (λ t. takes_right op left.ty t ≡ true) (sym two.0) (if_none (takes_right op left.ty right.ty) place none)) in
+        let whole : Whole n (comparison op left.tree right.tree) = comparison_fits n op left.tree right.tree is_left is_right one.2.2 two.2.2 in
         (whole, whole)),
   )
 
@@ -118,31 +117,32 @@ module _ (names : Names) (scope : Scope) where
   chained_sound n tree joins chain last is sound = (
     joins.0 _,
     λ none m w.
-        (let one : Joined n last.tree = joined n last sound (none_waits last (same_type last.ty Truth) chain.place none) in
+        (let one : Joined n last.tree = joined n last sound (none_part last chain.place none) in
         joins.1 m _ (both (two_more chain.parts last.tree is.0) (all_joined n (chain.parts ++ last.tree ∷ []) (all_more (Joined n) chain.parts last.tree is.1 one) m w))),
   )
 
-  module _ (n : ℕ) (unary : Grammar Operand) (k : Says unary (Sound (Alone n))) where
-    says_comparison : Says (comparison_of unary) (Sound (Part n))
-    says_comparison =
+  module _ (n : ℕ) (unary : Grammar Operand) (k : Says unary (Settled (Alone n))) where
+    says_comparison : (wanted : Wanted) → Says (comparison_of unary wanted) (Sound (Part n))
+    says_comparison wanted =
         says_sequence k (λ left one.
+        says_checks (λ hope.
         says_here (λ place.
         says_choice
         (says_then (says_token _) (λ op.
         says_checks (λ takes.
-        let f : (left.misfit ≡ None) × (takes_left op left.ty ≡ true) = none_left op left place takes in
-        says_sequence k (λ right two. says_checks (λ now. says_gives (compared_sound n op left right place one two f.0 f.1))))))
-        (says_gives (one.0, λ none. ((one.1 none).0, (one.1 none).1)))))
+        let f : takes_left op left.ty ≡ true = is_so (takes_left op left.ty) _ (both_none (fits_left op left place) (no_truth wanted) takes).0 in
+        says_sequence k (λ right two. says_checks (λ now. says_gives (compared_sound n op left right place one two f))))))
+        (says_gives (one.0, λ none. (one.2.0, one.2.1))))))
 
     says_chain_part : (joint other : Mark) (tree : ExprTrees → ExprTree) → Joins tree → (chain : Chain) → IsChain n chain → Says (chain_part unary joint other tree chain) (Next (IsChain n) (Sound (Whole n)))
     says_chain_part joint other tree joins chain is =
-        says_sequence says_comparison (λ part sound.
+        says_sequence (says_comparison (one_type Truth chain.place)) (λ part sound.
         says_here (λ place.
         says_bars
         (says_choice
         (says_then (says_mark joint) (λ x.
         says_checks (λ fit.
-        let one : Joined n part.tree = joined n part sound (none_waits part (same_type part.ty Truth) chain.place (none_settled (part_misfit part chain.place) fit)) in
+        let one : Joined n part.tree = joined n part sound (none_part part chain.place (none_settled (part_misfit part chain.place) fit)) in
         says_gives (some_more chain.parts part.tree, all_more (Joined n) chain.parts part.tree is.1 one))))
         (says_gives (chained_sound n tree joins chain part is sound)))))
 
@@ -152,9 +152,9 @@ module _ (names : Names) (scope : Scope) where
         says_checks (λ fit. says_rounds (IsChain n) (refl, (joined n first sound (none_unfit first Truth place fit), tt)) (λ chain is. says_chain_part joint other tree joins chain is)))
 
     -- what is said as an expression fits
-    pub says_expression_of : Says (expression_of unary) (Sound (Whole n))
-    says_expression_of =
-        says_sequence says_comparison (λ first one.
+    pub says_expression_of : (wanted : Wanted) → Says (expression_of unary wanted) (Sound (Whole n))
+    says_expression_of wanted =
+        says_sequence (says_comparison wanted) (λ first one.
         says_here (λ place.
         says_choice (says_chain mark.And mark.Or conjunction ((λ es. refl), λ m es fit. fit) first place one)
         (says_choice (says_chain mark.Or mark.And disjunction ((λ es. refl), λ m es fit. fit) first place one)

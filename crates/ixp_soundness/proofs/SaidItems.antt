@@ -15,6 +15,7 @@ use Rattle.ixp_tokens.specs.declared.token.Kind.{Kind}
 use Rattle.ixp_tokens.specs.declared.token.Kind.TheVariants as kind
 use Rattle.ixp_tokens.specs.declared.token.Mark.TheVariants as mark
 use Rattle.ixp_tokens.specs.Grammars.{Took}
+use Rattle.ixp_exprs.specs.Operands.{anything}
 use Rattle.ixp_exprs.specs.declared.types.ValueType.{ValueType}
 use Rattle.ixp_exprs.specs.declared.env.Declared.TheVariants as declared
 use Rattle.ixp_exprs.specs.declared.env.Table.{Table}
@@ -309,7 +310,7 @@ says_table_item number k names = says_then (says_word _) (λ x. says_sequence (s
 
 says_defined : (statement : ℕ) (names : Names) → Says (defined_value statement names) (λ o. (type_of names scope.Define o.tree ≡ o.ty) × Whole names scope.Define define_levels o.tree)
 says_defined statement names =
-    says_sequence (says_expression (define_place statement names) define_levels) (λ o sound.
+    says_sequence (says_expression (define_place statement names) define_levels anything) (λ o sound.
     says_then (says_mark mark.Semicolon) (λ x. says_checks (λ fit. says_gives (sound.0, sound.1 (none_settled o.misfit fit)))))
 
 says_define : (number statement : ℕ) (names : Names) → Says (define_end statement names) (IsDeclared number names)

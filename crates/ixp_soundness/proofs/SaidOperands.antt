@@ -21,12 +21,13 @@ use Rattle.ixp_exprs.specs.declared.context.Scope.{Scope}
 use Rattle.ixp_exprs.specs.Names.{Names, value_of, function_of, is_define}
 use Rattle.ixp_exprs.specs.Sets.{if_missing}
 use Rattle.ixp_exprs.specs.Operands.{Operand, closed}
+use Rattle.ixp_exprs.specs.declared.wanted.Wanted.{Wanted}
 use Rattle.ixp_exprs.specs.Expressions.{Place, truth_in, state_in, literal_word, literal_in, word_in, attribute_in, attribute_form, has_parts, type_or, named_value, check_tree, expression_of, no_roa_table, roa_table, called, outside_define, check_word, Deeper, nothing, deeper, is_left, opened, negation_form, plain_form, name_form, named_form, checked_form, check_form, set_form, operand_form, unary_form, expression_form}
 use Rattle.ixp_sound.specs.Sound.{is_left as a_level_left, is_roa_table, returned, params_of, arguments_fit}
 use Rattle.ixp_soundness.proofs.Basics.{Within, both, is_off, is_so, is_there, mapped, either_some}
 use Rattle.ixp_soundness.proofs.Saying.{Says, says_gives, says_takes, says_token, says_sequence, says_then, says_choice, says_checks, says_bars, says_here, says_mark, says_name, says_never, says_only}
 use Rattle.ixp_soundness.proofs.SaidSets.{IsSet, says_elements}
-use Rattle.ixp_soundness.proofs.SaidExpressions.{Whole, Alone, Sound, Of, negated_sound, says_expression_of}
+use Rattle.ixp_soundness.proofs.SaidExpressions.{Whole, Alone, Sound, Settled, Of, negated_sound, says_expression_of}
 use Rattle.ixp_soundness.proofs.SaidParentheses.{Arguments, Values, says_plain, says_arguments, says_values}
 
 -- Names.
@@ -62,26 +63,26 @@ outside at class _ v e = absurd cc
 module _ (names : Names) (scope : Scope) where
   -- an operand that fits alone
   abbrev pub Lone : ℕ → Operand → Type 0
-  Lone n = Sound names scope (Alone names scope n)
+  Lone n = Settled names scope (Alone names scope n)
 
   -- of one token
   word_says : (n : ℕ) (w : List ℕ) (o : Operand) → literal_word w ≡ Some o → Lone n o
   word_says n w o e = by_case (either_some _ _ o e)
     where
       by_truth : (b : Bool) × (o ≡ closed (literal (value.Bool b)) Truth) → Lone n o
-      by_truth (b, is) = subst (Lone n) (sym is) (refl, λ none. ((λ m w. refl), (λ m w. refl), (λ m w. refl)))
+      by_truth (b, is) = subst (Lone n) (sym is) (refl, refl, ((λ m w. refl), (λ m w. refl), (λ m w. refl)))
 
       by_state : (s : Validity) × (o ≡ closed (literal (value.Roa s)) State) → Lone n o
-      by_state (s, is) = subst (Lone n) (sym is) (refl, λ none. ((λ m w. refl), (λ m w. refl), (λ m w. refl)))
+      by_state (s, is) = subst (Lone n) (sym is) (refl, refl, ((λ m w. refl), (λ m w. refl), (λ m w. refl)))
 
       by_case : (option_map (λ b. closed (literal (value.Bool b)) Truth) (truth_in w) ≡ Some o) ⊎ (option_map (λ s. closed (literal (value.Roa s)) State) (state_in w) ≡ Some o) → Lone n o
       by_case (inl is) = by_truth (mapped _ (truth_in w) o is)
       by_case (inr is) = by_state (mapped _ (state_in w) o is)
 
   literal_says : (n : ℕ) (k : Kind) (o : Operand) → literal_in k ≡ Some o → Lone n o
-  literal_says n (kind.Number i) o e = (let h : closed (literal (value.Int i)) Int ≡ o = cc in subst (Lone n) h (refl, λ none. ((λ m w. refl), (λ m w. refl), (λ m w. refl))))
-  literal_says n (kind.Addr a) o e = (let h : closed (literal (value.Ip a)) Ip ≡ o = cc in subst (Lone n) h (refl, λ none. ((λ m w. refl), (λ m w. refl), (λ m w. refl))))
-  literal_says n (kind.Prefix p) o e = (let h : closed (literal (value.Net p)) Prefix ≡ o = cc in subst (Lone n) h (refl, λ none. ((λ m w. refl), (λ m w. refl), (λ m w. refl))))
+  literal_says n (kind.Number i) o e = (let h : closed (literal (value.Int i)) Int ≡ o = cc in subst (Lone n) h (refl, refl, ((λ m w. refl), (λ m w. refl), (λ m w. refl))))
+  literal_says n (kind.Addr a) o e = (let h : closed (literal (value.Ip a)) Ip ≡ o = cc in subst (Lone n) h (refl, refl, ((λ m w. refl), (λ m w. refl), (λ m w. refl))))
+  literal_says n (kind.Prefix p) o e = (let h : closed (literal (value.Net p)) Prefix ≡ o = cc in subst (Lone n) h (refl, refl, ((λ m w. refl), (λ m w. refl), (λ m w. refl))))
   literal_says n (kind.Word w) o e = word_says n w o e
   literal_says n _ o e = absurd cc
 
@@ -91,8 +92,8 @@ module _ (names : Names) (scope : Scope) where
   says_attribute : (n : ℕ) (a : Attr) → is_define scope ≡ false → Says (attribute_form a) (Lone n)
   says_attribute n a out =
       says_choice
-      (says_only (has_parts a) (says_then (says_mark mark.Dot) (λ x. says_then (says_token _) (λ part. says_gives (refl, λ none. (attribute_fits n part out, attribute_fits n part out, attribute_fits n part out))))))
-      (says_gives (refl, λ none. (attribute_fits n a out, attribute_fits n a out, attribute_fits n a out)))
+      (says_only (has_parts a) (says_then (says_mark mark.Dot) (λ x. says_then (says_token _) (λ part. says_gives (refl, refl, (attribute_fits n part out, attribute_fits n part out, attribute_fits n part out))))))
+      (says_gives (refl, refl, (attribute_fits n a out, attribute_fits n a out, attribute_fits n a out)))
 
   -- Calls and checks.
 
@@ -106,8 +107,8 @@ module _ (names : Names) (scope : Scope) where
       → Lone (suc n) (closed (call name (exprs es)) (type_or s.returns))
   call_sound n name es s out known returns all = (
     ap (λ d. type_or (returned d)) known,
-    λ none.
-        (let whole = call_fits n name es s out known returns all in
+    refl,
+    (let whole = call_fits n name es s out known returns all in
         (whole, whole, whole)),
   )
 
@@ -120,8 +121,8 @@ module _ (names : Names) (scope : Scope) where
   check_sound n table (a ∷ []) out known values = absurd values
   check_sound n table (a ∷ b ∷ es) out known (one, two) = (
     refl,
-    λ none.
-        (let whole = check_fits n table a b out known one two in
+    refl,
+    (let whole = check_fits n table a b out known one two in
         (whole, whole, whole)),
   )
 
@@ -150,7 +151,7 @@ module _ (at : Place) (n : ℕ) (inner : Deeper) (below : Below at.names at.scop
   says_negation =
       says_here (λ place.
       says_opened at.names at.scope mark.Not n inner _ (Lone at.names at.scope) below (λ k unary ku.
-      says_sequence ku (λ o one. says_checks (λ now. says_gives (negated_sound at.names at.scope k o place one)))))
+      says_sequence ku (λ o one. says_checks (λ now. says_gives (negated_sound at.names at.scope k o place one now)))))
 
   says_enclosed : Says (plain_form at inner) (Lone at.names at.scope n)
   says_enclosed =
@@ -161,7 +162,7 @@ module _ (at : Place) (n : ℕ) (inner : Deeper) (below : Below at.names at.scop
   says_value name left =
       says_checks (λ found.
       let whole : Whole at.names at.scope n (named name) = (λ m w. known_value at.scope (at.names name) _ found) in
-      says_gives (refl, λ none. (whole, whole, whole)))
+      says_gives (refl, refl, (whole, whole, whole)))
 
   says_name_text : (name : List ℕ) (place : ℕ) (d : Option Signature) → called at name ≡ d → Says (name_form at inner name place d) (Lone at.names at.scope n)
   says_name_text name place None known = says_value name place
@@ -192,8 +193,8 @@ module _ (at : Place) (n : ℕ) (inner : Deeper) (below : Below at.names at.scop
   set_sound : (s : SetLit × ValueType) → IsSet (is_left inner) s → Lone at.names at.scope n (closed (set_literal s.0) s.1)
   set_sound s is = (
     is.0,
-    λ none.
-        (let whole : Whole at.names at.scope n (set_literal s.0) = (λ m w. is.1 m (λ left. left_again at.names at.scope n inner below left m w)) in
+    refl,
+    (let whole : Whole at.names at.scope n (set_literal s.0) = (λ m w. is.1 m (λ left. left_again at.names at.scope n inner below left m w)) in
         (whole, whole, whole)),
   )
 
@@ -216,5 +217,5 @@ says_unary at zero = says_operand at zero nothing tt
 says_unary at (suc n) = says_operand at (suc n) (deeper (unary_form at n)) (says_unary at n)
 
 -- an expression that a text spells fits, with as many levels or more
-pub says_expression : (at : Place) (n : ℕ) → Says (expression_form at n) (Sound at.names at.scope (Whole at.names at.scope n))
-says_expression at n = says_expression_of at.names at.scope n (unary_form at n) (says_unary at n)
+pub says_expression : (at : Place) (n : ℕ) (wanted : Wanted) → Says (expression_form at n wanted) (Sound at.names at.scope (Whole at.names at.scope n))
+says_expression at n wanted = says_expression_of at.names at.scope n (unary_form at n) (says_unary at n) wanted

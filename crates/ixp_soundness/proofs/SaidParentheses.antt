@@ -1,6 +1,6 @@
 -- What a text spells in parentheses fits: one expression, a tuple, arguments, and the values of `roa_check`.
 use Rattle.std.proofs.Common.{◌≡◌, ℕ, zero, suc, Bool, true, false, ◌&&◌, ◌==◌, not, List, [], ◌∷◌, ◌++◌, length, Option, Some, None, refl, if◌then◌else◌}
-use Rattle.std.specs.Option.{is_some}
+use Rattle.std.specs.Option.{is_some, option_or}
 use Rattle.ixp_lang.specs.Trees.{ExprTree, literal, pair, triple, exprs}
 use Rattle.ixp_lang.specs.declared.value.Value.TheVariants as value
 use Rattle.ixp_tokens.specs.declared.token.Kind.{Kind}
@@ -12,13 +12,14 @@ use Rattle.ixp_exprs.specs.declared.types.ValueType.TheVariants.{Int, Prefix, Pa
 use Rattle.ixp_exprs.specs.declared.context.Scope.{Scope}
 use Rattle.ixp_exprs.specs.Names.{Names}
 use Rattle.ixp_exprs.specs.Sets.{unless_so}
-use Rattle.ixp_exprs.specs.Operands.{Operand, closed, or_else, misfit_at, literal_number, pair_with, triple_with, fits as fits_type}
-use Rattle.ixp_exprs.specs.Expressions.{Place, Shape, plain, arguments, roa_values, may_go_on, may_end, part_end_in, fits_argument, Parts, no_parts, with_part, fits_pair, fits_plain, fits_next, ends_with, some_parts, front, enclosed, plain_tree, plain_operand}
+use Rattle.ixp_exprs.specs.Operands.{Operand, closed, misfit_at, literal_number, pair_with, triple_with, fits as fits_type}
+use Rattle.ixp_exprs.specs.declared.wanted.Wanted.{Wanted}
+use Rattle.ixp_exprs.specs.Expressions.{Place, Shape, plain, arguments, roa_values, may_go_on, may_end, part_end_in, fits_argument, Parts, no_parts, wanted_part, with_part, fits_pair, fits_plain, fits_next, ends_with, some_parts, front, enclosed, plain_tree, plain_operand}
 use Rattle.ixp_sound.specs.Sound.{is_small, is_small_pair, arguments_fit}
 use Rattle.ixp_soundness.proofs.Basics.{Within, both, both_none, is_so, none_settled}
 use Rattle.ixp_soundness.proofs.SaidSets.{small_part}
 use Rattle.ixp_soundness.proofs.Saying.{Says, Any, Next, says_gives, says_takes, says_token, says_sequence, says_then, says_choice, says_checks, says_here, says_rounds, says_mark, says_name, says_ended, AreAll, all_more}
-use Rattle.ixp_soundness.proofs.SaidExpressions.{Whole, Alone, Sound, Of, of_type, enclosed_alone}
+use Rattle.ixp_soundness.proofs.SaidExpressions.{Whole, Alone, Sound, Settled, Of, of_type, enclosed_alone}
 
 -- What ends the last part.
 
@@ -60,25 +61,25 @@ module _ (names : Names) (scope : Scope) where
 
   -- an operand of this type that fits alone
   abbrev Closed : ℕ → ValueType → ExprTree → Type 0
-  Closed n t e = Sound names scope (Alone names scope n) (closed e t)
+  Closed n t e = Settled names scope (Alone names scope n) (closed e t)
 
   simple_pair : (n : ℕ) (a b : ExprTree) → Whole names scope n (pair a b) → Closed n Pair (pair a b)
-  simple_pair n a b whole = (refl, λ none. (whole, whole, whole))
+  simple_pair n a b whole = (refl, refl, (whole, whole, whole))
 
   simple_triple : (n : ℕ) (a b c : ExprTree) → Whole names scope n (triple a b c) → Closed n Triple (triple a b c)
-  simple_triple n a b c whole = (refl, λ none. (whole, whole, whole))
+  simple_triple n a b c whole = (refl, refl, (whole, whole, whole))
 
   pair_sound : (n : ℕ) (a b : ExprTree) (l r : Option ℕ) → literal_number a ≡ l → literal_number b ≡ r → is_small l ≡ true → is_small r ≡ true → Of names scope Int n a → Of names scope Int n b
       → Closed (suc n) Pair (pair_with a b l r)
   pair_sound n a b (Some l) (Some r) la lb sl sr one two =
-      (let whole : Whole names scope (suc n) (literal (value.Pair l r)) = literal_pair_fits n l r (both sl sr) in (refl, λ none. (whole, whole, whole)))
+      (let whole : Whole names scope (suc n) (literal (value.Pair l r)) = literal_pair_fits n l r (both sl sr) in (refl, refl, (whole, whole, whole)))
   pair_sound n a b (Some l) None la lb sl sr one two = simple_pair (suc n) a b (pair_fits n a b (rw (la, lb) (both sl refl)) one two)
   pair_sound n a b None r la lb sl sr one two = simple_pair (suc n) a b (pair_fits n a b (rw (la, lb) sr) one two)
 
   triple_sound : (n : ℕ) (a b c : ExprTree) (i j k : Option ℕ) → literal_number a ≡ i → literal_number b ≡ j → literal_number c ≡ k → Of names scope Int n a → Of names scope Int n b → Of names scope Int n c
       → Closed (suc n) Triple (triple_with a b c i j k)
   triple_sound n a b c (Some i) (Some j) (Some k) la lb lc one two three =
-      (let whole : Whole names scope (suc n) (literal (value.Triple i j k)) = literal_triple_fits n i j k in (refl, λ none. (whole, whole, whole)))
+      (let whole : Whole names scope (suc n) (literal (value.Triple i j k)) = literal_triple_fits n i j k in (refl, refl, (whole, whole, whole)))
   triple_sound n a b c (Some i) (Some j) None la lb lc one two three =
       simple_triple (suc n) a b c (triple_fits n a b c (rw (la, lb, lc) refl) one two three)
   triple_sound n a b c (Some i) None k la lb lc one two three =
@@ -94,10 +95,10 @@ module _ (names : Names) (scope : Scope) where
   plain_goes n first left place (a ∷ b ∷ es) o sound e = of_type names scope n o Int place sound e
 
   plain_ends : (n first left place : ℕ) (es : List ExprTree) (o : Operand) → AreAll (Of names scope Int n) es → Sound names scope (Whole names scope n) o → fits_plain es first true o left place ≡ None
-      → Sound names scope (Alone names scope (suc n)) (plain_tree (es ++ o.tree ∷ []) o.ty)
-  plain_ends n first left place [] o all sound e = (sound.0, λ none. enclosed_alone names scope n o.tree (sound.1 (none_settled o.misfit e)))
+      → Settled names scope (Alone names scope (suc n)) (plain_tree (es ++ o.tree ∷ []) o.ty)
+  plain_ends n first left place [] o all sound e = (sound.0, refl, enclosed_alone names scope n o.tree (sound.1 (none_settled o.misfit e)))
   plain_ends n first left place (a ∷ []) o (one, all) sound e =
-      let h : (fits_pair a first ≡ None) × (or_else (fits_pair o.tree left) (fits_type o Int place) ≡ None) = both_none (fits_pair a first) _ e in
+      let h : (fits_pair a first ≡ None) × (option_or (fits_pair o.tree left) (fits_type o Int place) ≡ None) = both_none (fits_pair a first) _ e in
       let k : (fits_pair o.tree left ≡ None) × (fits_type o Int place ≡ None) = both_none (fits_pair o.tree left) _ h.1 in
       pair_sound n a o.tree (literal_number a) (literal_number o.tree) refl refl (small_part (literal_number a) first h.0) (small_part (literal_number o.tree) left k.0) one (of_type names scope n o Int place sound k.1)
   plain_ends n first left place (a ∷ b ∷ []) o (one, (two, all)) sound e =
@@ -169,7 +170,7 @@ module _ (names : Names) (scope : Scope) where
 
   -- Parts of each shape.
 
-  module _ (n : ℕ) (expression : Grammar Operand) (k : Says expression (Sound names scope (Whole names scope n))) where
+  module _ (n : ℕ) (expression : Wanted → Grammar Operand) (k : (wanted : Wanted) → Says (expression wanted) (Sound names scope (Whole names scope n))) where
     -- how parts that go on and a last one make what is wanted
     abbrev Steps : Shape → ℕ → (Parts → Type 0) → (Parts → Type 0) → Type 0
     Steps shape place I D =
@@ -181,14 +182,14 @@ module _ (names : Names) (scope : Scope) where
         says_here (λ left.
         says_rounds I (none left) (λ before all.
         says_here (λ here.
-        says_sequence k (λ o sound.
+        says_sequence (k (wanted_part shape (length before.trees) place)) (λ o sound.
         says_sequence (says_takes (end_says shape (length before.trees))) (λ is_last ends. says_checks (λ fit. says_gives (steps before o here is_last all sound ends fit)))))))
 
-    plain_steps : (place : ℕ) → Steps plain place (λ parts. AreAll (Of names scope Int n) parts.trees) (λ parts. Sound names scope (Alone names scope (suc n)) (plain_operand parts))
+    plain_steps : (place : ℕ) → Steps plain place (λ parts. AreAll (Of names scope Int n) parts.trees) (λ parts. Settled names scope (Alone names scope (suc n)) (plain_operand parts))
     plain_steps place before o left true all sound ends fit = plain_ends n before.first left place before.trees o all sound fit
     plain_steps place before o left false all sound ends fit = all_more (Of names scope Int n) before.trees o.tree all (plain_goes n before.first left place before.trees o sound fit)
 
-    pub says_plain : (at : Place) (place : ℕ) → Says (enclosed at expression plain place) (λ parts. Sound names scope (Alone names scope (suc n)) (plain_operand parts))
+    pub says_plain : (at : Place) (place : ℕ) → Says (enclosed at expression plain place) (λ parts. Settled names scope (Alone names scope (suc n)) (plain_operand parts))
     says_plain at place = says_parts plain place _ _ (λ left. tt) (plain_steps place)
 
     argument_steps : (params : List ValueType) (place : ℕ) → Steps (arguments params) place (λ parts. Begin n params parts.trees) (λ parts. Arguments n params parts.trees)

@@ -9,12 +9,12 @@ use Rattle.ixp_exprs.specs.declared.types.ValueType.{ValueType}
 use Rattle.ixp_exprs.specs.declared.types.ValueType.TheVariants.{Bool as Truth, Int, Ip, Pair, Triple, State, PairSet, TripleSet}
 use Rattle.ixp_exprs.specs.declared.env.Signature.{Signature}
 use Rattle.ixp_exprs.specs.declared.context.Scope.{Scope}
-use Rattle.ixp_exprs.specs.Types.{same_type, is_of_values}
+use Rattle.ixp_exprs.specs.Types.{same_type, same_as, is_of_values}
 use Rattle.ixp_exprs.specs.Names.{Names, function_of}
 use Rattle.ixp_exprs.specs.Sets.{unless_so}
-use Rattle.ixp_exprs.specs.Operands.{Operand, settled, misfit_at}
+use Rattle.ixp_exprs.specs.Operands.{Operand, one_type, settled, misfit_at}
 use Rattle.ixp_exprs.specs.Expressions.{Place, expression_form}
-use Rattle.ixp_stmts.specs.Statements.{Frame, place_in, may_return, Returned, same_as, may_meet, met, Said, said, value_end, enclosed_end, params_of as written_params, call_form, return_form, next_hop_end, prepend_end, change_end, change_form, plain_form, label_form, labels_form, is_state, no_case, Statements, statements_of, block_end, nothing, deeper, block_form, no_branch, branch_form, else_form, test_end, if_form, Arms, arms, arms_form, case_end, Subject, subject_end, case_form, statement_with, statement_form, body_form}
+use Rattle.ixp_stmts.specs.Statements.{Frame, place_in, may_return, Returned, returned_wanted, subject_wanted, may_meet, met, Said, said, value_end, enclosed_end, params_of as written_params, call_form, return_form, next_hop_end, prepend_end, change_end, change_form, plain_form, label_form, labels_form, is_state, no_case, Statements, statements_of, block_end, nothing, deeper, block_form, no_branch, branch_form, else_form, test_end, if_form, Arms, arms, arms_form, case_end, Subject, subject_end, case_form, statement_with, statement_form, body_form}
 use Rattle.ixp_sound.specs.Sound.{some_of, params_of, type_of, arguments_fit}
 use Rattle.ixp_sound.specs.SoundStatements.{label_fits, returned_by, returned_in, returned_arms, is_of, stmt_fits, stmts_fit, arms_fit}
 use Rattle.ixp_soundness.proofs.Basics.{Within, both, all_pass, both_none, is_so, is_there, none_settled}
@@ -83,13 +83,13 @@ module _ (names : Names) (scope : Scope) where
 module _ (at : Place) (n : ℕ) where
   says_value_end : (wanted : ValueType) → Says (value_end at n wanted) (Of at.names at.scope wanted n)
   says_value_end wanted =
-      says_sequence (says_expression at n) (λ o sound.
+      says_sequence (says_expression at n (one_type wanted at.statement)) (λ o sound.
       says_then (says_mark mark.Semicolon) (λ x. says_checks (λ fit. says_gives (of_type at.names at.scope n o wanted at.statement sound fit))))
 
   says_enclosed_end : (wanted : ValueType) → Says (enclosed_end at n wanted) (Of at.names at.scope wanted n)
   says_enclosed_end wanted =
       says_then (says_mark mark.Open) (λ x.
-      says_sequence (says_expression at n) (λ o sound.
+      says_sequence (says_expression at n (one_type wanted at.statement)) (λ o sound.
       says_then (says_mark mark.Close) (λ y. says_checks (λ fit. says_ended mark.Semicolon (of_type at.names at.scope n o wanted at.statement sound fit)))))
 
   says_call : Says (call_form at n) (Changes at.names at.scope n)
@@ -153,7 +153,7 @@ module _ (names : Names) (scope : Scope) (is_written : Bool) where
   says_return s n r =
       says_then (says_word _) (λ x.
       says_checks (λ may.
-      says_sequence (says_expression (place_in frame s) n) (λ o sound.
+      says_sequence (says_expression (place_in frame s) n (returned_wanted r s)) (λ o sound.
       says_then (says_mark mark.Semicolon) (λ y.
       says_checks (λ fit.
       let h : (settled o ≡ None) × (unless_so (may_meet r o.ty) (misfit_at s) ≡ None) = both_none (settled o) _ fit in
@@ -240,7 +240,7 @@ module _ (names : Names) (scope : Scope) (is_written : Bool) where
   -- what is tested
   says_test : (s n : ℕ) → Says (test_end (place_in frame s) n) (Of names scope Truth n)
   says_test s n =
-      says_sequence (says_expression (place_in frame s) n) (λ o sound.
+      says_sequence (says_expression (place_in frame s) n (one_type Truth s)) (λ o sound.
       says_then (says_word _) (λ x. says_checks (λ fit. says_gives (of_type names scope n o Truth s sound fit))))
 
   says_no_branch : {A : Type 0} {P : A → Type 0} → Says (no_branch {A = A} frame) P
@@ -267,7 +267,7 @@ module _ (names : Names) (scope : Scope) (is_written : Bool) where
 
   says_subject : (s n : ℕ) → Says (subject_end (place_in frame s) n) (IsSubject n)
   says_subject s n =
-      says_sequence (says_expression (place_in frame s) n) (λ o sound.
+      says_sequence (says_expression (place_in frame s) n (subject_wanted s)) (λ o sound.
       says_then (says_mark mark.BlockOpen) (λ x.
       says_checks (λ fit.
       let h : (settled o ≡ None) × (no_case o.ty s ≡ None) = both_none (settled o) _ fit in

@@ -1,17 +1,16 @@
--- Where syntax stops the reading of statements, it does whatever is behind the token that is there; and outside of arms what they say
--- doesn't depend on it either.
+-- Where the reading of statements halts, it does whatever is behind the token that is there; and outside of arms what they say doesn't
+-- depend on it either.
 use Rattle.std.proofs.Common.{◌≡◌, ℕ, zero, suc, Bool, true, false, not, ◌&&◌, ◌||◌, List, [], ◌∷◌, ◌++◌, codes, Option, refl, sym, ap, ◌∙◌, if◌then◌else◌}
 use Rattle.std.specs.Option.{is_some}
 use Rattle.ixp_lang.specs.Trees.{StmtTree, stmts, block, if_then, case_of, ExprTree}
 use Rattle.ixp_lang.specs.declared.stmt.Label.{Label}
-use Rattle.ixp_tokens.specs.declared.fault.Cause.{Cause}
 use Rattle.ixp_tokens.specs.declared.fault.Cause.TheVariants.{Unexpected}
 use Rattle.ixp_tokens.specs.declared.token.Kind.{Kind}
 use Rattle.ixp_tokens.specs.declared.token.Mark.{Mark}
 use Rattle.ixp_tokens.specs.declared.token.Mark.TheVariants as mark
 use Rattle.ixp_tokens.specs.Grammars.{Grammar, onward, done, gives, sequence, choice, unless}
 use Rattle.ixp_tokens.specs.Pieces.{is_mark, is_word, if_so, the_mark, the_word}
-use Rattle.ixp_tokens.specs.Syntax.{Spot, spot, Scan, said, stopped, begins_at, scan}
+use Rattle.ixp_tokens.specs.Syntax.{Spot, spot, Halt, Scan, said, halted, stopped, begins_at, scan}
 use Rattle.ixp_tokens.proofs.Clear.{IsOfFirst, IsSeen, Clear}
 use Rattle.ixp_tokens.proofs.ClearLooks.{clear_gives, clear_then, first_test as first_asks}
 use Rattle.ixp_tokens.proofs.Fronts.{Front, marked, keyword, are_apart, starts_apart}
@@ -176,14 +175,14 @@ tests_are : {A : Type 0} (a b c d : Bool) (s t u : Scan A) → a ≡ c → b ≡
 tests_are a b c d s t u e h = ap (λ x. by_tests x b s t u) e ∙ ap (λ x. by_tests c x s t u) h
 
 -- a stop that is a step behind the place
-by_tests_stop : {A : Type 0} (a b : Bool) (s t u : Scan A) (v : A) (x : Spot) (c : Cause) (rest : List Kind) → u ≡ said v x → by_tests a b s t u ≡ stopped c rest → (a ≡ true) × (b ≡ false) × (t ≡ stopped c rest)
+by_tests_stop : {A : Type 0} (a b : Bool) (s t u : Scan A) (v : A) (x : Spot) (c : Halt) (rest : List Kind) → u ≡ said v x → by_tests a b s t u ≡ halted c rest → (a ≡ true) × (b ≡ false) × (t ≡ halted c rest)
 by_tests_stop true true s t u v x c rest is e = let no = sym is ∙ e in absurd cc
 by_tests_stop true false s t u v x c rest is e = (refl, refl, e)
 by_tests_stop false true s t u v x c rest is e = let no = sym is ∙ e in absurd cc
 by_tests_stop false false s t u v x c rest is e = let no = sym is ∙ e in absurd cc
 
-no_end_else : {A : Type 0} (in_arm : Bool) (f : Grammar A) (v : A) (p : ℕ) (c : Cause) (rest : List Kind)
-    → ¬ (scan (choice (unless (is_case_else in_arm) (sequence (the_word (codes "else")) (λ x. f))) (unless (is_if_else in_arm) (gives v))) (spot p []) ≡ stopped c rest)
+no_end_else : {A : Type 0} (in_arm : Bool) (f : Grammar A) (v : A) (p : ℕ) (c : Halt) (rest : List Kind)
+    → ¬ (scan (choice (unless (is_case_else in_arm) (sequence (the_word (codes "else")) (λ x. f))) (unless (is_if_else in_arm) (gives v))) (spot p []) ≡ halted c rest)
 no_end_else true f v p c rest e = cc
 no_end_else false f v p c rest e = cc
 
@@ -193,8 +192,8 @@ head_is k r j s e = cc
 tail_is : (k : Kind) (r : List Kind) (j : Kind) (s : List Kind) → (k ∷ r) ≡ j ∷ s → r ≡ s
 tail_is k r j s e = cc
 
-pub or_else_stops : {A : Type 0} (in_arm : Bool) (f : Grammar A) (v : A) (p : ℕ) (k : Kind) (r : List Kind) (c : Cause) (rest : List Kind) → scan (or_else in_arm f v) (spot p (k ∷ r)) ≡ stopped c rest
-    → (is_word (codes "else") k ≡ true) × (is_case_else in_arm (k ∷ r) ≡ false) × (scan (taken_else f) (spot p (k ∷ r)) ≡ stopped c rest)
+pub or_else_stops : {A : Type 0} (in_arm : Bool) (f : Grammar A) (v : A) (p : ℕ) (k : Kind) (r : List Kind) (c : Halt) (rest : List Kind) → scan (or_else in_arm f v) (spot p (k ∷ r)) ≡ halted c rest
+    → (is_word (codes "else") k ≡ true) × (is_case_else in_arm (k ∷ r) ≡ false) × (scan (taken_else f) (spot p (k ∷ r)) ≡ halted c rest)
 or_else_stops in_arm f v p k r c rest e = by_tests_stop (is_word (codes "else") k) (is_case_else in_arm (k ∷ r)) (stopped Unexpected (k ∷ r)) (scan (taken_else f) (spot p (k ∷ r))) (said v (spot p (k ∷ r))) v (spot p (k ∷ r)) c rest refl e
 
 module _ {A : Type 0} (in_arm : Bool) (f : Grammar A) (quiet : Quiet f) (v : A) where
@@ -207,11 +206,11 @@ module _ {A : Type 0} (in_arm : Bool) (f : Grammar A) (quiet : Quiet f) (v : A) 
   case_again : (k : Kind) (r s : List Kind) → Like first_alone r s → is_case_else in_arm (k ∷ s) ≡ is_case_else in_arm (k ∷ r)
   case_again k r s same = sym ((case_else_seen in_arm).1 k r s (λ fork. turn_alike behind_else r s same))
 
-  or_else_again : (p : ℕ) (k : Kind) (r : List Kind) (c : Cause) (rest : List Kind) → is_word (codes "else") k ≡ true → is_case_else in_arm (k ∷ r) ≡ false → scan (taken_else f) (spot p (k ∷ r)) ≡ stopped c rest
+  or_else_again : (p : ℕ) (k : Kind) (r : List Kind) (c : Halt) (rest : List Kind) → is_word (codes "else") k ≡ true → is_case_else in_arm (k ∷ r) ≡ false → scan (taken_else f) (spot p (k ∷ r)) ≡ halted c rest
       → (m : Alike first_alone (taken_else f) p (k ∷ r) (stops c) rest) → (taken : List Kind) → m.taken ≡ taken → Alike first_alone (or_else in_arm f v) p (k ∷ r) (stops c) rest
   or_else_again p k r c rest fork free at m [] none =
       let same : k ∷ r ≡ rest = m.parts ∙ ap (λ x. x ++ rest) none in
-      absurd (token_passes is_the_else (λ x. f) (λ x. quiet) p k r c tt (ap if_so fork) (at ∙ ap (stopped c) (sym same)))
+      absurd (token_passes is_the_else (λ x. f) (λ x. quiet) p k r c tt (ap if_so fork) (at ∙ ap (halted c) (sym same)))
   or_else_again p k r c rest fork free at m (j ∷ js) some = record {
     taken = k ∷ js;
     parts = ap (λ x. k ∷ x) (tail_is k r j (js ++ rest) (m.parts ∙ ap (λ x. x ++ rest) some));

@@ -11,7 +11,7 @@ use Rattle.ixp_tokens.specs.declared.token.Mark.{Mark}
 use Rattle.ixp_tokens.specs.declared.token.Mark.TheVariants as mark
 use Rattle.ixp_tokens.specs.Grammars.{Grammar, Step, onward, done, gives, takes, sequence, rounds, unless}
 use Rattle.ixp_tokens.specs.Pieces.{is_mark, is_word, same_word, name_in, if_so, the_mark, the_word, is_next}
-use Rattle.ixp_tokens.specs.Syntax.{Spot, spot, Fine, Scan, stopped, refused, and_then, scanned, unless_refused, begins_at, scan}
+use Rattle.ixp_tokens.specs.Syntax.{Spot, spot, Fine, by_syntax, Scan, stopped, refused, and_then, scanned, unless_refused, begins_at, scan}
 use Rattle.ixp_tokens.proofs.Clear.{IsOfFirst, IsSeen}
 use Rattle.ixp_tokens.proofs.ClearLooks.{first_test as first_asks}
 use Rattle.ixp_tokens.proofs.Fronts.{Front, marked, are_apart, starts_apart}
@@ -25,7 +25,7 @@ use Rattle.ixp_tokens.proofs.Exchanges.{Exchanges, whatever, like_two, opens_fol
 use Rattle.ixp_exprs.specs.Names.{function_of}
 use Rattle.ixp_exprs.specs.Lists.{never, ended}
 use Rattle.ixp_exprs.specs.Sets.{if_missing}
-use Rattle.ixp_exprs.specs.Operands.{or_else as or_fault}
+use Rattle.std.specs.Option.{option_or as or_fault}
 use Rattle.ixp_exprs.specs.Expressions.{word_in}
 use Rattle.ixp_exprs.specs.declared.env.Signature.{Signature}
 use Rattle.ixp_exprs.proofs.ClearLists.{clear_ended}
@@ -234,7 +234,7 @@ else_opens in_arm f h v (k ∷ []) rest more m c w q some at (inr (free, (is, sa
     no_rest : (more : List Kind) → k ∷ more ≡ [] → ⊥
     no_rest more e = cc
 else_opens {A} in_arm f h v (k ∷ []) rest more m c w q some at (inl (free, fine)) =
-    inr (record { token = k; first_rest = rest; second_rest = more; first = refl; second = refl; next = λ fork. same_turn in_arm ((or_else_stops in_arm f v m k rest c rest at).0) ((or_else_stops in_arm f v m k rest c rest at).1) free })
+    inr (record { token = k; first_rest = rest; second_rest = more; first = refl; second = refl; next = λ fork. same_turn in_arm ((or_else_stops in_arm f v m k rest (by_syntax c) rest at).0) ((or_else_stops in_arm f v m k rest (by_syntax c) rest at).1) free })
   where
     same_turn : (a : Bool) → is_word (codes "else") k ≡ true → is_case_else a (k ∷ rest) ≡ false → is_case_else a (k ∷ more) ≡ false → (sight_of a).turn rest ≡ (sight_of a).turn more
     same_turn false there e i = refl
@@ -420,20 +420,20 @@ module _ (frame : Frame) (more : ℕ) (upper : Statements) (begun : Begun upper)
   branch_stops : (x : Spot) → begins_at branch x ≡ false → scan branch x ≡ stopped Unexpected x.1
   branch_stops x e = not_begun branch (tt, begun.leads in_arm returned) x e
 
-  refused_name : (found : Option Signature) (p : ℕ) (s : Scan (Said (List StmtTree))) → unless_refused (or_fault (if_missing found (Unknown, p)) (Some (Deep, p))) s ≡ refused
-  refused_name (Some signature) p s = refl
-  refused_name None p s = refl
+  refused_name : (found : Option Signature) (p : ℕ) (ts : List Kind) (s : Scan (Said (List StmtTree))) → unless_refused (or_fault (if_missing found (Unknown, p)) (Some (Deep, p))) ts s ≡ refused ts
+  refused_name (Some signature) p ts s = refl
+  refused_name None p ts s = refl
 
   word_ends : (w : List ℕ) (p : ℕ) (ts : List Kind) (o : Option (List ℕ)) → statement_word w ≡ o → IsEnd deep branch (spot p (kind.Word w ∷ ts))
-  word_ends w p ts (Some v) e = inr (inl (ap (λ x. scan_word x) e))
+  word_ends w p ts (Some v) e = inr (inl (ts, ap (λ x. scan_word x) e))
     where
       scan_word : Option (List ℕ) → Scan (Said (List StmtTree))
-      scan_word o = and_then (scanned o p (kind.Word w) ts) (λ word y. unless_refused (Some (deep_word frame.scope word p)) (scan never y))
+      scan_word o = and_then (scanned o p (kind.Word w) ts) (λ word y. unless_refused (Some (deep_word frame.scope word p)) y.1 (scan never y))
   word_ends w p ts None e =
       inr (inr (Unexpected, ap (λ x. scan_word x) e, branch_stops (spot p (kind.Word w ∷ ts)) (sym (deep_begins (spot p (kind.Word w ∷ ts))) ∙ ap is_some e)))
     where
       scan_word : Option (List ℕ) → Scan (Said (List StmtTree))
-      scan_word o = and_then (scanned o p (kind.Word w) ts) (λ word y. unless_refused (Some (deep_word frame.scope word p)) (scan never y))
+      scan_word o = and_then (scanned o p (kind.Word w) ts) (λ word y. unless_refused (Some (deep_word frame.scope word p)) y.1 (scan never y))
 
   mark_ends : (m : Mark) (p : ℕ) (ts : List Kind) (b : Bool) → is_mark mark.BlockOpen (kind.Mark m) ≡ b → IsEnd deep branch (spot p (kind.Mark m ∷ ts))
   mark_ends m p ts true e = inl (ap (λ b. if b then stopped Deep (kind.Mark m ∷ ts) else stopped Unexpected (kind.Mark m ∷ ts)) e)
@@ -451,7 +451,7 @@ module _ (frame : Frame) (more : ℕ) (upper : Statements) (begun : Begun upper)
   deep_ends (p, []) = other_ends (spot p []) refl refl
   deep_ends (p, kind.Mark m ∷ ts) = mark_ends m p ts (is_mark mark.BlockOpen (kind.Mark m)) refl
   deep_ends (p, kind.Word w ∷ ts) = word_ends w p ts (statement_word w) refl
-  deep_ends (p, kind.Name n ∷ ts) = inr (inl (refused_name (function_of (frame.names n)) p _))
+  deep_ends (p, kind.Name n ∷ ts) = inr (inl (ts, refused_name (function_of (frame.names n)) p ts _))
   deep_ends (p, kind.Number n ∷ ts) = other_ends (spot p (kind.Number n ∷ ts)) refl refl
   deep_ends (p, kind.Addr a ∷ ts) = other_ends (spot p (kind.Addr a ∷ ts)) refl refl
   deep_ends (p, kind.Prefix a ∷ ts) = other_ends (spot p (kind.Prefix a ∷ ts)) refl refl

@@ -15,26 +15,27 @@ use Rattle.ixp_tokens.proofs.Looks.{Look, full_look, token_look}
 use Rattle.ixp_tokens.proofs.ClearLooks.{clear_gives, clear_takes, clear_token, clear_mark, clear_name, clear_number, clear_sequence, clear_then, clear_choice, clear_checks, clear_here, clear_bars, clear_unless, clear_wider, first_test as first_asks}
 use Rattle.ixp_tokens.proofs.Known.{so_is, next_mark}
 use Rattle.ixp_exprs.specs.declared.types.ValueType.{ValueType}
-use Rattle.ixp_exprs.specs.declared.types.ValueType.TheVariants.{Int, Ip, Pair, Triple, PairSet, TripleSet}
+use Rattle.ixp_exprs.specs.declared.types.ValueType.TheVariants.{Int, Bool as Truth, Ip, Pair, Triple, PairSet, TripleSet}
 use Rattle.ixp_exprs.specs.Names.{function_of}
 use Rattle.ixp_exprs.specs.Expressions.{Place, arguments, word_in}
 use Rattle.ixp_exprs.proofs.ClearLists.{clear_never, clear_ended, clear_listed}
 use Rattle.ixp_exprs.proofs.KnownTokens.{states, known_state, word_front}
 use Rattle.ixp_exprs.proofs.KnownExpressions.{operand_starts, clear_expression_text}
 use Rattle.ixp_exprs.proofs.Sure.{Barred, Sure, First, behind_else, sure_of, clear_word, first_enclosed, sure_deep, next_word, next_seen}
-use Rattle.ixp_stmts.specs.Statements.{Frame, place_in, Returned, Said, said, value_end, enclosed_end, params_of, call_end, call_form, return_form, next_hop_end, prepend_end, change_end, verdict_form, change_form, plain_form, number_label, state_label, label_form, labels_form, Statements, statements_of, block_end, Deeper, nothing, deeper, is_block, is_else, is_case_else, is_if_else, is_there, block_form, statement_word, no_branch, branch_form, else_form, test_end, if_form, Arms, arms_form, case_end, subject_end, case_form, statement_with, statement_form, body_form}
+use Rattle.ixp_exprs.specs.Operands.{one_type}
+use Rattle.ixp_stmts.specs.Statements.{Frame, place_in, Returned, returned_wanted, subject_wanted, Said, said, value_end, enclosed_end, params_of, call_end, call_form, return_form, next_hop_end, prepend_end, change_end, verdict_form, change_form, plain_form, number_label, state_label, label_form, labels_form, Statements, statements_of, block_end, Deeper, nothing, deeper, is_block, is_else, is_case_else, is_if_else, is_there, block_form, statement_word, no_branch, branch_form, else_form, test_end, if_form, Arms, arms_form, case_end, subject_end, case_form, statement_with, statement_form, body_form}
 use Rattle.ixp_stmts.proofs.Pieces.{said_one, one_more, one_arm, next_arm}
 use Rattle.ixp_stmts.proofs.Several.{clear_without, clear_or_nothing, clear_several}
 
 -- Statements that hold no others.
 
 first_value_end : (at : Place) (levels : ℕ) (wanted : ValueType) → First (value_end at levels wanted) (token_look operand_starts)
-first_value_end at levels wanted = clear_sequence (clear_expression_text at levels) (λ value. clear_then (clear_mark mark.Semicolon) (λ x. clear_checks (clear_gives _))) refl
+first_value_end at levels wanted = clear_sequence (clear_expression_text at levels (one_type wanted at.statement)) (λ value. clear_then (clear_mark mark.Semicolon) (λ x. clear_checks (clear_gives _))) refl
 
 first_enclosed_end : (at : Place) (levels : ℕ) (wanted : ValueType) → First (enclosed_end at levels wanted) (token_look (marked mark.Open ∷ []))
 first_enclosed_end at levels wanted =
     clear_then (clear_mark mark.Open) (λ x.
-    clear_sequence (clear_expression_text at levels) (λ value. clear_then (clear_mark mark.Close) (λ y. clear_checks (clear_ended mark.Semicolon _))) refl)
+    clear_sequence (clear_expression_text at levels (one_type wanted at.statement)) (λ value. clear_then (clear_mark mark.Close) (λ y. clear_checks (clear_ended mark.Semicolon _))) refl)
 
 first_call_end : (at : Place) (levels : ℕ) (called : List ℕ) → First (call_end at levels called) (token_look (marked mark.Open ∷ []))
 first_call_end at levels called =
@@ -48,7 +49,7 @@ first_call at levels = clear_then clear_name (λ called. clear_checks (first_cal
 first_return : (at : Place) (levels : ℕ) (returned : Returned) → First (return_form at levels returned) (token_look (keyword (codes "return") ∷ []))
 first_return at levels returned =
     clear_then (clear_word (codes "return")) (λ x.
-    clear_checks (clear_sequence (clear_expression_text at levels) (λ value. clear_then (clear_mark mark.Semicolon) (λ y. clear_checks (clear_gives _))) refl))
+    clear_checks (clear_sequence (clear_expression_text at levels (returned_wanted returned at.statement)) (λ value. clear_then (clear_mark mark.Semicolon) (λ y. clear_checks (clear_gives _))) refl))
 
 first_next_hop : (at : Place) (levels : ℕ) → First (next_hop_end at levels) (token_look (marked mark.Equal ∷ []))
 first_next_hop at levels = clear_then (clear_mark mark.Equal) (λ x. clear_then (first_value_end at levels Ip) (λ value. clear_gives _))
@@ -281,7 +282,7 @@ sure_else frame inner ki in_arm test then_do =
     refl refl
 
 pub first_test : (at : Place) (levels : ℕ) → First (test_end at levels) (token_look operand_starts)
-first_test at levels = clear_sequence (clear_expression_text at levels) (λ test. clear_then (clear_word (codes "then")) (λ x. clear_checks (clear_gives _))) refl
+first_test at levels = clear_sequence (clear_expression_text at levels (one_type Truth at.statement)) (λ test. clear_then (clear_word (codes "then")) (λ x. clear_checks (clear_gives _))) refl
 
 sure_if : (frame : Frame) (levels : ℕ) (inner : Deeper) → IsSureBelow inner → (in_arm : Bool) (returned : Returned)
     → Barred (if_form frame levels inner in_arm returned) (token_look (keyword (codes "if") ∷ [])) else_word
@@ -294,7 +295,7 @@ sure_if frame levels inner ki in_arm returned =
     refl refl
 
 pub first_subject : (at : Place) (levels : ℕ) → First (subject_end at levels) (token_look operand_starts)
-first_subject at levels = clear_sequence (clear_expression_text at levels) (λ on. clear_then (clear_mark mark.BlockOpen) (λ x. clear_checks (clear_gives _))) refl
+first_subject at levels = clear_sequence (clear_expression_text at levels (subject_wanted at.statement)) (λ on. clear_then (clear_mark mark.BlockOpen) (λ x. clear_checks (clear_gives _))) refl
 
 sure_case : (frame : Frame) (inner : Deeper) → IsSureBelow inner → (returned : Returned) → Sure (case_form frame inner returned) (token_look (keyword (codes "case") ∷ []))
 sure_case frame nothing ki returned = sure_deep (is_word (codes "case")) (keyword (codes "case") ∷ []) (next_word (codes "case"))

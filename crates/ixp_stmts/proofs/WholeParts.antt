@@ -9,24 +9,25 @@ use Rattle.ixp_tokens.proofs.Looks.{full_look, token_look}
 use Rattle.ixp_tokens.proofs.ClearLooks.{clear_token}
 use Rattle.ixp_tokens.proofs.Whole.{Whole, whole_gives, whole_takes, whole_then, whole_sequence, whole_choice, whole_checks, whole_here, whole_wider}
 use Rattle.ixp_exprs.specs.declared.types.ValueType.{ValueType}
-use Rattle.ixp_exprs.specs.declared.types.ValueType.TheVariants.{Int, Ip, Pair, Triple, PairSet, TripleSet}
+use Rattle.ixp_exprs.specs.declared.types.ValueType.TheVariants.{Int, Bool as Truth, Ip, Pair, Triple, PairSet, TripleSet}
 use Rattle.ixp_exprs.specs.Names.{function_of}
 use Rattle.ixp_exprs.specs.Expressions.{Place, arguments, expression_form}
 use Rattle.ixp_exprs.proofs.KnownTokens.{states, known_state}
 use Rattle.ixp_exprs.proofs.KnownExpressions.{operand_starts}
 use Rattle.ixp_exprs.proofs.WholeLists.{whole_mark, whole_word, whole_name, whole_number, whole_ended, whole_listed}
 use Rattle.ixp_exprs.proofs.WholeExpressions.{whole_enclosed, whole_expression_text}
-use Rattle.ixp_stmts.specs.Statements.{Frame, place_in, Returned, value_end, enclosed_end, params_of, call_end, call_form, return_form, next_hop_end, prepend_end, change_end, verdict_form, change_form, plain_form, number_label, state_label, label_form, labels_form, test_end, subject_end}
+use Rattle.ixp_exprs.specs.Operands.{one_type}
+use Rattle.ixp_stmts.specs.Statements.{Frame, place_in, Returned, returned_wanted, subject_wanted, value_end, enclosed_end, params_of, call_end, call_form, return_form, next_hop_end, prepend_end, change_end, verdict_form, change_form, plain_form, number_label, state_label, label_form, labels_form, test_end, subject_end}
 use Rattle.ixp_stmts.proofs.SureStatements.{change_words, plain_words, label_starts}
 
 module _ (levels more : ℕ) (less : levels < more) where
   whole_value_end : (at : Place) (wanted : ValueType) → Whole (value_end at levels wanted) (value_end at more wanted) (token_look operand_starts) []
-  whole_value_end at wanted = whole_sequence (whole_expression_text at levels more less) (λ value. whole_then (whole_mark mark.Semicolon) (λ x. whole_checks (whole_gives _))) refl refl
+  whole_value_end at wanted = whole_sequence (whole_expression_text at levels more less (one_type wanted at.statement)) (λ value. whole_then (whole_mark mark.Semicolon) (λ x. whole_checks (whole_gives _))) refl refl
 
   whole_enclosed_end : (at : Place) (wanted : ValueType) → Whole (enclosed_end at levels wanted) (enclosed_end at more wanted) (token_look (marked mark.Open ∷ [])) []
   whole_enclosed_end at wanted =
       whole_then (whole_mark mark.Open) (λ x.
-      whole_sequence (whole_expression_text at levels more less) (λ value. whole_then (whole_mark mark.Close) (λ y. whole_checks (whole_ended mark.Semicolon _))) refl refl)
+      whole_sequence (whole_expression_text at levels more less (one_type wanted at.statement)) (λ value. whole_then (whole_mark mark.Close) (λ y. whole_checks (whole_ended mark.Semicolon _))) refl refl)
 
   whole_call_end : (at : Place) (called : List ℕ) → Whole (call_end at levels called) (call_end at more called) (token_look (marked mark.Open ∷ [])) []
   whole_call_end at called =
@@ -40,7 +41,7 @@ module _ (levels more : ℕ) (less : levels < more) where
   whole_return : (at : Place) (returned : Returned) → Whole (return_form at levels returned) (return_form at more returned) (token_look (keyword (codes "return") ∷ [])) []
   whole_return at returned =
       whole_then (whole_word (codes "return")) (λ x.
-      whole_checks (whole_sequence (whole_expression_text at levels more less) (λ value. whole_then (whole_mark mark.Semicolon) (λ y. whole_checks (whole_gives _))) refl refl))
+      whole_checks (whole_sequence (whole_expression_text at levels more less (returned_wanted returned at.statement)) (λ value. whole_then (whole_mark mark.Semicolon) (λ y. whole_checks (whole_gives _))) refl refl))
 
   whole_next_hop : (at : Place) → Whole (next_hop_end at levels) (next_hop_end at more) (token_look (marked mark.Equal ∷ [])) []
   whole_next_hop at = whole_then (whole_mark mark.Equal) (λ x. whole_then (whole_value_end at Ip) (λ value. whole_gives _))
@@ -79,10 +80,10 @@ module _ (levels more : ℕ) (less : levels < more) where
       refl refl
 
   pub whole_test : (at : Place) → Whole (test_end at levels) (test_end at more) (token_look operand_starts) []
-  whole_test at = whole_sequence (whole_expression_text at levels more less) (λ test. whole_then (whole_word (codes "then")) (λ x. whole_checks (whole_gives _))) refl refl
+  whole_test at = whole_sequence (whole_expression_text at levels more less (one_type Truth at.statement)) (λ test. whole_then (whole_word (codes "then")) (λ x. whole_checks (whole_gives _))) refl refl
 
   pub whole_subject : (at : Place) → Whole (subject_end at levels) (subject_end at more) (token_look operand_starts) []
-  whole_subject at = whole_sequence (whole_expression_text at levels more less) (λ on. whole_then (whole_mark mark.BlockOpen) (λ x. whole_checks (whole_gives _))) refl refl
+  whole_subject at = whole_sequence (whole_expression_text at levels more less (subject_wanted at.statement)) (λ on. whole_then (whole_mark mark.BlockOpen) (λ x. whole_checks (whole_gives _))) refl refl
 
 -- Labels.
 

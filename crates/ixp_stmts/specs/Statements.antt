@@ -1,5 +1,6 @@
 -- Statements (BIRD 2 User's Guide, chapter "Filters", control structures), with the types of what they hold.
 use Rattle.std.specs.Prelude.{ℕ, zero, suc, Bool, true, false, ◌&&◌, ◌||◌, not, List, [], ◌∷◌, ◌++◌, codes, Option, Some, None, if◌then◌else◌}
+use Rattle.std.specs.Option.{option_or}
 use Rattle.ixp_lang.specs.Trees.{StmtTree, stmts, ArmTrees, arms_end, arms_more, block, if_then, case_of, return_value, accept, reject, call_statement, set_next_hop, prepend, add_pair, delete_pairs, add_triple, delete_triples, ExprTree, exprs}
 use Rattle.ixp_lang.specs.declared.stmt.Label.{Label}
 use Rattle.ixp_lang.specs.declared.stmt.Label.TheVariants.{Range as Between, State as IsState}
@@ -9,16 +10,18 @@ use Rattle.ixp_tokens.specs.declared.token.Kind.{Kind}
 use Rattle.ixp_tokens.specs.declared.token.Mark.TheVariants.{Semicolon, Dot, Range, Colon, Open, Close, BlockOpen, BlockClose, Equal}
 use Rattle.ixp_tokens.specs.Grammars.{Grammar, gives, takes, sequence, choice, rounds, checks, bars, unless, here, Step, onward, done}
 use Rattle.ixp_tokens.specs.Pieces.{the_mark, is_mark, the_word, is_word, same_word, is_next, behind, a_name, a_number}
+use Rattle.ixp_exprs.specs.declared.wanted.Expected.TheVariants.{Value, NumberOrState}
+use Rattle.ixp_exprs.specs.declared.wanted.Wanted.{Wanted}
 use Rattle.ixp_exprs.specs.declared.types.ValueType.{ValueType}
 use Rattle.ixp_exprs.specs.declared.types.ValueType.TheVariants.{Int, Bool as Truth, Ip, Pair, Triple, State, PairSet, TripleSet}
 use Rattle.ixp_exprs.specs.declared.env.Signature.{Signature}
 use Rattle.ixp_exprs.specs.declared.context.Scope.{Scope}
 use Rattle.ixp_exprs.specs.declared.context.Scope.TheVariants as scope
-use Rattle.ixp_exprs.specs.Types.{same_type, is_of_values}
+use Rattle.ixp_exprs.specs.Types.{same_type, is_expected}
 use Rattle.ixp_exprs.specs.Names.{Names, function_of}
 use Rattle.ixp_exprs.specs.Lists.{never, ended, listed}
 use Rattle.ixp_exprs.specs.Sets.{if_missing, unless_so}
-use Rattle.ixp_exprs.specs.Operands.{Operand, or_else, misfit_at, settled, fits}
+use Rattle.ixp_exprs.specs.Operands.{Operand, misfit_at, settled, fits, one_type}
 use Rattle.ixp_exprs.specs.Expressions.{Place, arguments, enclosed, expression_form, state_in, word_in}
 
 -- The function or filter whose statements are read: what names stand for in it, and which of the two it is.
@@ -40,13 +43,9 @@ pub record Returned : Type 0 where
   pub ty : Option ValueType
   pub is_met : Bool
 
-abbrev pub same_as : Option ValueType → ValueType → Bool
-same_as None ty = true
-same_as (Some wanted) ty = same_type wanted ty
-
 -- a `return` of such a value fits what was written or returned before
 abbrev pub may_meet : Returned → ValueType → Bool
-may_meet returned ty = is_of_values ty && same_as returned.ty ty
+may_meet returned ty = is_expected (Value returned.ty) ty
 
 abbrev pub met : ValueType → Returned
 met ty = record { ty = Some ty; is_met = true }
@@ -64,14 +63,14 @@ said returned it = record { it = it; returned = returned }
 -- an expression of the type, and the semicolon
 abbrev pub value_end : Place → ℕ → ValueType → Grammar ExprTree
 value_end at levels wanted =
-    sequence (expression_form at levels) (λ value.
+    sequence (expression_form at levels (one_type wanted at.statement)) (λ value.
     sequence (the_mark Semicolon) (λ tt. checks (fits value wanted at.statement) (gives value.tree)))
 
 -- an expression of the type in parentheses, which are no level, and the semicolon
 abbrev pub enclosed_end : Place → ℕ → ValueType → Grammar ExprTree
 enclosed_end at levels wanted =
     sequence (the_mark Open) (λ tt.
-    sequence (expression_form at levels) (λ value.
+    sequence (expression_form at levels (one_type wanted at.statement)) (λ value.
     sequence (the_mark Close) (λ tt. checks (fits value wanted at.statement) (ended Semicolon value.tree))))
 
 abbrev pub params_of : Option Signature → List ValueType
@@ -89,12 +88,16 @@ abbrev pub call_form : Place → ℕ → Grammar StmtTree
 call_form at levels =
     sequence a_name (λ name. checks (if_missing (function_of (at.names name)) (Unknown, at.statement)) (call_end at levels name))
 
+-- what is wanted of a returned value
+abbrev pub returned_wanted : Returned → ℕ → Wanted
+returned_wanted returned place = record { expected = Value returned.ty; place = place }
+
 -- what follows `return`
 abbrev pub return_end : Place → ℕ → Returned → Grammar (Said StmtTree)
 return_end at levels returned =
-    sequence (expression_form at levels) (λ value.
+    sequence (expression_form at levels (returned_wanted returned at.statement)) (λ value.
     sequence (the_mark Semicolon) (λ tt.
-    checks (or_else (settled value) (unless_so (may_meet returned value.ty) (misfit_at at.statement)))
+    checks (option_or (settled value) (unless_so (may_meet returned value.ty) (misfit_at at.statement)))
     (gives (said (met value.ty) (return_value value.tree)))))
 
 abbrev pub return_form : Place → ℕ → Returned → Grammar (Said StmtTree)
@@ -247,7 +250,7 @@ abbrev pub no_branch : {A : Type 0} → Frame → Grammar A
 no_branch frame =
     bars is_block Deep
     (choice
-    (here (λ place. sequence a_name (λ name. checks (or_else (if_missing (function_of (frame.names name)) (Unknown, place)) (Some (Deep, place))) never)))
+    (here (λ place. sequence a_name (λ name. checks (option_or (if_missing (function_of (frame.names name)) (Unknown, place)) (Some (Deep, place))) never)))
     (here (λ place. sequence (takes (word_in statement_word)) (λ word. checks (Some (deep_word frame.scope word place)) never))))
 
 -- a branch of an `if`: a block's statements, or one statement
@@ -270,7 +273,7 @@ else_form frame inner in_arm test then_do =
 -- the test of an `if`, and `then`
 abbrev pub test_end : Place → ℕ → Grammar ExprTree
 test_end at levels =
-    sequence (expression_form at levels) (λ test.
+    sequence (expression_form at levels (one_type Truth at.statement)) (λ test.
     sequence (the_word (codes "then")) (λ tt. checks (fits test Truth at.statement) (gives test.tree)))
 
 -- what follows `if`
@@ -319,11 +322,15 @@ pub record Subject : Type 0 where
 abbrev pub subject_of : Operand → Subject
 subject_of operand = record { on = operand.tree; is_of_states = is_state operand.ty }
 
+-- what is wanted there
+abbrev pub subject_wanted : ℕ → Wanted
+subject_wanted place = record { expected = NumberOrState; place = place }
+
 -- what a `case` is about, and the brace
 abbrev pub subject_end : Place → ℕ → Grammar Subject
 subject_end at levels =
-    sequence (expression_form at levels) (λ on.
-    sequence (the_mark BlockOpen) (λ tt. checks (or_else (settled on) (no_case on.ty at.statement)) (gives (subject_of on))))
+    sequence (expression_form at levels (subject_wanted at.statement)) (λ on.
+    sequence (the_mark BlockOpen) (λ tt. checks (option_or (settled on) (no_case on.ty at.statement)) (gives (subject_of on))))
 
 -- what follows `case`
 abbrev pub case_body : Place → ℕ → Statements → Returned → Grammar (Said StmtTree)

@@ -1,6 +1,7 @@
 //! What a reader of statements knows of the function or filter that it reads.
 ghost use Rattle.ixp_lang.specs.Trees.{StmtTree};
 ghost use Rattle.std.specs.Prelude.{◌≡◌, List, length, Some, Err, OnOk, option_map};
+ghost use Rattle.std.specs.Option.{option_or};
 ghost use Rattle.ixp_tokens.specs.Reading.{read, kinds};
 ghost use Rattle.ixp_tokens.specs.Pieces.{same_word};
 ghost use Rattle.ixp_exprs.specs.Names.{function_of, names_of};
@@ -9,7 +10,7 @@ ghost use Rattle.ixp_tokens.specs.declared.fault.Fault.TheVariants.{Stop};
 ghost use Rattle.ixp_exprs.specs.Answers.{Refuses, fault_of};
 ghost use Rattle.ixp_exprs.specs.Groups.{place_of};
 ghost use Rattle.ixp_exprs.specs.Sets.{unless_so, if_missing};
-ghost use Rattle.ixp_exprs.specs.Operands.{misfit_at, or_else};
+ghost use Rattle.ixp_exprs.specs.Operands.{misfit_at};
 ghost use Rattle.ixp_stmts.specs.Statements.{Said, place_in, may_return, may_meet, met, begins_control, begins_change, is_verdict, begins_statement, deep_word, no_branch};
 ghost use Rattle.ixp_stmts.specs.Views.{frame_of, returned_of, Stops};
 
@@ -138,7 +139,7 @@ pub(crate) fn begins_statement(word: &[u8]) -> bool
 
 /// Why no call begins at this place, one level too deep.
 fn no_call(frame: Frame<'_>, name: &Name, place: usize) -> Fault
-    ensures { Some result ≡ option_map fault_of (or_else (if_missing (function_of (names_of frame.entry.env.now name.now)) (Unknown, place)) (Some (Deep, place))) }
+    ensures { Some result ≡ option_map fault_of (option_or (if_missing (function_of (names_of frame.entry.env.now name.now)) (Unknown, place)) (Some (Deep, place))) }
 {
     match frame.env.function(name) {
         Some(_) => Fault::Stop(Cause::Deep, place),
@@ -166,8 +167,8 @@ pub(crate) fn no_branch(frame: Frame<'_>, tokens: &[Token]) -> Fault
     match &first.kind {
         Kind::Mark(mark) if mark.is(Mark::BlockOpen) => deep(tokens),
         Kind::Name(name) => no_call(frame, name.get(), tokens.len()),
-        Kind::Word(word) if begins_statement(word.get().as_bytes()) => {
-            no_word(frame, word.get().as_bytes(), tokens.len())
+        Kind::Word(word) if begins_statement(word.as_bytes()) => {
+            no_word(frame, word.as_bytes(), tokens.len())
         }
         _ => unexpected(tokens),
     }

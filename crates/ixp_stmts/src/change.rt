@@ -1,5 +1,6 @@
 //! Statements that hold no others.
 ghost use Rattle.std.specs.Prelude.{◌≡◌, ◌<◌, length, OnOk, IfOk};
+ghost use Rattle.std.specs.Option.{option_or};
 ghost use Rattle.ixp_lang.specs.Trees.{accept, reject, add_pair, delete_pairs, add_triple, delete_triples};
 ghost use Rattle.ixp_lang.specs.Views.{expr_view, stmt_view};
 ghost use Rattle.ixp_tokens.specs.Grammars.{gives, sequence};
@@ -11,12 +12,14 @@ ghost use Rattle.ixp_exprs.specs.Answers.{Refuses};
 ghost use Rattle.ixp_exprs.specs.Lists.{ended};
 ghost use Rattle.ixp_exprs.specs.Groups.{place_of};
 ghost use Rattle.ixp_exprs.specs.Sets.{unless_so};
-ghost use Rattle.ixp_exprs.specs.Operands.{operand_of, or_else, settled, misfit_at};
+ghost use Rattle.ixp_exprs.specs.Operands.{operand_of, settled, misfit_at};
 ghost use Rattle.ixp_stmts.specs.Statements.{said, may_meet, met, value_end, enclosed_end, call_form, return_end, next_hop_end, prepend_end, pairs_end, triples_end, change_form, plain_form};
 ghost use Rattle.ixp_stmts.specs.Views.{frame_of, returned_of};
 
 use crate::body::{Frame, Returned, misfit, unknown};
-use ixp_exprs::{Context, Typed, ValueType, arguments, expression, fits, own_name_at, settled};
+use ixp_exprs::{
+    Context, Expected, Typed, ValueType, Wanted, arguments, expression, fits, own_name_at, settled,
+};
 use ixp_lang::{Expr, Stmt};
 use ixp_tokens::{Fault, Kind, Mark, Token, after_word, mark_at, name_at, word_at};
 
@@ -24,15 +27,19 @@ use ixp_tokens::{Fault, Kind, Mark, Token, after_word, mark_at, name_at, word_at
 fn last_at<'t>(
     cx: Context<'_>,
     depth: u32,
-    wanted: ValueType,
+    ty: ValueType,
     tokens: &'t [Token],
 ) -> Result<(Expr, &'t [Token]), Fault>
-    ensures reads { Gives (λ x. (expr_view x.0, kinds x.1.now)) result (read (value_end (place_of cx.entry) depth wanted) (kinds tokens.now)) }
+    ensures reads { Gives (λ x. (expr_view x.0, kinds x.1.now)) result (read (value_end (place_of cx.entry) depth ty) (kinds tokens.now)) }
     ensures shorter { IfOk result (λ x. length x.1.now < length tokens.now) }
 {
-    let (typed, rest) = expression(cx, depth, tokens)?;
+    let wanted = Wanted {
+        expected: Expected::One(ty),
+        place: cx.statement,
+    };
+    let (typed, rest) = expression(cx, depth, wanted, tokens)?;
     let rest = mark_at(Mark::Semicolon, rest)?;
-    fits(&typed, wanted, cx.statement)?;
+    fits(&typed, ty, cx.statement)?;
     Ok((typed.expr, rest))
 }
 
@@ -40,16 +47,20 @@ fn last_at<'t>(
 fn enclosed_at<'t>(
     cx: Context<'_>,
     depth: u32,
-    wanted: ValueType,
+    ty: ValueType,
     tokens: &'t [Token],
 ) -> Result<(Expr, &'t [Token]), Fault>
-    ensures reads { Gives (λ x. (expr_view x.0, kinds x.1.now)) result (read (enclosed_end (place_of cx.entry) depth wanted) (kinds tokens.now)) }
+    ensures reads { Gives (λ x. (expr_view x.0, kinds x.1.now)) result (read (enclosed_end (place_of cx.entry) depth ty) (kinds tokens.now)) }
     ensures shorter { IfOk result (λ x. length x.1.now < length tokens.now) }
 {
     let rest = mark_at(Mark::Open, tokens)?;
-    let (typed, rest) = expression(cx, depth, rest)?;
+    let wanted = Wanted {
+        expected: Expected::One(ty),
+        place: cx.statement,
+    };
+    let (typed, rest) = expression(cx, depth, wanted, rest)?;
     let rest = mark_at(Mark::Close, rest)?;
-    fits(&typed, wanted, cx.statement)?;
+    fits(&typed, ty, cx.statement)?;
     let rest = mark_at(Mark::Semicolon, rest)?;
     Ok((typed.expr, rest))
 }
@@ -64,7 +75,11 @@ fn return_at<'t>(
     ensures reads { Gives (λ x. (said (returned_of returned.new) (stmt_view x.0), kinds x.1.now)) result (read (return_end (place_of cx.entry) depth (returned_of returned.old)) (kinds tokens.now)) }
     ensures shorter { IfOk result (λ x. length x.1.now < length tokens.now) }
 {
-    let (typed, rest) = expression(cx, depth, tokens)?;
+    let wanted = Wanted {
+        expected: Expected::Value(returned.ty),
+        place: cx.statement,
+    };
+    let (typed, rest) = expression(cx, depth, wanted, tokens)?;
     let rest = mark_at(Mark::Semicolon, rest)?;
     met(returned, &typed, cx.statement)?;
     Ok((Stmt::Return(typed.expr), rest))
@@ -72,7 +87,7 @@ fn return_at<'t>(
 
 /// Whether the value may be returned at this place.
 fn met(returned: &mut Returned, typed: &Typed, place: usize) -> Result<(), Fault>
-    ensures cause { Refuses result (or_else (settled (operand_of typed.now)) (unless_so (may_meet (returned_of returned.old) typed.now.ty) (misfit_at place))) }
+    ensures cause { Refuses result (option_or (settled (operand_of typed.now)) (unless_so (may_meet (returned_of returned.old) typed.now.ty) (misfit_at place))) }
     ensures kept { OnOk result (returned_of returned.new ≡ met typed.now.ty) }
 {
     settled(typed)?;

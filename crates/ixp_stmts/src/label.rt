@@ -50,7 +50,7 @@ pub(crate) fn is_label(tokens: &[Token]) -> bool
     };
     match &first.kind {
         Kind::Number(_) => true,
-        Kind::Word(word) => state_of(word.get().as_bytes()).is_some(),
+        Kind::Word(word) => state_of(word.as_bytes()).is_some(),
         _ => false,
     }
 }
@@ -82,7 +82,7 @@ fn label_at(case: Case, tokens: &[Token]) -> Result<(Label, &[Token]), Fault>
             }
             range_at(*number, rest)
         }
-        Kind::Word(word) => match state_of(word.get().as_bytes()) {
+        Kind::Word(word) => match state_of(word.as_bytes()) {
             Some(state) if case.is_of_states => Ok((Label::State(state), rest)),
             Some(_) => Err(misfit(case.place)),
             None => Err(unexpected(tokens)),

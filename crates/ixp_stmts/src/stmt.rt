@@ -11,7 +11,7 @@ ghost use Rattle.ixp_stmts.specs.Views.{frame_of, returned_of, begins_with, behi
 use crate::body::{Frame, Returned, begins_statement, deep, no_branch};
 use crate::change::plain_at;
 use crate::label::{Case, is_label, labels_at};
-use ixp_exprs::{Context, ValueType, expression, fits, settled};
+use ixp_exprs::{Context, Expected, ValueType, Wanted, expression, fits, settled};
 use ixp_lang::{Expr, Label, Stmt};
 use ixp_num::Items;
 use ixp_tokens::{Fault, Kind, Mark, Token, after_mark, after_word, is_mark, mark_at, word_at};
@@ -27,7 +27,7 @@ fn is_statement(tokens: &[Token]) -> bool
     match &first.kind {
         Kind::Mark(mark) => mark.is(Mark::BlockOpen),
         Kind::Name(_) => true,
-        Kind::Word(word) => begins_statement(word.get().as_bytes()),
+        Kind::Word(word) => begins_statement(word.as_bytes()),
         _ => false,
     }
 }
@@ -63,7 +63,11 @@ fn test_at<'t>(
     ensures reads { Gives (λ x. (expr_view x.0, kinds x.1.now)) result (read (test_end (place_of cx.entry) depth) (kinds tokens.now)) }
     ensures shorter { IfOk result (λ x. length x.1.now < length tokens.now) }
 {
-    let (test, rest) = expression(cx, depth, tokens)?;
+    let wanted = Wanted {
+        expected: Expected::One(ValueType::Bool),
+        place: cx.statement,
+    };
+    let (test, rest) = expression(cx, depth, wanted, tokens)?;
     let rest = word_at(b"then", rest)?;
     fits(&test, ValueType::Bool, cx.statement)?;
     Ok((test.expr, rest))
@@ -85,7 +89,11 @@ fn subject_at<'t>(
     ensures place { IfOk result (λ x. x.0.case.place ≡ cx.entry.statement) }
     ensures shorter { IfOk result (λ x. length x.1.now < length tokens.now) }
 {
-    let (on, rest) = expression(cx, depth, tokens)?;
+    let wanted = Wanted {
+        expected: Expected::NumberOrState,
+        place: cx.statement,
+    };
+    let (on, rest) = expression(cx, depth, wanted, tokens)?;
     let rest = mark_at(Mark::BlockOpen, rest)?;
     settled(&on)?;
     let case = Case::of(on.ty, cx.statement)?;

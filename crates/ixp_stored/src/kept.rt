@@ -148,7 +148,7 @@ pub fn drop_kept(alloc: Global, owner: &Owner, kept: &KeptNumber) -> Result<Chan
     })
 }
 
-/// Takes the count of accepted requests out of the store. It takes no memory.
+/// Takes the count of accepted requests out of the store. It does not allocate.
 pub fn drop_count(alloc: Global, accepted: u64) -> Change
     ensures { result ≡ drop_row (count_row accepted) }
 {

@@ -28,7 +28,7 @@ impl<R: Row> Model for Table<R> {
 }
 
 impl<R: Row> Table<R> {
-    /// A table without rows. It takes no memory.
+    /// A table without rows. It does not allocate.
     pub fn new(alloc: Global) -> Table<R>
         ensures { result ≡ [] }
     {
@@ -37,7 +37,7 @@ impl<R: Row> Table<R> {
         }
     }
 
-    /// The table of rows that ascend. It takes no memory.
+    /// The table of rows that ascend. It does not allocate.
     pub fn from_ascending(rows: Vec<R>) -> Table<R>
         requires { Ascends R.key_of rows.items }
         ensures { result ≡ rows.items }
@@ -53,7 +53,7 @@ impl<R: Row> Table<R> {
         self.rows.as_slice()
     }
 
-    /// The rows, in the order of their keys. It takes no memory.
+    /// The rows, in the order of their keys. It does not allocate.
     pub fn into_rows(self) -> Vec<R>
         ensures rows { result.items ≡ self }
         ensures ascends { Ascends R.key_of self }
@@ -121,7 +121,7 @@ impl<R: Row + Drop> Table<R> {
         }
     }
 
-    /// Puts a row in the place of the one that has its key. It takes no memory.
+    /// Puts a row in the place of the one that has its key. It does not allocate.
     pub fn replace(&mut self, row: R)
         requires { IsSome (find R.key_of (R.key_of row) self.old) }
         ensures { self.new ≡ put R.key_of row self.old }

@@ -105,7 +105,7 @@ fn show_kind(kind: &Kind, out: &mut Vec<u8>) -> Result<(), AllocError> {
         }
         Kind::Word(word) => {
             out.extend_from_slice(b"word ")?;
-            out.extend_from_slice(word.get().as_bytes())?;
+            out.extend_from_slice(word.as_bytes())?;
         }
         Kind::Number(number) => {
             out.extend_from_slice(b"number ")?;

@@ -3,16 +3,17 @@ use Rattle.std.proofs.Common.{◌≡◌, inl, inr, ℕ, ◌+◌, ◌<◌, ◌≤
 use Rattle.std.specs.List.{list_all, list_any}
 use Rattle.std.proofs.lemmas.Bool.{and_parts, and_from, eqb-true, eq-eqb}
 use Rattle.std.proofs.lemmas.List.{length-append, append_assoc}
+use Rattle.std.specs.Option.{option_and_then}
 use Rattle.ixp_tokens.specs.declared.runs.Class.TheVariants.{Digit, Address}
 use Rattle.ixp_tokens.specs.Bytes.{is_digit, begins_with}
 use Rattle.ixp_tokens.specs.Tokens.{colons, AreDigits, AreDotted, ColonRun, AddressRun, NoAddress, LengthRun}
-use Rattle.ixp_tokens.specs.Cutting.{run_of, behind_run, before, ◌>>=◌, behind_digits, behind_number, behind_dotted, is_colon, has_two_colons, is_colon_text, behind_address}
+use Rattle.ixp_tokens.specs.Cutting.{run_of, behind_run, before, behind_digits, behind_number, behind_dotted, is_colon, has_two_colons, is_colon_text, behind_address}
 use Rattle.ixp_tokens.proofs.RunLaws.{before_append, run_is_before, run_parts, run_all, run_ends, run_sound, run_complete, behind_again}
 
 pub some_is : {A : Type 0} (a b : A) → Some a ≡ Some b → a ≡ b
 some_is a b e = cc
 
-bind_some : {A B : Type 0} (o : Option A) (f : A → Option B) (b : B) → (o >>= f) ≡ Some b → (a : A) × (o ≡ Some a) × (f a ≡ Some b)
+bind_some : {A B : Type 0} (o : Option A) (f : A → Option B) (b : B) → option_and_then f o ≡ Some b → (a : A) × (o ≡ Some a) × (f a ≡ Some b)
 bind_some (Some a) f b e = (a, refl, e)
 bind_some None f b e = absurd cc
 
@@ -76,8 +77,8 @@ dotted_parts text one two three rest (a, p, are_a, end_a) (b, q, are_b, end_b) (
 dotted_sound : (text rest : List ℕ) → behind_dotted text ≡ Some rest → Dotted text rest
 unfolding behind_dotted
 dotted_sound text rest e =
-    let (three, e, last) = bind_some (behind_digits text >>= behind_number 46 >>= behind_number 46) (behind_number 46) rest e in
-    let (two, e, third) = bind_some (behind_digits text >>= behind_number 46) (behind_number 46) three e in
+    let (three, e, last) = bind_some (option_and_then (behind_number 46) (option_and_then (behind_number 46) (behind_digits text))) (behind_number 46) rest e in
+    let (two, e, third) = bind_some (option_and_then (behind_number 46) (behind_digits text)) (behind_number 46) three e in
     let (one, first, second) = bind_some (behind_digits text) (behind_number 46) two e in
     dotted_parts text one two three rest (digits_sound text one first) (number_sound 46 one two second) (number_sound 46 two three third) (number_sound 46 three rest last)
 
@@ -88,7 +89,7 @@ dotted_again run rest (a, b, c, d, is, are_a, are_b, are_c, are_d) ends =
     let third : behind_number 46 (46 ∷ (c ++ (46 ∷ (d ++ rest)))) ≡ Some (46 ∷ (d ++ rest)) = number_again 46 c (46 ∷ (d ++ rest)) are_c refl in
     let second : behind_number 46 (46 ∷ (b ++ (46 ∷ (c ++ (46 ∷ (d ++ rest)))))) ≡ Some (46 ∷ (c ++ (46 ∷ (d ++ rest)))) = number_again 46 b (46 ∷ (c ++ (46 ∷ (d ++ rest)))) are_b refl in
     let first : behind_digits (a ++ (46 ∷ (b ++ (46 ∷ (c ++ (46 ∷ (d ++ rest))))))) ≡ Some (46 ∷ (b ++ (46 ∷ (c ++ (46 ∷ (d ++ rest)))))) = digits_again a (46 ∷ (b ++ (46 ∷ (c ++ (46 ∷ (d ++ rest)))))) are_a refl in
-    let P : List ℕ → Type 0 = λ t. (behind_digits t >>= behind_number 46 >>= behind_number 46 >>= behind_number 46) ≡ Some rest in
+    let P : List ℕ → Type 0 = λ t. option_and_then (behind_number 46) (option_and_then (behind_number 46) (option_and_then (behind_number 46) (behind_digits t))) ≡ Some rest in
     subst P (regroup a b c d rest ∙ ap (λ x. x ++ rest) (sym is)) (rw (first, second, third) last)
 
 -- Colons.

@@ -5,21 +5,21 @@ use Rattle.ixp_tokens.specs.declared.token.Kind.{Kind}
 use Rattle.ixp_tokens.specs.declared.fault.Cause.{Cause}
 use Rattle.ixp_tokens.specs.declared.fault.Cause.TheVariants.{Unexpected}
 use Rattle.ixp_tokens.specs.Grammars.{Step, onward, done, Grammar, gives, takes, sequence, choice, rounds, checks, bars, unless, here}
-use Rattle.ixp_tokens.specs.Syntax.{Spot, spot, Fine, Scan, said, stopped, refused, and_then, begins_at, scanned, stepping, scan_rounds, scan}
+use Rattle.ixp_tokens.specs.Syntax.{Spot, spot, Fine, Halt, by_syntax, by_check, Scan, said, halted, stopped, refused, and_then, begins_at, scanned, stepping, scan_rounds, scan}
 use Rattle.ixp_tokens.proofs.Clear.{MayEmpty, Sight, IsSeen, ClearBy}
 use Rattle.ixp_tokens.proofs.Seen.{Like, like_behind, like_of}
 use Rattle.ixp_tokens.proofs.Sizes.{fewer}
 use Rattle.ixp_tokens.proofs.Fines.{goes_no_end_by}
-use Rattle.ixp_tokens.proofs.Stops.{stops_same, said_fine, IsRead, reads_fine}
+use Rattle.ixp_tokens.proofs.Stops.{halts_same, said_fine, IsRead, reads_fine}
 
--- an end that isn't a refusal: the value and the number of the place behind it, or a stop
+-- an end: the value and the number of the place behind it, or why it halts
 pub data End (A : Type 0) : Type 0 where
   says : A → ℕ → End A
-  stops : Cause → End A
+  stops : Halt → End A
 
 abbrev pub ended : {A : Type 0} → End A → List Kind → Scan A
 ended (says v q) rest = said v (spot q rest)
-ended (stops c) rest = stopped c rest
+ended (stops c) rest = halted c rest
 
 pub record Alike (sight : Sight) {A : Type 0} (f : Grammar A) (p : ℕ) (ts : List Kind) (e : End A) (rest : List Kind) : Type 0 where
   pub taken : List Kind
@@ -36,12 +36,10 @@ module _ (sight : Sight) where
   IsAlike {A} f = (p : ℕ) (ts : List Kind) (e : End A) (rest : List Kind) → scan f (spot p ts) ≡ ended e rest → Alike sight f p ts e rest
 
   pub then_ended : {A B : Type 0} (s : Scan A) (g : A → Spot → Scan B) (e : End B) (rest : List Kind) → and_then s g ≡ ended e rest
-      → ((a : A) × (z : Spot) × (s ≡ said a z) × (g a z ≡ ended e rest)) ⊎ ((c : Cause) × (s ≡ stopped c rest) × (e ≡ stops c))
+      → ((a : A) × (z : Spot) × (s ≡ said a z) × (g a z ≡ ended e rest)) ⊎ ((c : Halt) × (s ≡ halted c rest) × (e ≡ stops c))
   then_ended (said a z) g e rest h = inl (a, z, refl, h)
-  then_ended {A} {B} (stopped c r) g (stops d) rest h = inr (d, let both = stops_same B c d r rest h in ap (λ x. stopped x r) both.0 ∙ ap (stopped d) both.1, refl)
-  then_ended (stopped c r) g (says v q) rest h = absurd cc
-  then_ended refused g (stops d) rest h = absurd cc
-  then_ended refused g (says v q) rest h = absurd cc
+  then_ended {A} {B} (halted c r) g (stops d) rest h = inr (d, let both = halts_same B c d r rest h in ap (λ x. halted x r) both.0 ∙ ap (halted d) both.1, refl)
+  then_ended (halted c r) g (says v q) rest h = absurd cc
 
   -- the same first token, behind the same tokens
   pub same_first : (taken rest other ts : List Kind) → ts ≡ taken ++ rest → Like sight rest other → Like sight ts (taken ++ other)
@@ -69,7 +67,7 @@ module _ (sight : Sight) where
   }
 
   -- the first part stops
-  pub stop_first : {A B : Type 0} (f : Grammar B) (g : B → Grammar A) (p : ℕ) (ts : List Kind) (e : End A) (rest : List Kind) (c : Cause) → Alike sight f p ts (stops c) rest → e ≡ stops c → Alike sight (sequence f g) p ts e rest
+  pub stop_first : {A B : Type 0} (f : Grammar B) (g : B → Grammar A) (p : ℕ) (ts : List Kind) (e : End A) (rest : List Kind) (c : Halt) → Alike sight f p ts (stops c) rest → e ≡ stops c → Alike sight (sequence f g) p ts e rest
   stop_first f g p ts e rest c one is = record {
     taken = one.taken;
     parts = one.parts;
@@ -82,7 +80,7 @@ module _ (sight : Sight) where
       by_both : (b : B) (q : ℕ) (mid : List Kind) → Alike sight f p ts (says b q) mid → Alike sight (g b) q mid e rest → Alike sight (sequence f g) p ts e rest
       by_both b q mid one two = both_alike f g b p ts q mid e rest one.taken one.parts two (λ other same. one.again (two.taken ++ other) (same_first two.taken rest other mid two.parts same))
 
-      by_parts : ((b : B) × (z : Spot) × (scan f (spot p ts) ≡ said b z) × (scan (g b) z ≡ ended e rest)) ⊎ ((c : Cause) × (scan f (spot p ts) ≡ stopped c rest) × (e ≡ stops c)) → Alike sight (sequence f g) p ts e rest
+      by_parts : ((b : B) × (z : Spot) × (scan f (spot p ts) ≡ said b z) × (scan (g b) z ≡ ended e rest)) ⊎ ((c : Halt) × (scan f (spot p ts) ≡ halted c rest) × (e ≡ stops c)) → Alike sight (sequence f g) p ts e rest
       by_parts (inl (b, z, one, two)) = by_both b z.0 z.1 (hf p ts (says b z.0) z.1 one) (hg b z.0 z.1 e rest two)
       by_parts (inr (c, one, is)) = stop_first f g p ts e rest c (hf p ts (stops c) rest one) is
 
@@ -127,9 +125,9 @@ module _ (sight : Sight) where
       by_first true is one = by_one true is f (λ x. refl) (hf p ts e rest one)
       by_first false is one = by_one false is g (λ x. refl) (hg p ts e rest one)
 
-  pub stopped_is : {A : Type 0} (c : Cause) (r : List Kind) (e : End A) (rest : List Kind) → stopped c r ≡ ended e rest → (e ≡ stops c) × (r ≡ rest)
-  stopped_is {A} c r (stops d) rest h = let both = stops_same A c d r rest h in (sym (ap stops both.0), both.1)
-  stopped_is c r (says v q) rest h = absurd cc
+  pub halted_is : {A : Type 0} (c : Halt) (r : List Kind) (e : End A) (rest : List Kind) → halted c r ≡ ended e rest → (e ≡ stops c) × (r ≡ rest)
+  halted_is {A} c r (stops d) rest h = let both = halts_same A c d r rest h in (sym (ap stops both.0), both.1)
+  halted_is c r (says v q) rest h = absurd cc
 
   -- a test, and what stands where it fails
   pub test_alike : {A : Type 0} (f h : Grammar A) (t : List Kind → Bool) (c : Cause) → IsSeen sight t → IsAlike f → ((x : Spot) → scan h x ≡ (if t x.1 then stopped c x.1 else scan f x)) → IsAlike h
@@ -143,13 +141,13 @@ module _ (sight : Sight) where
             is (spot p (one.taken ++ other)) ∙ if_is _ false _ _ (test_first t first ts (one.taken ++ other) (same_first one.taken rest other ts one.parts same) ∙ free) ∙ one.again other same;
       }
 
-      by_stop : t ts ≡ true → (e ≡ stops c) × (ts ≡ rest) → Alike sight h p ts e rest
+      by_stop : t ts ≡ true → (e ≡ stops (by_syntax c)) × (ts ≡ rest) → Alike sight h p ts e rest
       by_stop barred (stop, same) =
           in_place h p ts e rest same (λ other alike.
           is (spot p other) ∙ if_is _ true _ _ (test_first t first rest other alike ∙ sym (ap t same) ∙ barred) ∙ ap (λ x. ended x other) (sym stop))
 
       by_test : (b : Bool) → t ts ≡ b → (if b then stopped c ts else scan f (spot p ts)) ≡ ended e rest → Alike sight h p ts e rest
-      by_test true barred one = by_stop barred (stopped_is c ts e rest one)
+      by_test true barred one = by_stop barred (halted_is (by_syntax c) ts e rest one)
       by_test false free one = by_free free (hf p ts e rest one)
 
   -- Rounds, whatever number of them is enough.
@@ -239,7 +237,7 @@ module _ (sight : Sight) where
           let less : length z.1 < length ts = onward_shorter T f clear never s t p ts a z one is in
           absurd (omega arith)
 
-      by_step : ((a : Step S A) × (z : Spot) × (scan (f s) (spot p ts) ≡ said a z) × (stepping (λ t y. stopped Unexpected y.1) a z ≡ ended e rest)) ⊎ ((c : Cause) × (scan (f s) (spot p ts) ≡ stopped c rest) × (e ≡ stops c)) → RoundsAlike sight f s p ts e rest
+      by_step : ((a : Step S A) × (z : Spot) × (scan (f s) (spot p ts) ≡ said a z) × (stepping (λ t y. stopped Unexpected y.1) a z ≡ ended e rest)) ⊎ ((c : Halt) × (scan (f s) (spot p ts) ≡ halted c rest) × (e ≡ stops c)) → RoundsAlike sight f s p ts e rest
       by_step (inl (a, z, one, two)) = by_end a z one (stepping_ended _ a z e rest two)
       by_step (inr (c, one, is)) = last_alike f s p ts (stops c) e rest (h s p ts (stops c) rest one) (λ go other. ap (λ x. ended x other) (sym is))
   rounds_alike T {S} {A} f clear never h (suc n) s p ts e rest fits at = by_step (then_ended (scan (f s) (spot p ts)) _ e rest at) (rounds_alike T f clear never h n)
@@ -252,7 +250,7 @@ module _ (sight : Sight) where
           let fits_less : length z.1 ≤ n = omega arith in
           one_more f s t p ts z.0 z.1 e rest (h s p ts (says (onward t) z.0) z.1 (one ∙ ap (λ x. said x z) is)) less (later t z.0 z.1 e rest fits_less same)
 
-      by_step : ((a : Step S A) × (z : Spot) × (scan (f s) (spot p ts) ≡ said a z) × (stepping (scan_rounds n (λ t z. scan (f t) z)) a z ≡ ended e rest)) ⊎ ((c : Cause) × (scan (f s) (spot p ts) ≡ stopped c rest) × (e ≡ stops c))
+      by_step : ((a : Step S A) × (z : Spot) × (scan (f s) (spot p ts) ≡ said a z) × (stepping (scan_rounds n (λ t z. scan (f t) z)) a z ≡ ended e rest)) ⊎ ((c : Halt) × (scan (f s) (spot p ts) ≡ halted c rest) × (e ≡ stops c))
           → ((s : S) (p : ℕ) (ts : List Kind) (e : End A) (rest : List Kind) → length ts ≤ n → scan_rounds n (λ t z. scan (f t) z) s (spot p ts) ≡ ended e rest → RoundsAlike sight f s p ts e rest) → RoundsAlike sight f s p ts e rest
       by_step (inl (a, z, one, two)) later = by_end a z one (stepping_ended _ a z e rest two) later
       by_step (inr (c, one, is)) later = last_alike f s p ts (stops c) e rest (h s p ts (stops c) rest one) (λ go other. ap (λ x. ended x other) (sym is))
@@ -260,13 +258,13 @@ module _ (sight : Sight) where
   pub rounds_one : {S A : Type 0} (f : S → Grammar (Step S A)) (s : S) (p : ℕ) (ts : List Kind) (e : End A) (rest : List Kind) → RoundsAlike sight f s p ts e rest → Alike sight (rounds f s) p ts e rest
   rounds_one f s p ts e rest m = record { taken = m.taken; parts = m.parts; again = λ other same. m.again (length (m.taken ++ other)) other same (omega arith) }
 
-  stop_again : {A : Type 0} (c : Kind → Option A) (p : ℕ) (k : Kind) (ts : List Kind) (e : End A) → c k ≡ None → e ≡ stops Unexpected → (other : List Kind) → Like sight (k ∷ ts) other → scan (takes c) (spot p other) ≡ ended e other
+  stop_again : {A : Type 0} (c : Kind → Option A) (p : ℕ) (k : Kind) (ts : List Kind) (e : End A) → c k ≡ None → e ≡ stops (by_syntax Unexpected) → (other : List Kind) → Like sight (k ∷ ts) other → scan (takes c) (spot p other) ≡ ended e other
   stop_again c p k ts e is end other same =
       let first : k ≡ same.token = cons_head k ts same.token same.first_rest same.first in
       subst (λ x. scan (takes c) (spot p x) ≡ ended e x) (sym same.second)
       (ap (λ x. scanned x p same.token same.second_rest) (sym (ap c first) ∙ is) ∙ ap (λ x. ended x (same.token ∷ same.second_rest)) (sym end))
 
-  stop_alike : {A : Type 0} (c : Kind → Option A) (p : ℕ) (k : Kind) (ts : List Kind) (e : End A) (rest : List Kind) → c k ≡ None → (e ≡ stops Unexpected) × ((k ∷ ts) ≡ rest) → Alike sight (takes c) p (k ∷ ts) e rest
+  stop_alike : {A : Type 0} (c : Kind → Option A) (p : ℕ) (k : Kind) (ts : List Kind) (e : End A) (rest : List Kind) → c k ≡ None → (e ≡ stops (by_syntax Unexpected)) × ((k ∷ ts) ≡ rest) → Alike sight (takes c) p (k ∷ ts) e rest
   stop_alike c p k ts e rest is (end, same) = in_place (takes c) p (k ∷ ts) e rest same (λ other first. stop_again c p k ts e is end other (subst (λ x. Like sight x other) (sym same) first))
 
   takes_ended : {A : Type 0} (c : Kind → Option A) (o : Option A) (p : ℕ) (k : Kind) (ts : List Kind) (e : End A) (rest : List Kind) → c k ≡ o → scanned o p k ts ≡ ended e rest → Alike sight (takes c) p (k ∷ ts) e rest
@@ -278,24 +276,23 @@ module _ (sight : Sight) where
         parts = ap (λ x. k ∷ x) same;
         again = λ other alike. ap (λ x. scanned x p k other) is ∙ ap (λ x. ended x other) (sym end);
       }
-  takes_ended {A} c None p k ts e rest is h = stop_alike c p k ts e rest is (stopped_is Unexpected (k ∷ ts) e rest h)
+  takes_ended {A} c None p k ts e rest is h = stop_alike c p k ts e rest is (halted_is (by_syntax Unexpected) (k ∷ ts) e rest h)
 
   no_tokens : {A : Type 0} (f : Grammar A) (p : ℕ) (e : End A) (rest : List Kind) → stopped Unexpected [] ≡ ended e rest → Alike sight f p [] e rest
-  no_tokens f p e rest h = in_place f p [] e rest ((stopped_is Unexpected [] e rest h).1) (λ other alike. absurd (none_first rest other ((stopped_is Unexpected [] e rest h).1) alike))
+  no_tokens f p e rest h = in_place f p [] e rest ((halted_is (by_syntax Unexpected) [] e rest h).1) (λ other alike. absurd (none_first rest other ((halted_is (by_syntax Unexpected) [] e rest h).1) alike))
 
   gives_alike : {A : Type 0} (w : A) (p : ℕ) (ts : List Kind) (e : End A) (rest : List Kind) → (e ≡ says w p) × (ts ≡ rest) → Alike sight (gives w) p ts e rest
   gives_alike w p ts e rest (end, same) = in_place (gives w) p ts e rest same (λ other alike. ap (λ x. ended x other) (sym end))
 
-  never_ended : {A : Type 0} (e : End A) (rest : List Kind) → ¬ (refused ≡ ended e rest)
-  never_ended (stops c) rest h = cc
-  never_ended (says v q) rest h = cc
+  refused_alike : {A : Type 0} (f : Grammar A) (fault : Cause × ℕ) (p : ℕ) (ts : List Kind) (e : End A) (rest : List Kind) → (e ≡ stops by_check) × (ts ≡ rest) → Alike sight (checks (Some fault) f) p ts e rest
+  refused_alike f fault p ts e rest (end, same) = in_place (checks (Some fault) f) p ts e rest same (λ other alike. ap (λ x. ended x other) (sym end))
 
   pub checks_alike : {A : Type 0} (f : Grammar A) (o : Option (Cause × ℕ)) → IsAlike f → IsAlike (checks o f)
   checks_alike f None h p ts e rest at = by_same (h p ts e rest at)
     where
       by_same : Alike sight f p ts e rest → Alike sight (checks None f) p ts e rest
       by_same m = record { taken = m.taken; parts = m.parts; again = m.again }
-  checks_alike f (Some fault) h p ts e rest at = absurd (never_ended e rest at)
+  checks_alike f (Some fault) h p ts e rest at = refused_alike f fault p ts e rest (halted_is by_check ts e rest at)
 
   pub here_alike : {A : Type 0} (f : ℕ → Grammar A) (p : ℕ) (ts : List Kind) (e : End A) (rest : List Kind) → Alike sight (f p) p ts e rest → Alike sight (here f) p ts e rest
   here_alike f p ts e rest m = record { taken = m.taken; parts = m.parts; again = m.again }
@@ -320,14 +317,14 @@ pub record NoMore (sight : Sight) {A : Type 0} (f : Grammar A) (p : ℕ) (ts : L
 
 pub not_both : {A : Type 0} (s : Scan A) (c : Cause) (r : List Kind) (v : A) (y : Spot) → s ≡ stopped c r → IsRead s v y → ⊥
 not_both s c r v y e (inl h) = cc
-not_both s c r v y e (inr h) = cc
+not_both s c r v y e (inr (rest, h)) = cc
 
 -- where a reading depends on what is alike, whatever tests are asked
 pub no_more_by : {T : (List Kind → Bool) → Type 0} (fails : (t : List Kind → Bool) → T t → t [] ≡ false) (sight : Sight) {A : Type 0} (f : Grammar A) → ClearBy T f → IsAlike sight f
     → (p : ℕ) (ts : List Kind) (c : Cause) (token : Kind) (rest : List Kind) → scan f (spot p ts) ≡ stopped c (token ∷ rest) → NoMore sight f p ts token rest
-no_more_by {T} fails sight {A} f clear again p ts c token rest at = by_alike (again p ts (stops c) (token ∷ rest) at)
+no_more_by {T} fails sight {A} f clear again p ts c token rest at = by_alike (again p ts (stops (by_syntax c)) (token ∷ rest) at)
   where
-    by_alike : Alike sight f p ts (stops c) (token ∷ rest) → NoMore sight f p ts token rest
+    by_alike : Alike sight f p ts (stops (by_syntax c)) (token ∷ rest) → NoMore sight f p ts token rest
     by_alike m = record {
       taken = m.taken;
       parts = m.parts;

@@ -4,7 +4,9 @@ pub mod ClearLooks
 pub mod Exchanges
 pub mod Fines
 pub mod Fronts
+pub mod Keywords
 pub mod Known
+pub mod Lawful
 pub mod Laws
 pub mod Looks
 pub mod Parted

@@ -2,11 +2,12 @@
 use Rattle.std.proofs.Common.{◌≡◌, ◌⊎◌, inl, inr, ℕ, ◌≤◌, Bool, true, false, ◌&&◌, ◌==◌, List, [], ◌∷◌, ◌++◌, length, Option, Some, None, refl, sym, ap, ◌∙◌, arith, subst, if◌then◌else◌}
 use Rattle.std.proofs.lemmas.Bool.{and_parts, eqb-true}
 use Rattle.std.proofs.lemmas.List.{length-append}
+use Rattle.std.specs.Option.{option_or}
 use Rattle.ixp_tokens.specs.declared.shape.Shape.TheVariants as shape
 use Rattle.ixp_tokens.specs.declared.token.Mark.{Mark}
 use Rattle.ixp_tokens.specs.declared.token.Mark.TheVariants as mark
 use Rattle.ixp_tokens.specs.Tokens.{mark_text}
-use Rattle.ixp_tokens.specs.Cutting.{double_mark, bracket, point, operator, or_else, single_mark, Piece, piece, single_piece, double_piece, mark_piece, plain_piece}
+use Rattle.ixp_tokens.specs.Cutting.{double_mark, bracket, point, operator, single_mark, Piece, piece, single_piece, double_piece, mark_piece, plain_piece}
 
 -- two bytes
 
@@ -83,14 +84,14 @@ operator_sound b n e =
     (one_step b 47 mark.Slash n (b == 47) _ refl (λ h. h)
     (none_one b n))))))))) e
 
-either_one : (b : ℕ) (n : Mark) (o other : Option Mark) → (o ≡ Some n → IsOne b n) → (other ≡ Some n → IsOne b n) → or_else o other ≡ Some n → IsOne b n
+either_one : (b : ℕ) (n : Mark) (o other : Option Mark) → (o ≡ Some n → IsOne b n) → (other ≡ Some n → IsOne b n) → option_or o other ≡ Some n → IsOne b n
 either_one b n (Some m) other here again e = here e
 either_one b n None other here again e = again e
 
 pub single_sound : (b : ℕ) (n : Mark) → single_mark b ≡ Some n → IsOne b n
 unfolding single_mark
 single_sound b n e =
-    either_one b n (bracket b) (or_else (point b) (operator b)) (bracket_sound b n)
+    either_one b n (bracket b) (option_or (point b) (operator b)) (bracket_sound b n)
     (either_one b n (point b) (operator b) (point_sound b n) (operator_sound b n)) e
 
 -- how a mark is read

@@ -10,7 +10,7 @@ use Rattle.ixp_tokens.specs.Syntax.{Spot, spot, FineRounds, Fine, Scan, said, st
 -- what is said is said, and a fault is a stop at its place or a refusal
 abbrev pub Agrees : {A : Type 0} → Read A → Scan A → Type 0
 Agrees (Ok a) s = s ≡ said a.0 (spot (length a.1) a.1)
-Agrees (Err fault) s = ((rest : List Kind) × (s ≡ stopped fault.0 rest) × (fault.1 ≡ length rest)) ⊎ (s ≡ refused)
+Agrees (Err fault) s = ((rest : List Kind) × (s ≡ stopped fault.0 rest) × (fault.1 ≡ length rest)) ⊎ ((rest : List Kind) × (s ≡ refused rest))
 
 begins_same : {A : Type 0} (f : Grammar A) (ts : List Kind) → begins_at f (spot (length ts) ts) ≡ begins f ts
 begins_same (gives v) ts = refl
@@ -28,7 +28,7 @@ then_agrees : {A B : Type 0} (r : Read A) (s : Scan A) (f : A × List Kind → R
     → ((a : A) (mid : List Kind) → Agrees (f (a, mid)) (g a (spot (length mid) mid))) → Agrees (r >>= f) (and_then s g)
 then_agrees (Ok (a, mid)) s f g e h = subst (λ x. Agrees (f (a, mid)) (and_then x g)) (sym e) (h a mid)
 then_agrees (Err fault) s f g (inl (rest, e, left)) h = inl (rest, ap (λ x. and_then x g) e, left)
-then_agrees (Err fault) s f g (inr e) h = inr (ap (λ x. and_then x g) e)
+then_agrees (Err fault) s f g (inr (rest, e)) h = inr (rest, ap (λ x. and_then x g) e)
 
 last_agrees : {S A : Type 0} (a : Step S A) (mid : List Kind) → Agrees (stepped (λ (t : S) others. stop {A = A} Unexpected others) (a, mid)) (stepping (λ t y. stopped Unexpected y.1) a (spot (length mid) mid))
 last_agrees (onward t) mid = inl (mid, refl, refl)
@@ -48,9 +48,9 @@ taken_agrees : {A : Type 0} (o : Option A) (k : Kind) (ts : List Kind) → Agree
 taken_agrees (Some v) k ts = refl
 taken_agrees None k ts = inl (k ∷ ts, refl, refl)
 
-checked_agrees : {A : Type 0} (o : Option (Cause × ℕ)) (r : Read A) (s : Scan A) → Agrees r s → Agrees (checked o r) (unless_refused o s)
-checked_agrees None r s h = h
-checked_agrees (Some fault) r s h = inr refl
+checked_agrees : {A : Type 0} (o : Option (Cause × ℕ)) (ts : List Kind) (r : Read A) (s : Scan A) → Agrees r s → Agrees (checked o r) (unless_refused o ts s)
+checked_agrees None ts r s h = h
+checked_agrees (Some fault) ts r s h = inr (ts, refl)
 
 if_agrees : {A : Type 0} (a b : Bool) (r q : Read A) (s t : Scan A) → a ≡ b → Agrees r s → Agrees q t → Agrees (if b then r else q) (if a then s else t)
 if_agrees true true r q s t e h i = h
@@ -65,7 +65,7 @@ agrees (takes c) (k ∷ ts) = taken_agrees (c k) k ts
 agrees (sequence f g) ts = then_agrees (read f ts) (scan f (spot (length ts) ts)) _ _ (agrees f ts) (λ a mid. agrees (g a) mid)
 agrees (choice f g) ts = if_agrees (begins_at f (spot (length ts) ts)) (begins f ts) _ _ _ _ (begins_same f ts) (agrees f ts) (agrees g ts)
 agrees (rounds f s) ts = rounds_agree f (λ t others. agrees (f t) others) (length ts) s ts
-agrees (checks o f) ts = checked_agrees o (read f ts) (scan f (spot (length ts) ts)) (agrees f ts)
+agrees (checks o f) ts = checked_agrees o ts (read f ts) (scan f (spot (length ts) ts)) (agrees f ts)
 agrees (bars p c f) ts = if_agrees (p ts) (p ts) _ _ _ _ refl (inl (ts, refl, refl)) (agrees f ts)
 agrees (unless p f) ts = if_agrees (p ts) (p ts) _ _ _ _ refl (inl (ts, refl, refl)) (agrees f ts)
 agrees (here f) ts = agrees (f (length ts)) ts

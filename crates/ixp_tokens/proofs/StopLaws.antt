@@ -5,12 +5,14 @@ use Rattle.ixp_tokens.specs.declared.fault.Cause.{Cause}
 use Rattle.ixp_tokens.specs.declared.fault.Cause.TheVariants.{Deep}
 use Rattle.ixp_tokens.specs.Grammars.{Grammar}
 use Rattle.ixp_tokens.specs.Reading.{read}
-use Rattle.ixp_tokens.specs.Syntax.{spot, Fine, Scan, stopped, refused, scan, IsFineText, StopsAt}
+use Rattle.ixp_tokens.specs.Syntax.{spot, Fine, Scan, stopped, refused, scan, IsFineText, StopsAt, RefusedAt}
 use Rattle.ixp_tokens.proofs.Clear.{Sight, ClearBy, Clear}
 use Rattle.ixp_tokens.proofs.Seen.{first_alone, clear_first}
 use Rattle.ixp_tokens.proofs.Fines.{one_front, goes_no_end_by}
 use Rattle.ixp_tokens.proofs.Stops.{reads_fine}
 use Rattle.ixp_tokens.proofs.Alike.{IsAlike, alike, NoMore, no_more_by, not_both}
+use Rattle.ixp_tokens.proofs.Quiet.{quiet_of, steady}
+use Rattle.ixp_tokens.proofs.Lawful.{refused_at}
 use Rattle.ixp_tokens.proofs.Scans.{Agrees, agrees}
 use Rattle.ixp_tokens.proofs.Viable.{HasText, Supplied, Goes, goes, Viable, viable}
 
@@ -45,7 +47,7 @@ stops {A} {f} {h} supplied cf ch text p ts c rest e = stop_of f h cf p ts c rest
 
 other_stop : {A : Type 0} (s t : Scan A) (c : Cause) (rest : List Kind) → Goes s t → s ≡ stopped c rest → (c ≡ Deep) ⊎ (t ≡ stopped c rest)
 other_stop s t c rest (inl same) e = inr (sym same ∙ e)
-other_stop s t c rest (inr (inl h)) e = absurd cc
+other_stop s t c rest (inr (inl (r, h))) e = absurd cc
 other_stop s t c rest (inr (inr (r, h))) e = inl cc
 
 -- Where it isn't for want of levels, no text goes on with more levels either.
@@ -59,12 +61,12 @@ stops_for_all {A} {f} {h} supplied ch text p ts c rest e levels = by_other (othe
 
 -- Of a reading: a check refused it, or it stops so.
 pub read_stops : {A : Type 0} {f h : Grammar A} → Supplied A f h → Clear f → Clear h → HasText h → (ts : List Kind) (c : Cause) (left : ℕ) → read f ts ≡ Err (c, left)
-    → (scan f (spot (length ts) ts) ≡ refused) ⊎ (StopsAt (IsFineText h (length ts)) (IsFineText f (length ts)) ts left × (¬ (c ≡ Deep) → StopsAt (IsFineText h (length ts)) (IsFineText h (length ts)) ts left))
+    → RefusedAt f ts ⊎ (StopsAt (IsFineText h (length ts)) (IsFineText f (length ts)) ts left × (¬ (c ≡ Deep) → StopsAt (IsFineText h (length ts)) (IsFineText h (length ts)) ts left))
 read_stops {A} {f} {h} supplied cf ch text ts c left e = by_end (subst (λ r. Agrees r (scan f (spot (length ts) ts))) e (agrees f ts))
   where
-    by_end : ((rest : List Kind) × (scan f (spot (length ts) ts) ≡ stopped c rest) × (left ≡ length rest)) ⊎ (scan f (spot (length ts) ts) ≡ refused)
-        → (scan f (spot (length ts) ts) ≡ refused) ⊎ (StopsAt (IsFineText h (length ts)) (IsFineText f (length ts)) ts left × (¬ (c ≡ Deep) → StopsAt (IsFineText h (length ts)) (IsFineText h (length ts)) ts left))
-    by_end (inr refuses) = inl refuses
+    by_end : ((rest : List Kind) × (scan f (spot (length ts) ts) ≡ stopped c rest) × (left ≡ length rest)) ⊎ ((rest : List Kind) × (scan f (spot (length ts) ts) ≡ refused rest))
+        → RefusedAt f ts ⊎ (StopsAt (IsFineText h (length ts)) (IsFineText f (length ts)) ts left × (¬ (c ≡ Deep) → StopsAt (IsFineText h (length ts)) (IsFineText h (length ts)) ts left))
+    by_end (inr (rest, refuses)) = inl (refused_at (λ t first. first.0) f cf (quiet_of f (steady f cf)) ts rest refuses)
     by_end (inl (rest, at, is)) =
         inr (
           subst (λ n. StopsAt (IsFineText h (length ts)) (IsFineText f (length ts)) ts n) (sym is) (stops supplied cf ch text (length ts) ts c rest at),

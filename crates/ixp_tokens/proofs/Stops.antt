@@ -6,7 +6,7 @@ use Rattle.ixp_tokens.specs.declared.token.Kind.{Kind}
 use Rattle.ixp_tokens.specs.declared.fault.Cause.{Cause}
 use Rattle.ixp_tokens.specs.declared.fault.Cause.TheVariants.{Unexpected}
 use Rattle.ixp_tokens.specs.Grammars.{Step, onward, done, Grammar, gives, takes, sequence, choice, rounds, checks, bars, unless, here}
-use Rattle.ixp_tokens.specs.Syntax.{Spot, spot, FineRounds, Fine, Scan, said, stopped, refused, and_then, begins_at, scanned, stepping, scan_rounds, unless_refused, scan}
+use Rattle.ixp_tokens.specs.Syntax.{Spot, spot, FineRounds, Fine, Halt, by_syntax, by_check, Scan, said, halted, stopped, refused, and_then, begins_at, scanned, stepping, scan_rounds, unless_refused, scan}
 use Rattle.ixp_tokens.proofs.Parted.{Leads}
 use Rattle.ixp_tokens.proofs.Fronts.{or_left, or_right, or_elim}
 use Rattle.ixp_tokens.proofs.Clear.{MayEmpty, MayOpen, GoesOn, ClearBy}
@@ -16,12 +16,14 @@ use Rattle.ixp_tokens.proofs.Sizes.{fewer}
 pub stops_same : (A : Type 0) (c d : Cause) (r s : List Kind) → ◌≡◌ {A = Scan A} (stopped c r) (stopped d s) → (c ≡ d) × (r ≡ s)
 stops_same A c d r s e = (cc, cc)
 
+pub halts_same : (A : Type 0) (c d : Halt) (r s : List Kind) → ◌≡◌ {A = Scan A} (halted c r) (halted d s) → (c ≡ d) × (r ≡ s)
+halts_same A c d r s e = (cc, cc)
+
 -- What is said is fine.
 
 pub then_said : {A B : Type 0} (s : Scan A) (g : A → Spot → Scan B) (v : B) (y : Spot) → and_then s g ≡ said v y → (a : A) × (z : Spot) × (s ≡ said a z) × (g a z ≡ said v y)
 then_said (said a z) g v y e = (a, z, refl, e)
-then_said (stopped c r) g v y e = absurd cc
-then_said refused g v y e = absurd cc
+then_said (halted c r) g v y e = absurd cc
 
 stepping_said : {S A : Type 0} (go : S → Spot → Scan A) (a : Step S A) (z : Spot) (v : A) (y : Spot) → stepping go a z ≡ said v y → ((a ≡ done v) × (z ≡ y)) ⊎ ((t : S) × (a ≡ onward t) × (go t z ≡ said v y))
 stepping_said go (onward t) z v y e = inr (t, refl, e)
@@ -88,21 +90,21 @@ said_fine (here f) x v y e = said_fine (f x.0) x v y e
 -- What is fine is said or refused.
 
 abbrev pub IsRead : {A : Type 0} → Scan A → A → Spot → Type 0
-IsRead s v y = (s ≡ said v y) ⊎ (s ≡ refused)
+IsRead s v y = (s ≡ said v y) ⊎ ((rest : List Kind) × (s ≡ refused rest))
 
 abbrev pub ReadsFine : {A : Type 0} → Grammar A → Type 0
 ReadsFine {A} f = (v : A) (x y : Spot) → Fine f v x y → ¬ (GoesOn f v y.1) → IsRead (scan f x) v y
 
 then_read : {A B : Type 0} (s : Scan A) (g : A → Spot → Scan B) (a : A) (z : Spot) (v : B) (y : Spot) → IsRead s a z → IsRead (g a z) v y → IsRead (and_then s g) v y
 then_read s g a z v y (inl e) (inl h) = inl (ap (λ x. and_then x g) e ∙ h)
-then_read s g a z v y (inl e) (inr h) = inr (ap (λ x. and_then x g) e ∙ h)
-then_read s g a z v y (inr e) h = inr (ap (λ x. and_then x g) e)
+then_read s g a z v y (inl e) (inr (rest, h)) = inr (rest, ap (λ x. and_then x g) e ∙ h)
+then_read s g a z v y (inr (rest, e)) h = inr (rest, ap (λ x. and_then x g) e)
 
 and_both : (a b : Bool) → a ≡ false → b ≡ true → (not a && b) ≡ true
 and_both false b e h = h
 and_both true b e h = absurd cc
 
-fine_begins : {A : Type 0} (f : Grammar A) → Leads f → (v : A) (x y : Spot) → Fine f v x y → begins_at f x ≡ true
+pub fine_begins : {A : Type 0} (f : Grammar A) → Leads f → (v : A) (x y : Spot) → Fine f v x y → begins_at f x ≡ true
 fine_begins (gives w) leads v x y fine = absurd leads
 fine_begins (takes c) leads v (p, []) y fine = absurd fine
 fine_begins (takes c) leads v (p, k ∷ ts) y (is, same) = ap is_some is
@@ -146,27 +148,43 @@ not_true false h = refl
 
 is_read : {A : Type 0} (s t : Scan A) (v : A) (y : Spot) → s ≡ t → IsRead t v y → IsRead s v y
 is_read s t v y e (inl h) = inl (e ∙ h)
-is_read s t v y e (inr h) = inr (e ∙ h)
+is_read s t v y e (inr (rest, h)) = inr (rest, e ∙ h)
 
-sequence_reads : (T : (List Kind → Bool) → Type 0) {A B : Type 0} (f : Grammar B) (g : B → Grammar A) → ClearBy T (sequence f g) → ReadsFine f → ((b : B) → ReadsFine (g b)) → ReadsFine (sequence f g)
-sequence_reads T {A} {B} f g (cf, cg, apart) hf hg v x y (b, z, one, two) ends = then_read (scan f x) _ b z v y (hf b x z one (by_front (front T (g b) (cg b) v z y two))) (hg b v z y two (λ p. ends (b, inl p)))
+-- what is behind the first part, or behind all, doesn't go on with it
+pub first_ends : (T : (List Kind → Bool) → Type 0) {A B : Type 0} (f : Grammar B) (g : B → Grammar A) → ClearBy T (sequence f g) → (b : B) (v : A) (z y : Spot) → Fine (g b) v z y → ¬ (GoesOn (sequence f g) v y.1) → ¬ (GoesOn f b z.1)
+first_ends T f g (cf, cg, apart) b v z y two ends = by_front (front T (g b) (cg b) v z y two)
   where
     by_front : Front (g b) v z y → ¬ (GoesOn f b z.1)
     by_front (inl begins) = apart b z.1 begins
     by_front (inr (empty, same)) = λ p. ends (b, inr (subst (λ (w : Spot). MayEmpty (g b) v w.1) same empty, subst (λ (w : Spot). GoesOn f b w.1) same p))
 
-choice_reads : (T : (List Kind → Bool) → Type 0) {A : Type 0} (f g : Grammar A) → ClearBy T (choice f g) → ReadsFine f → ReadsFine g → ReadsFine (choice f g)
-choice_reads T {A} f g (leads, cf, cg, apart) hf hg v x y (inl fine) ends =
-    is_read _ (scan f x) v y (if_true (begins_at f x) (scan f x) (scan g x) (fine_begins f leads v x y fine)) (hf v x y fine (λ p. ends (inl p)))
-choice_reads T {A} f g (leads, cf, cg, apart) hf hg v x y (inr fine) ends =
-    is_read _ (scan g x) v y (if_false (begins_at f x) (scan f x) (scan g x) (not_true (begins_at f x) (λ e. by_front e (front T g cg v x y fine)))) (hg v x y fine (λ p. ends (inr (inl p))))
+sequence_reads : (T : (List Kind → Bool) → Type 0) {A B : Type 0} (f : Grammar B) (g : B → Grammar A) → ClearBy T (sequence f g) → ReadsFine f → ((b : B) → ReadsFine (g b)) → ReadsFine (sequence f g)
+sequence_reads T f g clear hf hg v x y (b, z, one, two) ends = then_read (scan f x) _ b z v y (hf b x z one (first_ends T f g clear b v z y two ends)) (hg b v z y two (λ p. ends (b, inl p)))
+
+-- the first alternative isn't begun where the other stands
+pub other_begins : (T : (List Kind → Bool) → Type 0) {A : Type 0} (f g : Grammar A) → ClearBy T (choice f g) → (v : A) (x y : Spot) → Fine g v x y → ¬ (GoesOn (choice f g) v y.1) → begins_at f x ≡ false
+other_begins T f g (leads, cf, cg, apart) v x y fine ends = not_true (begins_at f x) (λ e. by_front e (front T g cg v x y fine))
   where
     by_front : begins_at f x ≡ true → Front g v x y → ⊥
     by_front e (inl begins) = apart x.1 (opens f x e) begins
     by_front e (inr (empty, same)) = ends (inr (inr (subst (λ (w : Spot). MayEmpty g v w.1) same empty, subst (λ (w : Spot). MayOpen f w.1) same (opens f x e))))
 
+choice_reads : (T : (List Kind → Bool) → Type 0) {A : Type 0} (f g : Grammar A) → ClearBy T (choice f g) → ReadsFine f → ReadsFine g → ReadsFine (choice f g)
+choice_reads T f g clear hf hg v x y (inl fine) ends = is_read _ (scan f x) v y (if_true (begins_at f x) (scan f x) (scan g x) (fine_begins f clear.0 v x y fine)) (hf v x y fine (λ p. ends (inl p)))
+choice_reads T f g clear hf hg v x y (inr fine) ends =
+    is_read _ (scan g x) v y (if_false (begins_at f x) (scan f x) (scan g x) (other_begins T f g clear v x y fine ends)) (hg v x y fine (λ p. ends (inr (inl p))))
+
 rounds_front : (T : (List Kind → Bool) → Type 0) {S A : Type 0} (f : S → Grammar (Step S A)) (s : S) → ClearBy T (rounds f s) → (n : ℕ) (v : A) (x y : Spot) → FineRounds (λ t. Fine (f t)) n s v x y → Front (rounds f s) v x y
 rounds_front T f s clear n v x y fine = front T (rounds f s) clear v x y (n, fine)
+
+-- nor do the rounds behind one
+pub round_ends : (T : (List Kind → Bool) → Type 0) {S A : Type 0} (f : S → Grammar (Step S A)) → ((s : S) → ClearBy T (rounds f s)) → (n : ℕ) (s t : S) (v : A) (z y : Spot) → FineRounds (λ t. Fine (f t)) n t v z y
+    → ¬ (GoesOn (rounds f s) v y.1) → ¬ (GoesOn (f s) (onward t) z.1)
+round_ends T f clear n s t v z y more ends = by_front (rounds_front T f t (clear t) n v z y more)
+  where
+    by_front : Front (rounds f t) v z y → ¬ (GoesOn (f s) (onward t) z.1)
+    by_front (inl begins) = (clear s).2 s t z.1 begins
+    by_front (inr (empty, same)) = λ p. ends (s, inr (t, subst (λ (w : Spot). MayEmpty (f t) (done v) w.1) same empty, subst (λ (w : Spot). GoesOn (f s) (onward t) w.1) same p))
 
 rounds_reads : (T : (List Kind → Bool) → Type 0) {S A : Type 0} (f : S → Grammar (Step S A)) → ((s : S) → ClearBy T (rounds f s)) → ((s : S) → ReadsFine (f s)) → (n k : ℕ) (s : S) (v : A) (x y : Spot)
     → FineRounds (λ t. Fine (f t)) n s v x y → length x.1 ≤ k → ¬ (GoesOn (rounds f s) v y.1) → IsRead (scan_rounds k (λ t z. scan (f t) z) s x) v y
@@ -175,23 +193,19 @@ rounds_reads T f clear h zero (suc k) s v x y fine fits ends = then_read (scan (
 rounds_reads T f clear h (suc n) zero s v x y (t, z, fine, more) fits ends =
     let less : length z.1 < length x.1 = fewer T (f s) ((clear s).0 s) (onward t) x z fine ((clear s).1 s t) in
     absurd (omega arith)
-rounds_reads T {S} {A} f clear h (suc n) (suc k) s v x y (t, z, fine, more) fits ends =
+rounds_reads T f clear h (suc n) (suc k) s v x y (t, z, fine, more) fits ends =
     let less : length z.1 < length x.1 = fewer T (f s) ((clear s).0 s) (onward t) x z fine ((clear s).1 s t) in
     let fits_less : length z.1 ≤ k = omega arith in
-    then_read (scan (f s) x) _ (onward t) z v y (h s (onward t) x z fine (by_front (rounds_front T f t (clear t) n v z y more))) (rounds_reads T f clear h n k t v z y more fits_less (λ p. ends p))
-  where
-    by_front : Front (rounds f t) v z y → ¬ (GoesOn (f s) (onward t) z.1)
-    by_front (inl begins) = (clear s).2 s t z.1 begins
-    by_front (inr (empty, same)) = λ p. ends (s, inr (t, subst (λ (w : Spot). MayEmpty (f t) (done v) w.1) same empty, subst (λ (w : Spot). GoesOn (f s) (onward t) w.1) same p))
+    then_read (scan (f s) x) _ (onward t) z v y (h s (onward t) x z fine (round_ends T f clear n s t v z y more ends)) (rounds_reads T f clear h n k t v z y more fits_less (λ p. ends p))
 
-checks_reads : {A : Type 0} (f : Grammar A) (o : Option (Cause × ℕ)) (v : A) (x y : Spot) → IsRead (scan f x) v y → IsRead (unless_refused o (scan f x)) v y
+checks_reads : {A : Type 0} (f : Grammar A) (o : Option (Cause × ℕ)) (v : A) (x y : Spot) → IsRead (scan f x) v y → IsRead (unless_refused o x.1 (scan f x)) v y
 checks_reads f None v x y h = h
-checks_reads f (Some fault) v x y h = inr refl
+checks_reads f (Some fault) v x y h = inr (x.1, refl)
 
-takes_reads : {A : Type 0} (o : Option A) (p : ℕ) (k : Kind) (ts : List Kind) (v : A) (y : Spot) → o ≡ Some v → spot (pred p) ts ≡ y → scanned o p k ts ≡ said v y
+pub takes_reads : {A : Type 0} (o : Option A) (p : ℕ) (k : Kind) (ts : List Kind) (v : A) (y : Spot) → o ≡ Some v → spot (pred p) ts ≡ y → scanned o p k ts ≡ said v y
 takes_reads o p k ts v y is same = ap (λ x. scanned x p k ts) is ∙ ap (said v) same
 
-gives_reads : {A : Type 0} (w v : A) (x y : Spot) → v ≡ w → x ≡ y → said w x ≡ said v y
+pub gives_reads : {A : Type 0} (w v : A) (x y : Spot) → v ≡ w → x ≡ y → said w x ≡ said v y
 gives_reads w v x y is same = cc
 
 -- what is fine is said or refused, where nothing that is behind it goes on with it

@@ -4,9 +4,9 @@ use Rattle.ixp_tokens.specs.declared.token.Kind.{Kind}
 use Rattle.ixp_tokens.specs.declared.fault.Cause.{Cause}
 use Rattle.ixp_tokens.specs.declared.fault.Cause.TheVariants.{Unexpected, Deep}
 use Rattle.ixp_tokens.specs.Grammars.{Step, onward, done, Grammar, gives, takes, sequence, choice, rounds, checks, bars, unless, here}
-use Rattle.ixp_tokens.specs.Syntax.{Spot, spot, FineRounds, Fine, Scan, said, stopped, refused, and_then, begins_at, scanned, stepping, scan_rounds, unless_refused, scan}
+use Rattle.ixp_tokens.specs.Syntax.{Spot, spot, FineRounds, Fine, by_syntax, Halt, Scan, said, halted, stopped, refused, and_then, begins_at, scanned, stepping, scan_rounds, unless_refused, scan}
 use Rattle.ixp_tokens.proofs.Fines.{more_rounds}
-use Rattle.ixp_tokens.proofs.Stops.{stops_same, said_fine}
+use Rattle.ixp_tokens.proofs.Stops.{stops_same, halts_same, said_fine}
 
 -- a fine text of it, from any place on
 abbrev pub HasText : {A : Type 0} → Grammar A → Type 0
@@ -37,7 +37,7 @@ PassesOn {A} t f h = (p : ℕ) (taken rest more : List Kind) (c : Cause) (v : A)
 
 -- at the place the first is at its end: it takes no token, and stops as the second does, or as too deep
 abbrev pub IsEnd : {A : Type 0} → Grammar A → Grammar A → Spot → Type 0
-IsEnd f h x = (scan f x ≡ stopped Deep x.1) ⊎ (scan f x ≡ refused) ⊎ ((c : Cause) × (scan f x ≡ stopped c x.1) × (scan h x ≡ stopped c x.1))
+IsEnd f h x = (scan f x ≡ stopped Deep x.1) ⊎ ((rest : List Kind) × (scan f x ≡ refused rest)) ⊎ ((c : Cause) × (scan f x ≡ stopped c x.1) × (scan h x ≡ stopped c x.1))
 
 -- The second is the first, but that it may go on where that one is at its end; and whatever may be left to come in it has a text.
 -- `I` is what is known of what was said before.
@@ -57,7 +57,7 @@ pub data Supplied : (A : Type 0) → Grammar A → Grammar A → Type 1 where
 -- Both readings end alike, unless a check refuses the first, or it stops as too deep.
 
 abbrev pub Goes : {A : Type 0} → Scan A → Scan A → Type 0
-Goes s t = (s ≡ t) ⊎ (s ≡ refused) ⊎ ((rest : List Kind) × (s ≡ stopped Deep rest))
+Goes s t = (s ≡ t) ⊎ ((rest : List Kind) × (s ≡ refused rest)) ⊎ ((rest : List Kind) × (s ≡ stopped Deep rest))
 
 begins_both : {A : Type 0} {f h : Grammar A} → Supplied A f h → (x : Spot) → begins_at f x ≡ begins_at h x
 begins_both (supplied_gives v) x = refl
@@ -73,12 +73,11 @@ begins_both (supplied_end f h begins ends) x = begins x
 
 same_then : {A B : Type 0} (t : Scan B) (g i : B → Spot → Scan A) → ((b : B) (z : Spot) → t ≡ said b z → Goes (g b z) (i b z)) → Goes (and_then t g) (and_then t i)
 same_then (said b z) g i h = h b z refl
-same_then (stopped c r) g i h = inl refl
-same_then refused g i h = inl refl
+same_then (halted c r) g i h = inl refl
 
 then_goes : {A B : Type 0} (s t : Scan B) (g i : B → Spot → Scan A) → Goes s t → ((b : B) (z : Spot) → t ≡ said b z → Goes (g b z) (i b z)) → Goes (and_then s g) (and_then t i)
 then_goes s t g i (inl same) h = subst (λ x. Goes (and_then x g) (and_then t i)) (sym same) (same_then t g i h)
-then_goes s t g i (inr (inl e)) h = inr (inl (ap (λ x. and_then x g) e))
+then_goes s t g i (inr (inl (rest, e))) h = inr (inl (rest, ap (λ x. and_then x g) e))
 then_goes s t g i (inr (inr (rest, e))) h = inr (inr (rest, ap (λ x. and_then x g) e))
 
 step_goes : {S A : Type 0} (go on : S → Spot → Scan A) (a : Step S A) (z : Spot) → ((t : S) → a ≡ onward t → Goes (go t z) (on t z)) → Goes (stepping go a z) (stepping on a z)
@@ -98,13 +97,13 @@ if_goes false false r s t u e h i = i
 if_goes true false r s t u e h i = absurd cc
 if_goes false true r s t u e h i = absurd cc
 
-checks_go : {A : Type 0} (o : Option (Cause × ℕ)) (s t : Scan A) → Goes s t → Goes (unless_refused o s) (unless_refused o t)
-checks_go None s t h = h
-checks_go (Some fault) s t h = inl refl
+checks_go : {A : Type 0} (o : Option (Cause × ℕ)) (ts : List Kind) (s t : Scan A) → Goes s t → Goes (unless_refused o ts s) (unless_refused o ts t)
+checks_go None ts s t h = h
+checks_go (Some fault) ts s t h = inl refl
 
 ends_go : {A : Type 0} (f h : Grammar A) (x : Spot) → IsEnd f h x → Goes (scan f x) (scan h x)
 ends_go f h x (inl e) = inr (inr (x.1, e))
-ends_go f h x (inr (inl e)) = inr (inl e)
+ends_go f h x (inr (inl (rest, e))) = inr (inl (rest, e))
 ends_go f h x (inr (inr (c, e, k))) = inl (e ∙ sym k)
 
 pub goes : {A : Type 0} {f h : Grammar A} → Supplied A f h → (x : Spot) → Goes (scan f x) (scan h x)
@@ -113,7 +112,7 @@ goes (supplied_takes c) x = inl refl
 goes (supplied_sequence f h g i I sf holds sg texts follows) x = then_goes (scan f x) (scan h x) _ _ (goes sf x) (λ b z e. goes (sg b (holds b x z (said_fine h x b z e))) z)
 goes (supplied_choice f g h i sf sg) x = if_goes (begins_at f x) (begins_at h x) _ _ _ _ (begins_both sf x) (goes sf x) (goes sg x)
 goes (supplied_rounds f h s I i sf keeps texts follows) x = rounds_go f h I (λ t j. goes (sf t j)) keeps (length x.1) s i x
-goes (supplied_checks o f h sf) x = checks_go o (scan f x) (scan h x) (goes sf x)
+goes (supplied_checks o f h sf) x = checks_go o x.1 (scan f x) (scan h x) (goes sf x)
 goes (supplied_bars t c f h sf passes) x = if_goes (t x.1) (t x.1) _ _ _ _ refl (inl refl) (goes sf x)
 goes (supplied_unless t f h sf passes) x = if_goes (t x.1) (t x.1) _ _ _ _ refl (inl refl) (goes sf x)
 goes (supplied_here f h sf) x = goes (sf x.0) x
@@ -124,7 +123,7 @@ SaysFine {A} f h = (x : Spot) (v : A) (y : Spot) → scan f x ≡ said v y → F
 
 said_both : {A : Type 0} (s t : Scan A) (v : A) (y : Spot) → Goes s t → s ≡ said v y → t ≡ said v y
 said_both s t v y (inl same) e = sym same ∙ e
-said_both s t v y (inr (inl e)) h = absurd cc
+said_both s t v y (inr (inl (rest, e))) h = absurd cc
 said_both s t v y (inr (inr (rest, e))) h = absurd cc
 
 -- what the first says is fine in the second
@@ -223,17 +222,16 @@ module _ {A B : Type 0} (f : Grammar B) (h G : Grammar A) (b : B) (join : (v : A
                 (join v (spot p ((c.taken ++ c.more) ++ more)) (spot c.last more) (spot q []) again fine);
           }
 
-pub then_stopped : {A B : Type 0} (s : Scan A) (g : A → Spot → Scan B) (c : Cause) (rest : List Kind) → and_then s g ≡ stopped c rest → ((a : A) × (z : Spot) × (s ≡ said a z) × (g a z ≡ stopped c rest)) ⊎ (s ≡ stopped c rest)
-then_stopped (said a z) g c rest e = inl (a, z, refl, e)
-then_stopped {A} {B} (stopped d r) g c rest e = inr (let both = stops_same B d c r rest e in ap (λ x. stopped x r) both.0 ∙ ap (stopped c) both.1)
-then_stopped refused g c rest e = absurd cc
+pub then_halted : {A B : Type 0} (s : Scan A) (g : A → Spot → Scan B) (c : Halt) (rest : List Kind) → and_then s g ≡ halted c rest → ((a : A) × (z : Spot) × (s ≡ said a z) × (g a z ≡ halted c rest)) ⊎ (s ≡ halted c rest)
+then_halted (said a z) g c rest e = inl (a, z, refl, e)
+then_halted {A} {B} (halted d r) g c rest e = inr (let both = halts_same B d c r rest e in ap (λ x. halted x r) both.0 ∙ ap (halted c) both.1)
 
 abbrev Completes : {A : Type 0} → Grammar A → Grammar A → Type 0
 Completes f h = (p : ℕ) (ts : List Kind) (c : Cause) (rest : List Kind) → scan f (spot p ts) ≡ stopped c rest → IsDone h p ts rest
 
 sequence_completes : {A B : Type 0} (f h : Grammar B) (g i : B → Grammar A) (I : B → Type 0) → SaysFine f h → Completes f h → ((b : B) (x y : Spot) → Fine h b x y → I b) → ((b : B) → I b → Completes (g b) (i b))
     → ((b : B) → I b → CanEnd h b (i b)) → ((b : B) → I b → CanGoOn h b (g b) (i b)) → Completes (sequence f g) (sequence h i)
-sequence_completes {A} {B} f h g i I says hf holds hg texts follows p ts cause rest e = by_parts (then_stopped (scan f (spot p ts)) _ cause rest e)
+sequence_completes {A} {B} f h g i I says hf holds hg texts follows p ts cause rest e = by_parts (then_halted (scan f (spot p ts)) _ (by_syntax cause) rest e)
   where
     join : (b : B) (v : A) (x z y : Spot) → Fine h b x z → Fine (i b) v z y → Fine (sequence h i) v x y
     join b v x z y one two = (b, z, one, two)
@@ -284,7 +282,7 @@ module _ {S A : Type 0} (f h : S → Grammar (Step S A)) (I : S → Type 0) (say
 
   round_completes : (s : S) → I s → (go : S → Spot → Scan A) → ((t : S) → I t → (z : Spot) (c : Cause) (rest : List Kind) → go t z ≡ stopped c rest → IsDone (rounds h t) z.0 z.1 rest)
       → (p : ℕ) (ts : List Kind) (c : Cause) (rest : List Kind) → and_then (scan (f s) (spot p ts)) (stepping go) ≡ stopped c rest → IsDone (rounds h s) p ts rest
-  round_completes s i go later p ts cause rest e = by_parts (then_stopped (scan (f s) (spot p ts)) (stepping go) cause rest e)
+  round_completes s i go later p ts cause rest e = by_parts (then_halted (scan (f s) (spot p ts)) (stepping go) (by_syntax cause) rest e)
     where
       by_front : (t : S) (z : Spot) → I t → Fine (h s) (onward t) (spot p ts) z → go t z ≡ stopped cause rest → (front : List Kind) × (ts ≡ front ++ z.1) → IsDone (rounds h s) p ts rest
       by_front t z there fine two (front, parts) =
@@ -340,13 +338,13 @@ takes_completes : {A : Type 0} (c : Kind → Option A) (o : Option A) (p : ℕ) 
 takes_completes c (Some v) p k ts d rest e = absurd cc
 takes_completes {A} c None p k ts d rest e = inl ((stops_same A Unexpected d (k ∷ ts) rest e).1)
 
-checks_completes : {A : Type 0} (f h : Grammar A) (o : Option (Cause × ℕ)) → Completes f h → (p : ℕ) (ts : List Kind) (c : Cause) (rest : List Kind) → unless_refused o (scan f (spot p ts)) ≡ stopped c rest → IsDone (checks o h) p ts rest
+checks_completes : {A : Type 0} (f h : Grammar A) (o : Option (Cause × ℕ)) → Completes f h → (p : ℕ) (ts : List Kind) (c : Cause) (rest : List Kind) → unless_refused o ts (scan f (spot p ts)) ≡ stopped c rest → IsDone (checks o h) p ts rest
 checks_completes f h None hf p ts c rest e = done_map h (checks None h) p ts rest (λ v taken more y parts some x. x) (hf p ts c rest e)
 checks_completes f h (Some fault) hf p ts c rest e = absurd cc
 
 end_completes : {A : Type 0} (f h : Grammar A) (p : ℕ) (ts : List Kind) (c : Cause) (rest : List Kind) → IsEnd f h (spot p ts) → scan f (spot p ts) ≡ stopped c rest → IsDone h p ts rest
 end_completes {A} f h p ts c rest (inl is) e = inl ((stops_same A Deep c ts rest (sym is ∙ e)).1)
-end_completes {A} f h p ts c rest (inr (inl is)) e = absurd cc
+end_completes {A} f h p ts c rest (inr (inl (r, is))) e = absurd cc
 end_completes {A} f h p ts c rest (inr (inr (d, is, other))) e = inl ((stops_same A d c ts rest (sym is ∙ e)).1)
 
 no_tokens_left : {A : Type 0} (c : Kind → Option A) (p : ℕ) (d : Cause) (rest : List Kind) → ◌≡◌ {A = Scan A} (stopped Unexpected []) (stopped d rest) → IsDone (takes c) p [] rest

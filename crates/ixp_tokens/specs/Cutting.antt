@@ -1,6 +1,7 @@
 -- How the code cuts a text, from left to right.
 use Rattle.std.specs.Prelude.{◌≡◌, ◌++◌, ◌<◌, nat_lt, ℕ, ◌-◌, Bool, ◌&&◌, ◌==◌, not, nat_le, false, List, [], ◌∷◌, length, take, Option, Some, None, if◌then◌else◌}
 use Rattle.std.specs.List.{list_any}
+use Rattle.std.specs.Option.{option_and_then, option_or}
 use Rattle.ixp_tokens.specs.declared.runs.Class.{Class}
 use Rattle.ixp_tokens.specs.declared.runs.Class.TheVariants as class
 use Rattle.ixp_tokens.specs.declared.shape.Shape.{Shape}
@@ -22,11 +23,6 @@ behind_run class (b ∷ bs) = if is_in class b then behind_run class bs else b �
 -- what is before the rest
 abbrev pub before : List ℕ → List ℕ → List ℕ
 before text rest = take (length text - length rest) text
-
-infixl 10 ◌>>=◌
-abbrev pub ◌>>=◌ : {A B : Type 0} → Option A → (A → Option B) → Option B
-Some a >>= f = f a
-None >>= f = None
 
 -- what is behind the first `*/`
 abbrev pub slash_or : List ℕ → Option (List ℕ) → Option (List ℕ)
@@ -61,7 +57,7 @@ behind_number mark (b ∷ bs) = if b == mark then behind_digits bs else None
 
 -- what is behind four numbers with dots
 unfoldable pub behind_dotted : List ℕ → Option (List ℕ)
-behind_dotted text = behind_digits text >>= behind_number 46 >>= behind_number 46 >>= behind_number 46
+behind_dotted text = option_and_then (behind_number 46) (option_and_then (behind_number 46) (option_and_then (behind_number 46) (behind_digits text)))
 
 abbrev pub is_colon : ℕ → Bool
 is_colon b = b == 58
@@ -116,12 +112,8 @@ operator b =
     else (if b == 42 then Some mark.Star
     else (if b == 47 then Some mark.Slash else None))))))))
 
-abbrev pub or_else : {A : Type 0} → Option A → Option A → Option A
-or_else (Some a) other = Some a
-or_else None other = other
-
 unfoldable pub single_mark : ℕ → Option Mark
-single_mark b = or_else (bracket b) (or_else (point b) (operator b))
+single_mark b = option_or (bracket b) (option_or (point b) (operator b))
 
 pub data Piece : Type 0 where
   piece : Shape → List ℕ → List ℕ → Piece

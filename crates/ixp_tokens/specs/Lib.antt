@@ -3,6 +3,7 @@ pub mod Reading
 pub mod Pieces
 pub mod Bytes
 pub mod Gaps
+pub mod Vocabulary
 pub mod Words
 pub mod Tokens
 pub mod Cutting

@@ -32,16 +32,39 @@ Fine (bars next cause f) v x y = (next x.1 ≡ false) × Fine f v x y
 Fine (unless next f) v x y = (next x.1 ≡ false) × Fine f v x y
 Fine (here f) v x y = Fine (f x.0) v x y
 
--- How a reading ends: it says a value, syntax stops it at these tokens for a cause, or a check refuses it.
+-- Such tokens stand there, and each check passes too: the same as `Took`, but that the places of a text that is only thought to go
+-- on otherwise keep the numbers that they have in the text.
+abbrev pub Lawful : {A : Type 0} → Grammar A → A → Spot → Spot → Type 0
+Lawful (gives w) v x y = (v ≡ w) × (x ≡ y)
+Lawful (takes class) v (p, []) y = ⊥
+Lawful (takes class) v (p, token ∷ tokens) y = (class token ≡ Some v) × (spot (pred p) tokens ≡ y)
+Lawful (sequence {A = B} f g) v x y = (b : B) × (z : Spot) × Lawful f b x z × Lawful (g b) v z y
+Lawful (choice f g) v x y = Lawful f v x y ⊎ Lawful g v x y
+Lawful (rounds f s) v x y = (n : ℕ) × FineRounds (λ t. Lawful (f t)) n s v x y
+Lawful (checks fault f) v x y = (fault ≡ None) × Lawful f v x y
+Lawful (bars next cause f) v x y = (next x.1 ≡ false) × Lawful f v x y
+Lawful (unless next f) v x y = (next x.1 ≡ false) × Lawful f v x y
+Lawful (here f) v x y = Lawful (f x.0) v x y
+
+-- Why a reading halts: syntax stops it for a cause, or a check refuses it.
+pub data Halt : Type 0 where
+  by_syntax : Cause → Halt
+  by_check : Halt
+
+-- How a reading ends: it says a value, or halts where these tokens are next.
 pub data Scan (A : Type 0) : Type 0 where
   said : A → Spot → Scan A
-  stopped : Cause → List Kind → Scan A
-  refused : Scan A
+  halted : Halt → List Kind → Scan A
+
+abbrev pub stopped : {A : Type 0} → Cause → List Kind → Scan A
+stopped cause rest = halted (by_syntax cause) rest
+
+abbrev pub refused : {A : Type 0} → List Kind → Scan A
+refused rest = halted by_check rest
 
 abbrev pub and_then : {A B : Type 0} → Scan A → (A → Spot → Scan B) → Scan B
 and_then (said a x) f = f a x
-and_then (stopped cause rest) f = stopped cause rest
-and_then refused f = refused
+and_then (halted why rest) f = halted why rest
 
 abbrev pub begins_at : {A : Type 0} → Grammar A → Spot → Bool
 begins_at (gives v) x = false
@@ -67,9 +90,9 @@ abbrev pub scan_rounds : {S A : Type 0} → ℕ → (S → Spot → Scan (Step S
 scan_rounds zero round s x = and_then (round s x) (stepping (λ t y. stopped Unexpected y.1))
 scan_rounds (suc n) round s x = and_then (round s x) (stepping (scan_rounds n round))
 
-abbrev pub unless_refused : {A : Type 0} → Option (Cause × ℕ) → Scan A → Scan A
-unless_refused None s = s
-unless_refused (Some fault) s = refused
+abbrev pub unless_refused : {A : Type 0} → Option (Cause × ℕ) → List Kind → Scan A → Scan A
+unless_refused None rest s = s
+unless_refused (Some fault) rest s = refused rest
 
 -- the reading, by what ends it
 abbrev pub scan : {A : Type 0} → Grammar A → Spot → Scan A
@@ -79,7 +102,7 @@ scan (takes class) (p, token ∷ tokens) = scanned (class token) p token tokens
 scan (sequence f g) x = and_then (scan f x) (λ a y. scan (g a) y)
 scan (choice f g) x = if begins_at f x then scan f x else scan g x
 scan (rounds f s) x = scan_rounds (length x.1) (λ t y. scan (f t) y) s x
-scan (checks fault f) x = unless_refused fault (scan f x)
+scan (checks fault f) x = unless_refused fault x.1 (scan f x)
 scan (bars next cause f) x = if next x.1 then stopped cause x.1 else scan f x
 scan (unless next f) x = if next x.1 then stopped Unexpected x.1 else scan f x
 scan (here f) x = scan (f x.0) x
@@ -87,6 +110,10 @@ scan (here f) x = scan (f x.0) x
 -- a fine text, whose first place has this number
 abbrev pub IsFineText : {A : Type 0} → Grammar A → ℕ → List Kind → Type 0
 IsFineText {A} g number tokens = (v : A) × (last : ℕ) × Fine g v (spot number tokens) (spot last [])
+
+-- a lawful text, whose first place has this number
+abbrev pub IsLawfulText : {A : Type 0} → Grammar A → ℕ → List Kind → Type 0
+IsLawfulText {A} g number tokens = (v : A) × (last : ℕ) × Lawful g v (spot number tokens) (spot last [])
 
 -- With so many tokens left no text goes on: what is before the place is the front of a text of `Longer`, and with the token that
 -- stands there, or without one where none is left, it is none of a text of `Text`. Mostly both are the same texts.
@@ -98,3 +125,13 @@ pub record StopsAt (Longer Text : List Kind → Type 0) (tokens : List Kind) (le
   pub begins : (more : List Kind) × Longer (front ++ more)
   pub no_more : (token : Kind) (others more : List Kind) → rest ≡ token ∷ others → ¬ (Text (front ++ token ∷ more))
   pub not_in : ¬ (Text tokens)
+
+-- A check refuses a reading where `rest` is next. What is before that place is, with the token that stands there, the front of no
+-- lawful text, whatever is behind it; and the tokens are none themselves.
+pub record RefusedAt {A : Type 0} (g : Grammar A) (tokens : List Kind) : Type 0 where
+  pub front : List Kind
+  pub rest : List Kind
+  pub parts : tokens ≡ front ++ rest
+  pub refuses : scan g (spot (length tokens) tokens) ≡ refused rest
+  pub no_more : (token : Kind) (others more : List Kind) → rest ≡ token ∷ others → ¬ (IsLawfulText g (length tokens) (front ++ token ∷ more))
+  pub not_in : ¬ (IsLawfulText g (length tokens) tokens)

@@ -5,8 +5,7 @@ ghost use Rattle.ixp_tokens.specs.Tokens.{word_kind, Says, Stands, Tokens};
 
 use crate::gap::behind_gap;
 use crate::shape::{Shape, piece_at, plain_behind};
-use crate::word::is_keyword;
-use crate::{Boxed, Kind, Token};
+use crate::{Boxed, Keyword, Kind, Token};
 use ixp_num::{Items, Name, read_addr, read_asn, read_prefix};
 use std::alloc::{AllocError, Global};
 
@@ -17,12 +16,11 @@ fn word_kind(alloc: Global, word: &[u8]) -> Result<Kind, AllocError>
     if !Name::is_name(word) {
         return Ok(Kind::BadByte);
     }
-    let name = Boxed::new(alloc, Name::new(alloc, word)?)?;
-    if is_keyword(word) {
-        Ok(Kind::Word(name))
-    } else {
-        Ok(Kind::Name(name))
+    if let Some(keyword) = Keyword::of(word) {
+        return Ok(Kind::Word(keyword));
     }
+    let name = Boxed::new(alloc, Name::new(alloc, word)?)?;
+    Ok(Kind::Name(name))
 }
 
 /// What a piece says.

@@ -29,4 +29,4 @@ pub use take::{
     word_at,
 };
 pub use token::{Kind, Mark, Token};
-pub use word::{is_foreign, is_keyword};
+pub use word::{Keyword, is_foreign};

@@ -6,7 +6,7 @@ ghost use Rattle.ixp_tokens.specs.Reading.{read, kinds, Gives};
 ghost use Rattle.ixp_tokens.specs.declared.fault.Cause.TheVariants.{Unexpected};
 ghost use Rattle.ixp_tokens.specs.declared.fault.Fault.TheVariants.{Stop};
 
-use crate::{Cause, Fault, Kind, Mark, Token};
+use crate::{Cause, Fault, Keyword, Kind, Mark, Token};
 use ixp_num::{Addr, Name};
 
 /// The reading stops at the first of these tokens, or at the end where there is none.
@@ -42,7 +42,7 @@ pub fn mark_at(mark: Mark, tokens: &[Token]) -> Result<&[Token], Fault>
 }
 
 /// Whether the keyword is this one.
-fn is_same(found: &Name, word: &[u8]) -> bool
+fn is_same(found: &Keyword, word: &[u8]) -> bool
     ensures { result ≡ same_word found.now word.now }
 {
     found.as_bytes() == word
@@ -57,7 +57,7 @@ pub fn after_word<'t>(word: &[u8], tokens: &'t [Token]) -> Option<&'t [Token]>
         return None;
     };
     match &first.kind {
-        Kind::Word(found) if is_same(found.get(), word) => Some(rest),
+        Kind::Word(found) if is_same(found, word) => Some(rest),
         _ => None,
     }
 }
@@ -130,7 +130,7 @@ pub fn is_word(word: &[u8], token: &Token) -> bool
     ensures { result ≡ is_word word.now token.now.kind }
 {
     match &token.kind {
-        Kind::Word(found) => is_same(found.get(), word),
+        Kind::Word(found) => is_same(found, word),
         _ => false,
     }
 }

@@ -3,7 +3,7 @@ ghost use Rattle.std.specs.Prelude.{◌≡◌};
 ghost use Rattle.ixp_tokens.specs.Pieces.{rank, same_mark};
 ghost use Rattle.ixp_tokens.specs.Tokens.{is_last};
 
-use crate::Boxed;
+use crate::{Boxed, Keyword};
 use ixp_num::{Addr, Items, Name, Prefix};
 
 /// A mark of one or two characters.
@@ -115,7 +115,7 @@ pub enum Kind {
     /// A name that is no keyword.
     Name(Boxed<Name>),
     /// A keyword.
-    Word(Boxed<Name>),
+    Word(Keyword),
     Number(u32),
     Addr(Boxed<Addr>),
     Prefix(Boxed<Prefix>),

@@ -1,8 +1,10 @@
 //! Keywords.
-ghost use Rattle.std.specs.Prelude.{◌≡◌};
-ghost use Rattle.std.specs.List.{list_any};
+ghost use Rattle.std.specs.Prelude.{◌≡◌, map, position};
 ghost use Rattle.ixp_tokens.specs.Pieces.{same_word};
-ghost use Rattle.ixp_tokens.specs.Words.{is_profile_word, is_foreign_word, is_keyword};
+ghost use Rattle.ixp_tokens.specs.Vocabulary.{profile_words, foreign_words};
+ghost use Rattle.ixp_tokens.specs.Words.{IsKeyword, is_foreign_word};
+
+use std::marker::Model;
 
 /// The words of this profile.
 const PROFILE_WORDS: [&[u8]; 60] = [
@@ -92,17 +94,70 @@ const FOREIGN_WORDS: [&[u8]; 20] = [
     b"bgp_ext_community",
 ];
 
-fn is_one_of(word: &[u8], words: &[&[u8]]) -> bool
-    ensures { result ≡ list_any (λ known. same_word word.now known.now) words.now }
+fn profile_words() -> &'static [&'static [u8]]
+    ensures { map (λ w. w.now) result.now ≡ profile_words }
 {
-    words.iter().any(|known| word == *known)
+    &PROFILE_WORDS
 }
 
-#[tactic(auto, unfolding(crate::specs::Words::is_profile_word))]
-fn is_profile_word(word: &[u8]) -> bool
-    ensures { result ≡ is_profile_word word.now }
+fn foreign_words() -> &'static [&'static [u8]]
+    ensures { map (λ w. w.now) result.now ≡ foreign_words }
 {
-    is_one_of(word, &PROFILE_WORDS)
+    &FOREIGN_WORDS
+}
+
+/// A keyword, of this profile or one that it leaves out. It does not allocate.
+#[derive(Drop)]
+pub struct Keyword {
+    number: usize,
+}
+
+impl Model for Keyword {
+    ghost use Rattle.std.specs.Prelude.{List, ℕ, ◌<◌, [], slice_index_or};
+    ghost use Rattle.ixp_tokens.specs.Vocabulary.{all_words};
+
+    ghost Value = { List ℕ };
+
+    ghost view = { λ k. slice_index_or all_words k.number [] };
+
+    ghost invariant = { λ k. k.number < 80 };
+}
+
+/// Where the word stands among these, if it does.
+fn place_of(word: &[u8], words: &[&[u8]]) -> Option<usize>
+    ensures { result ≡ position (λ known. same_word word.now known.now) words.now }
+{
+    words.iter().position(|known| word == *known)
+}
+
+impl Keyword {
+    /// The keyword that the word is, if it is one.
+    pub fn of(word: &[u8]) -> Option<Keyword>
+        ensures { IsKeyword word.now result }
+    {
+        let words = profile_words();
+        match place_of(word, words) {
+            Some(number) => Some(Keyword { number }),
+            None => match place_of(word, foreign_words()) {
+                Some(number) => Some(Keyword {
+                    number: words.len() + number,
+                }),
+                None => None,
+            },
+        }
+    }
+
+    /// The bytes of the keyword.
+    pub fn as_bytes(&self) -> &'static [u8]
+        ensures { result.now ≡ self.now }
+    {
+        let words = profile_words();
+        if self.number < words.len() {
+            words[self.number]
+        } else {
+            foreign_words()[self.number - words.len()]
+        }
+    }
 }
 
 /// Whether it is a keyword of BIRD 2's that this profile leaves out.
@@ -110,12 +165,5 @@ fn is_profile_word(word: &[u8]) -> bool
 pub fn is_foreign(word: &[u8]) -> bool
     ensures { result ≡ is_foreign_word word.now }
 {
-    is_one_of(word, &FOREIGN_WORDS)
-}
-
-/// Whether it is a keyword, of this profile or one that it leaves out.
-pub fn is_keyword(word: &[u8]) -> bool
-    ensures { result ≡ is_keyword word.now }
-{
-    is_profile_word(word) || is_foreign(word)
+    place_of(word, foreign_words()).is_some()
 }

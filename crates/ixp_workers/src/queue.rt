@@ -40,7 +40,7 @@ impl<L> Line<L> {
         self.links.is_empty() && !self.closed
     }
 
-    // Puts a link at the end. It takes no memory.
+    // Puts a link at the end. It does not allocate.
     fn put(&mut self, link: L)
         requires { deque_len self.old.links < 64 }
     {

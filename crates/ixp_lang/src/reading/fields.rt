@@ -1,12 +1,14 @@
 //! The fields of a route text.
-ghost use Rattle.std.specs.Prelude.{◌≡◌, ◌==◌, position};
-ghost use Rattle.ixp_lang.specs.RouteReading.{Tells, before_blank, from_blank, after_blank, stop_at, in_path, path_at, route_end, FromHop, FromPath, ReadsRoute};
+ghost use Rattle.std.specs.Prelude.{◌≡◌, ◌==◌, position, take};
+ghost use Rattle.std.specs.List.{list_any};
+ghost use Rattle.ixp_num.specs.Reading.{number_at};
+ghost use Rattle.ixp_lang.specs.RouteReading.{Tells, before_blank, from_blank, after_blank, is_above, first_above, bits_in, halt_place, stop_at, in_path, path_at, route_end, FromHop, FromPath, ReadsRoute};
 
 use crate::Route;
 use crate::reading::fault::Stop;
 use crate::reading::lists::list_of;
 use crate::reading::numbers::{Asns, Pairs, Triples};
-use ixp_num::{Addr, Asn, Items, NumFault, Prefix, mark_of, read_addr, read_prefix};
+use ixp_num::{Addr, Asn, Items, NumFault, Prefix, mark_of, number_of, read_addr, read_prefix};
 use std::alloc::Global;
 
 /// Where the first blank stands.
@@ -24,12 +26,65 @@ fn at_blank(t: &[u8]) -> (&[u8], &[u8])
     t.split_at(first_blank(t).unwrap_or(t.len()))
 }
 
+/// Whether the number at the front, behind the byte `before`, is above its bound, whatever follows it. One beside a dot is a part
+/// of an IPv4 address and at most 255; one behind a slash is a length, and at most `bits`.
+fn is_above(bits: u8, before: u8, text: &[u8]) -> bool
+    ensures { result ≡ is_above bits before (number_at text.now) }
+{
+    let Ok((number, rest)) = number_of(text) else {
+        return false;
+    };
+    let beside_dot = before == b'.' || matches!(rest, [b'.', ..]);
+    (beside_dot && 255 < number) || (before == b'/' && u64::from(bits) < number)
+}
+
+/// Where the first such number begins.
+fn first_above(bits: u8, front: &[u8]) -> Option<usize>
+    ensures { result ≡ first_above bits 32 0 front.now }
+{
+    let mut before = b' ';
+    let mut place = 0;
+    let mut left = front;
+    'bytes: while let [byte, rest @ ..] = left {
+        if !before.is_ascii_digit() && is_above(bits, before, left) {
+            return Some(place);
+        }
+        before = *byte;
+        place += 1;
+        left = rest;
+    }
+    None
+}
+
+fn has_colon(front: &[u8]) -> bool
+    ensures { result ≡ list_any (λ b. b == 58) front.now }
+{
+    front.iter().any(|b| *b == b':')
+}
+
+/// The bits of an address, by whether a colon stands in it.
+fn bits_in(front: &[u8]) -> u8
+    ensures { result ≡ bits_in front.now }
+{
+    if has_colon(front) { 128 } else { 32 }
+}
+
+/// The first fault of an address, with which the text begins and which no address goes on at this place: a number above its bound
+/// before it, or the place.
+fn halt_place(t: &[u8], at: usize) -> usize
+    ensures { result ≡ halt_place (take at t.now) at }
+{
+    let front = if at <= t.len() { &t[..at] } else { t };
+    first_above(bits_in(front), front).unwrap_or(at)
+}
+
 /// How many bytes are left at the fault of a field, of which the text begins.
 fn left_at(t: &[u8], fault: NumFault) -> Stop
     ensures { result ≡ stop_at t.now fault }
 {
     match fault {
-        NumFault::Text { at } | NumFault::Range { at } => Stop::Text(t.len().saturating_sub(at)),
+        NumFault::Text { at } => Stop::Text(t.len().saturating_sub(halt_place(t, at))),
+        NumFault::Range { at } => Stop::Text(t.len().saturating_sub(at)),
         NumFault::HostBits => Stop::Text(t.len()),
     }
 }

@@ -4,7 +4,7 @@ use Rattle.ixp_lang.specs.declared.stmt.Label.{Label}
 use Rattle.ixp_lang.specs.declared.stmt.Stmt.{Stmt}
 use Rattle.ixp_lang.specs.Trees.{stmts}
 use Rattle.ixp_lang.specs.Views.{stmt_view, stmts_view}
-use Rattle.ixp_explain.proofs.Weights.{stmt_weight, stmts_weight, stmt_below, arm_below}
+use Rattle.ixp_lang.proofs.Weights.{stmt_weight, stmts_weight, stmt_below, arm_below}
 use Rattle.ixp_explain.proofs.kinds.+returned.Goals as goal
 
 pub returned_in-returned_by-requires : goal.returned_in-returned_by-requires

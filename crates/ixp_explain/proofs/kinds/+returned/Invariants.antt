@@ -2,7 +2,7 @@ use Rattle.std.proofs.Common.{◌≡◌, drop}
 use Rattle.ixp_lang.specs.Trees.{stmts}
 use Rattle.ixp_lang.specs.Views.{stmt_view, stmts_view, arms_view}
 use Rattle.ixp_explain.specs.Kinds.{returned_in, returned_arms}
-use Rattle.ixp_explain.proofs.Weights.{stmt_weight, stmts_weight, arms_weight}
+use Rattle.ixp_lang.proofs.Weights.{stmt_weight, stmts_weight, arms_weight}
 use Rattle.ixp_explain.proofs.kinds.+returned.Given as goal
 
 abbrev pub invariant-returned_in-each : goal.invariant-returned_in-each

@@ -1,5 +1,5 @@
 use Rattle.std.proofs.Common.{◌∙◌}
-use Rattle.ixp_eval.proofs.Naming.{same_bytes}
+use Rattle.ixp_lang.proofs.SameNames.{same_bytes}
 use Rattle.ixp_explain.proofs.kinds.same_name.Goals as goal
 
 pub returns : goal.returns

@@ -21,7 +21,7 @@ abbrev pub invariant-expression-parts : goal.invariant-expression-parts
 invariant-expression-parts l = record {
   reads : (k : ℕ) × (length l.left ≤ k)
       × (read_rounds k (λ c ts. read (chain_part (unary_form (place_of l.cx) l.depth) (joint_mark l.chain.joint) (other_mark l.chain.joint) (joined_by l.chain.joint) c) ts) (chain_of l.chain) (kinds l.left)
-      ≡ read (expression_form (place_of l.cx) l.depth) (kinds l.fn.tokens));
+      ≡ read (expression_form (place_of l.cx) l.depth l.fn.wanted) (kinds l.fn.tokens));
   shorter : length l.left < length l.fn.tokens;
 }
 

@@ -7,7 +7,7 @@ use Rattle.ixp_lang.specs.Trees.{StmtTree, stmts, case_of}
 use Rattle.ixp_lang.specs.Views.{expr_view, stmt_view, stmts_view, arms_view}
 use Rattle.ixp_lang.proofs.CaseView.{view-Case}
 use Rattle.ixp_print.specs.Texts.{stmt_text}
-use Rattle.ixp_print.proofs.Weights.{stmt_weight, stmts_weight, stmt_below, arm_below}
+use Rattle.ixp_lang.proofs.Weights.{stmt_weight, stmts_weight, stmt_below, arm_below}
 use Rattle.ixp_print.proofs.stmt.+stmt.Goals as goal
 
 pub put_stmts-put_stmt-requires : goal.put_stmts-put_stmt-requires

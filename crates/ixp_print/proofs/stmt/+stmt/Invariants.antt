@@ -2,7 +2,7 @@ use Rattle.std.proofs.Common.{◌≡◌, ◌+◌, ◌++◌, drop}
 use Rattle.ixp_lang.specs.Trees.{stmts}
 use Rattle.ixp_lang.specs.Views.{stmt_view, stmts_view, arms_view}
 use Rattle.ixp_print.specs.Texts.{stmts_text, arms_text}
-use Rattle.ixp_print.proofs.Weights.{stmt_weight, stmts_weight, arms_weight}
+use Rattle.ixp_lang.proofs.Weights.{stmt_weight, stmts_weight, arms_weight}
 use Rattle.ixp_print.proofs.stmt.+stmt.Given as goal
 
 abbrev pub invariant-put_stmts-each : goal.invariant-put_stmts-each

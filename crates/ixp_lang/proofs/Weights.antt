@@ -1,4 +1,4 @@
--- How much there is to write: the printer goes down it.
+-- How much there is in statements: what goes down them ends by it.
 use Rattle.std.proofs.Common.{ℕ, suc, zero, ◌+◌, ◌<◌, List, [], ◌∷◌, length, get_or, Vec, arith}
 use Rattle.std.specs.declared.alloc.Global.{Global}
 use Rattle.ixp_lang.specs.declared.stmt.Stmt.{Stmt}
