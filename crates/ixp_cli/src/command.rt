@@ -111,7 +111,7 @@ fn demo_of(word: &[u8]) -> Option<Command>
 }
 
 /// The command that a word and a handle are, or a word and a number of members.
-#[tactic(auto, using(ixp_trial::proofs::Handles::handle_is_name))]
+#[tactic(auto, using(ixp_registry::proofs::HandleNames::handle_is_name))]
 fn command_with(alloc: Global, word: &[u8], other: &[u8]) -> Result<Option<Command>, AllocError>
     ensures ok { IfOk result (λ c. c ≡ command_with word.now other.now) }
     ensures err { IfErr result (λ e. command_with word.now other.now ≡ Some (Ask (AskFor other.now))) }

@@ -66,7 +66,8 @@ all_at : (P : Session → Type 0) (front : List Session) (s : Session) (back : L
 all_at P [] s back all = all.0
 all_at P (t ∷ front) s back all = all_at P front s back all.1
 
-others_in_front : (front : List Session) (s : Session) (back : List Session) → Numbered (front ++ s ∷ back) → AllByRecursion (HasOther s.interface.number) front
+-- no session before it has its name
+pub others_in_front : (front : List Session) (s : Session) (back : List Session) → Numbered (front ++ s ∷ back) → AllByRecursion (HasOther s.interface.number) front
 others_in_front [] s back n = tt
 others_in_front (t ∷ front) s back n = (
   same_numbered [] t.interface.number s.interface.number n.0 (small_at front s back n.2)

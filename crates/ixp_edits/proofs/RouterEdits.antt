@@ -44,7 +44,8 @@ use Rattle.ixp_edits.specs.Edits.{SettingsFit}
 use Rattle.ixp_edits.specs.Tests.{first_of}
 use Rattle.ixp_edits.specs.Routers.{is_no_router_asn, blackhole_has_family, blackhole_is_host, holds_blackhole, is_beyond_bounds, with_router, add_router_tests, with_settings, set_routers, settings_tests, set_router_tests, without_router}
 use Rattle.ixp_edits.proofs.Passing.{no_refusal, passed, holds as allowed, is_there, there, nobody_has, has_room, is_light, changed_there}
-use Rattle.ixp_edits.proofs.Numbers.{never, handle_is_name}
+use Rattle.ixp_registry.proofs.HandleNames.{handle_is_name}
+use Rattle.ixp_edits.proofs.Numbers.{never}
 use Rattle.ixp_edits.proofs.Addresses.{holds_none}
 use Rattle.ixp_edits.proofs.Frames.{Shared, routers_on}
 

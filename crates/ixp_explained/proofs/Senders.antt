@@ -1,6 +1,5 @@
 -- The session of an interface stands in the texts.
-use Rattle.std.proofs.Common.{◌≡◌, ℕ, ◌<◌, ◌^◌, ◌==◌, false, List, [], ◌∷◌, ◌++◌, map, append-nil, Some, sym, ap, ◌∙◌, subst}
-use Rattle.std.specs.List.{AllByRecursion}
+use Rattle.std.proofs.Common.{◌≡◌, ℕ, List, [], ◌∷◌, ◌++◌, map, append-nil, Some, sym, ap, ◌∙◌, subst}
 use Rattle.ixp_lang.specs.Walks.{bgp_sessions, session_named}
 use Rattle.ixp_registry.specs.declared.registry.Registry.{Registry}
 use Rattle.ixp_registry.specs.declared.router.Router.{Router}
@@ -9,29 +8,11 @@ use Rattle.ixp_registry.specs.Valid.{Valid}
 use Rattle.ixp_compile.specs.Fragment.{bgp_name}
 use Rattle.ixp_compile.specs.Generated.{header_inputs, inputs, allowed_set, covered_set, session_part, footer, generated, own_part, router_sessions}
 use Rattle.ixp_compile.specs.Header.{header}
-use Rattle.ixp_compile.proofs.FatesWalked.{Numbered}
-use Rattle.ixp_compile.proofs.NamesApart.{same_numbered}
+use Rattle.ixp_compile.proofs.FatesWalked.{Numbered, others_in_front}
 use Rattle.ixp_compile.proofs.SessionsKept.{session_number, standing, sessions_numbered}
 use Rattle.ixp_compile.proofs.Walking.{bgp, text_sessions, session_there}
-use Rattle.ixp_compile.proofs.WholeText.{HasOther, text}
+use Rattle.ixp_compile.proofs.WholeText.{text}
 use Rattle.ixp_explain.specs.Explained.{session_in}
-
-small_at : (front : List Session) (s : Session) (back : List Session) → Numbered (front ++ s ∷ back) → s.interface.number < 2 ^ 64
-small_at [] s back n = n.0
-small_at (t ∷ front) s back n = small_at front s back n.2
-
-all_at : (P : Session → Type 0) (front : List Session) (s : Session) (back : List Session) → AllByRecursion P (front ++ s ∷ back) → P s
-all_at P [] s back all = all.0
-all_at P (t ∷ front) s back all = all_at P front s back all.1
-
--- no session before it has its name
-others_before : (front : List Session) (s : Session) (back : List Session) → Numbered (front ++ s ∷ back) → AllByRecursion (HasOther s.interface.number) front
-others_before [] s back n = tt
-others_before (t ∷ front) s back n = (
-  same_numbered [] t.interface.number s.interface.number n.0 (small_at front s back n.2)
-      ∙ all_at (λ u. (t.interface.number == u.interface.number) ≡ false) front s back n.1,
-  others_before front s back n.2,
-)
 
 module _ (r : Registry) (router : Router) (n : ℕ) (s : Session) (its : session r router n ≡ Some s) where
   pub sender_in_whole : Valid r → session_in (generated r router) n ≡ Some (bgp r router s)
@@ -39,7 +20,7 @@ module _ (r : Registry) (router : Router) (n : ℕ) (s : Session) (its : session
       ap (λ m. session_named (bgp_sessions (generated r router)) (bgp_name m)) (sym (session_number r router n s its))
       ∙ ap (λ bs. session_named bs (bgp_name s.interface.number)) (text_sessions r router allowed_set covered_set (router_sessions r router))
       ∙ subst (λ (ts : List Session). session_named (map (bgp r router) ts) (bgp_name s.interface.number) ≡ Some (bgp r router s)) at.2
-      (session_there r router allowed_set covered_set at.0 s at.1 (others_before at.0 s at.1 (subst Numbered (sym at.2) (sessions_numbered r router valid))))
+      (session_there r router allowed_set covered_set at.0 s at.1 (others_in_front at.0 s at.1 (subst Numbered (sym at.2) (sessions_numbered r router valid))))
     where
       at : (front : List Session) × (back : List Session) × (front ++ s ∷ back ≡ router_sessions r router)
       at = standing r router n s its

@@ -2,6 +2,7 @@
 -- chapters "Architecture" and "Protocols", BGP and Pipe). The route is taken alone: no other route competes.
 use Rattle.std.specs.Prelude.{ℕ, true, false, ◌&&◌, List, [], ◌∷◌, reverse, Option, Some, None, Result, Ok, Err, if◌then◌else◌}
 use Rattle.ixp_num.specs.declared.roa.Roa.{Roa}
+pub use Rattle.ixp_num.specs.Reading.{◌>>=◌}
 use Rattle.ixp_lang.specs.declared.route.Route.{Route}
 use Rattle.ixp_lang.specs.declared.route.Verdict.{Verdict}
 use Rattle.ixp_lang.specs.declared.route.Verdict.TheVariants.{Accept, Reject}
@@ -13,12 +14,6 @@ use Rattle.ixp_lang.specs.declared.item.Bgp.{Bgp}
 use Rattle.ixp_lang.specs.Faults.{Fault, no_filter}
 use Rattle.ixp_lang.specs.Trees.{ItemTree, router_id_item, table_item, define_item, function_item, filter_item, device_item, pipe_item, bgp_item}
 use Rattle.ixp_lang.specs.Meaning.{Environment, same_name, filter_end}
-
-infixl 10 ◌>>=◌
--- goes on where nothing failed
-abbrev pub ◌>>=◌ : {A B : Type 0} → Result A Fault → (A → Result B Fault) → Result B Fault
-(Ok x) >>= f = f x
-(Err e) >>= f = Err e
 
 -- the sessions and the pipes, in the order of the text
 abbrev pub bgp_sessions : List ItemTree → List Bgp

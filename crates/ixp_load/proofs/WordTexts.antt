@@ -10,7 +10,7 @@ use Rattle.ixp_registry.specs.declared.members.Owner.TheVariants.{Staff, Member 
 use Rattle.ixp_registry.specs.Alphabets.{is_handle}
 use Rattle.ixp_registry.specs.Codes.{edit_word}
 use Rattle.ixp_registry.specs.Widths.{owner_number}
-use Rattle.ixp_edits.proofs.Numbers.{handle_is_name}
+use Rattle.ixp_registry.proofs.HandleNames.{handle_is_name}
 use Rattle.ixp_lines.specs.Fields.{is_break, Number, ANumber, Handle, AHandle}
 use Rattle.ixp_lines.specs.Lines.{owner_word}
 use Rattle.ixp_lines.specs.Reading.{parted_at}

@@ -206,7 +206,7 @@ fn public_of(word: &[u8]) -> Option<PublicKind>
     public_among(PUBLIC, word)
 }
 
-#[tactic(auto, using(ixp_edits::proofs::Numbers::handle_is_name))]
+#[tactic(auto, using(ixp_registry::proofs::HandleNames::handle_is_name))]
 fn handle_of(alloc: Global, text: &[u8]) -> Result<Option<Subject>, AllocError>
     ensures told { is_handle text.now ≡ true → IfOk result (λ o. o ≡ Some (Handle text.now)) }
     ensures form { IfOk result (λ o. IfSome o (HasForm RouterHandle)) }

@@ -11,7 +11,7 @@ use Rattle.ixp_edits.specs.declared.edit.Edit.{Edit}
 use Rattle.ixp_edits.specs.declared.edit.Edit.TheVariants.{AddRouter}
 use Rattle.ixp_edits.specs.Edits.{refusal}
 use Rattle.ixp_edits.specs.Routers.{new_router, add_router_tests}
-use Rattle.ixp_edits.proofs.Numbers.{handle_is_name}
+use Rattle.ixp_registry.proofs.HandleNames.{handle_is_name}
 use Rattle.ixp_edits.proofs.Passing.{no_refusal, holds}
 use Rattle.ixp_effects.specs.Names.{has_name}
 use Rattle.ixp_steps.specs.declared.state.Entry.{Entry}

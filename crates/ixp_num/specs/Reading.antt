@@ -14,10 +14,11 @@ use Rattle.ixp_num.specs.Families.{bits_of}
 use Rattle.ixp_num.specs.AddressForms.{numbers}
 use Rattle.ixp_num.specs.Forms.{Form, End, Mark, Decimal, Hex, Either, Said, bounded}
 
+-- what is done with what was read; a fault is passed on
 infixl 10 ◌>>=◌
-abbrev pub ◌>>=◌ : {A B : Type 0} → Result A ℕ → (A → Result B ℕ) → Result B ℕ
+abbrev pub ◌>>=◌ : {A B E : Type 0} → Result A E → (A → Result B E) → Result B E
 Ok a >>= f = f a
-Err left >>= f = Err left
+Err fault >>= f = Err fault
 
 abbrev pub is_digit : ℕ → Bool
 is_digit c = nat_le 48 c && nat_le c 57

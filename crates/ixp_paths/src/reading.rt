@@ -62,7 +62,7 @@ fn with_list(args: Args, text: &[u8]) -> Option<Args>
     Some(Args { list, ..args })
 }
 
-#[tactic(auto, using(crate::proofs::Handles::handle_is_name))]
+#[tactic(auto, using(ixp_registry::proofs::HandleNames::handle_is_name))]
 fn with_router(alloc: Global, args: Args, text: &[u8]) -> Result<Option<Args>, AllocError>
     ensures { IfOk result (λ o. o ≡ spec.with_router args text.now) }
 {

@@ -1,1 +1,2 @@
+pub mod HandleNames
 pub mod Placing

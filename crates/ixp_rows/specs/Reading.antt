@@ -13,15 +13,11 @@ use Rattle.ixp_lines.specs.Fields.{Field}
 use Rattle.ixp_registry.specs.Kinds.{word_of}
 use Rattle.ixp_lines.specs.Lines.{form_of, key_length, field_key}
 use Rattle.ixp_lines.specs.Reading.{fields_at}
+pub use Rattle.ixp_num.specs.Reading.{◌>>=◌}
 use Rattle.ixp_rows.specs.declared.fault.DumpFault.{DumpFault}
 use Rattle.ixp_rows.specs.declared.fault.DumpFault.TheVariants.{BadLine, Order as OutOfOrder, Twice as SameKey, NoMemory as OutOfMemory}
 use Rattle.ixp_rows.specs.declared.misread.Misread.{Misread}
 use Rattle.ixp_rows.specs.declared.misread.Misread.TheVariants.{Bad, Order, Twice, NoMemory}
-
-infixl 10 ◌>>=◌
-abbrev pub ◌>>=◌ : {A B : Type 0} → Result A Misread → (A → Result B Misread) → Result B Misread
-Ok a >>= f = f a
-Err fault >>= f = Err fault
 
 -- what is behind the kind's word, where the text begins with it and a blank
 abbrev pub with_blank : List ℕ → Option (List ℕ)

@@ -2,6 +2,7 @@
 -- tokens are left at its place. Of two alternatives the first token decides.
 use Rattle.std.specs.Prelude.{◌≡◌, ℕ, zero, suc, Bool, false, ◌||◌, ◌&&◌, not, List, [], ◌∷◌, length, map, Option, Some, None, Result, Ok, Err, if◌then◌else◌}
 use Rattle.std.specs.Option.{is_some}
+pub use Rattle.ixp_num.specs.Reading.{◌>>=◌}
 use Rattle.ixp_tokens.specs.declared.fault.Cause.{Cause}
 use Rattle.ixp_tokens.specs.declared.fault.Cause.TheVariants.{Unexpected}
 use Rattle.ixp_tokens.specs.declared.fault.Fault.{Fault}
@@ -13,11 +14,6 @@ use Rattle.ixp_tokens.specs.Grammars.{Step, onward, done, Grammar, gives, takes,
 -- what is said and the tokens behind it, or the fault
 abbrev pub Read : Type 0 → Type 0
 Read A = Result (A × List Kind) (Cause × ℕ)
-
-infixl 10 ◌>>=◌
-abbrev pub ◌>>=◌ : {A B : Type 0} → Read A → (A × List Kind → Read B) → Read B
-Ok a >>= f = f a
-Err e >>= f = Err e
 
 abbrev pub stop : {A : Type 0} → Cause → List Kind → Read A
 stop cause tokens = Err (cause, length tokens)

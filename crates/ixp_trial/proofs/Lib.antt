@@ -1,6 +1,5 @@
 pub mod Cuts
 pub mod Fields
-pub mod Handles
 pub mod Numbers
 pub mod OneSessionRoute
 pub mod OneTrial

@@ -6,7 +6,7 @@ use Rattle.ixp_trial.specs.Readings.{IsUpTo}
 use Rattle.ixp_trial.specs.SessionRoutes.{IsSessionLine}
 use Rattle.ixp_trial.proofs.Cuts.{one_cut, not_marked}
 use Rattle.ixp_trial.proofs.Fields.{name_free, decimal_free}
-use Rattle.ixp_trial.proofs.Handles.{handle_is_name}
+use Rattle.ixp_registry.proofs.HandleNames.{handle_is_name}
 
 pub no_handle_cut : (line rest : List ℕ) → line ≡ codes "route " ++ rest → IsFree 32 rest → (a b c : List ℕ) → ¬ (AreParts line a b c)
 no_handle_cut line rest e free a b c are = not_marked 32 a (b ++ 32 ∷ c) (subst (IsFree 32) (ap (λ t. drop 6 t) (sym e ∙ are.whole)) free)

@@ -90,7 +90,7 @@ fn session_line(line: &[u8]) -> Option<SessionLine<'_>>
 }
 
 /// The route of a line, which has the number, and who brings it.
-#[tactic(auto, using(crate::proofs::Handles::handle_is_name))]
+#[tactic(auto, using(ixp_registry::proofs::HandleNames::handle_is_name))]
 fn session_route_of(alloc: Global, line: &[u8], number: u64) -> Result<SessionRoute, Misfit>
     ensures route { SessionLineAnswer line.now result }
     ensures line { IfOk result (λ s. s.line ≡ number) }

@@ -6,7 +6,7 @@ use Rattle.ixp_edits.specs.Routers.{add_router_tests, new_router}
 use Rattle.ixp_registry.specs.Alphabets.{is_handle}
 use Rattle.ixp_registry.specs.declared.refusal.Refusal.TheVariants.{BadText}
 use Rattle.ixp_registry.specs.declared.refusal.TextField.TheVariants.{Handle as HandleText}
-use Rattle.ixp_edits.proofs.Numbers.{handle_is_name}
+use Rattle.ixp_registry.proofs.HandleNames.{handle_is_name}
 use Rattle.ixp_edits.proofs.Passing.{no_refusal, holds, is_new}
 use Rattle.ixp_counts.proofs.of_edits.with_router.Goals as goal
 

@@ -9,7 +9,7 @@ use Rattle.ixp_registry.specs.Alphabets.{is_handle}
 use Rattle.ixp_registry.specs.Keys.{vlan_key}
 use Rattle.ixp_edits.specs.Routers.{new_router}
 use Rattle.ixp_edits.specs.Tests.{first_of, refused}
-use Rattle.ixp_edits.proofs.Numbers.{handle_is_name}
+use Rattle.ixp_registry.proofs.HandleNames.{handle_is_name}
 use Rattle.ixp_refusals.specs.Columns.{placed_tests}
 use Rattle.ixp_refusals.proofs.Columning.{held_by}
 use Rattle.ixp_refusals.proofs.routers.add_router.Goals as goal

@@ -5,10 +5,6 @@ use Rattle.std.proofs.lemmas.Bool.{and_parts, and_from, leb-true}
 use Rattle.ixp_num.specs.Names.{is_name, is_name_byte, is_within}
 use Rattle.ixp_registry.specs.Alphabets.{has_length, begins_small, is_handle, is_handle_byte}
 
-by_either : (x y : Bool) {P : Type 0} → (x ≡ true → P) → (y ≡ true → P) → (x || y) ≡ true → P
-by_either true y f g e = f refl
-by_either false y f g e = g e
-
 -- a b c d e f are the six kinds of a name's bytes
 name_byte : (a b c d e f : Bool) → (a || c || d || e) ≡ true → (a || b || c || d || e || f) ≡ true
 name_byte true b c d e f h = refl
