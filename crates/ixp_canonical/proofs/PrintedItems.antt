@@ -16,11 +16,11 @@ use Rattle.ixp_lang.specs.declared.item.Bgp.{Bgp}
 use Rattle.ixp_lang.specs.Trees.{StmtTrees, ItemTree, router_id_item, table_item, define_item, function_item, filter_item, device_item, pipe_item, bgp_item}
 use Rattle.ixp_tokens.specs.declared.token.Kind.{Kind}
 use Rattle.ixp_tokens.specs.declared.token.Mark.TheVariants as mark
+use Rattle.ixp_tokens.specs.Tokens.{HasTokens}
 use Rattle.ixp_tokens.specs.Words.{is_profile_word}
 use Rattle.ixp_print.specs.Texts.{expr_text, stmts_text, line, body_text, param_text, ty_text, use_text, kind_text, channel_text, head_line, nameless_head, pipe_text, local_text, client_text, password_text, limit_text, bgp_channel_text, bgp_text, device_text, item_text, config_text}
 use Rattle.ixp_canonical.specs.Canonical.{Before, word, name, number, sign, addr_tokens}
 use Rattle.ixp_canonical.specs.CanonicalItems.{ty_tokens, body_tokens, param_tokens, more_params_tokens, params_tokens, use_tokens, table_tokens, head_tokens, pipe_tokens, asn_tokens, local_tokens, client_tokens, password_tokens, limit_tokens, channel_tokens, bgp_tokens, device_tokens, item_tokens, items_tokens, config_tokens}
-use Rattle.ixp_read.specs.Answers.{HasTokens}
 use Rattle.ixp_canonical.specs.Printed.{AreWritten}
 use Rattle.ixp_canonical.proofs.Steps.{Reads, reads_all, nothing_reads, parted, ends, name_reads, number_reads, addr_reads, text_reads, sign_reads}
 use Rattle.ixp_canonical.proofs.PrintedSets.{Prints, IsWord}

@@ -14,19 +14,16 @@ use Rattle.ixp_tokens.specs.declared.token.Kind.{Kind}
 use Rattle.ixp_tokens.specs.declared.token.Kind.TheVariants as kind
 use Rattle.ixp_tokens.specs.declared.token.Mark.{Mark}
 use Rattle.ixp_tokens.specs.declared.token.Mark.TheVariants as mark
-use Rattle.ixp_tokens.specs.declared.token.Token.{Token}
 use Rattle.ixp_tokens.specs.Bytes.{begins_with, is_digit, is_hexadecimal, is_letter, is_word_byte, is_address_byte}
 use Rattle.ixp_tokens.specs.Gaps.{Gap}
 use Rattle.ixp_tokens.specs.Pieces.{same_mark}
-use Rattle.ixp_tokens.specs.Tokens.{Stands, Tokens, is_last, word_kind, mark_text, AreDigits}
-use Rattle.ixp_tokens.specs.Reading.{kinds}
+use Rattle.ixp_tokens.specs.Tokens.{Stands, Placed, placed_kinds, Tokens, HasTokens, is_last, word_kind, mark_text, AreDigits}
 use Rattle.ixp_tokens.specs.Cutting.{behind_blank}
 use Rattle.ixp_tokens.specs.Written.{FewColons, NoOctet, NoLength, joins}
 use Rattle.ixp_tokens.proofs.GapLaws.{gap_here, gap_more, one_gap}
 use Rattle.ixp_tokens.proofs.TokenLaws.{one_stands}
 use Rattle.ixp_tokens.proofs.Standing.{few_colons, digits_are_words, word_stands, number_stands, text_stands, other_mark_stands, colon_stands}
 use Rattle.ixp_tokens.proofs.AddressTexts.{decimal_digits, address_stands, prefix_stands}
-use Rattle.ixp_read.specs.Answers.{HasTokens}
 use Rattle.ixp_canonical.specs.Printed.{IsWritten, AreWritten}
 
 -- the text has these tokens, if they are such as texts have
@@ -47,7 +44,7 @@ parted a b c tokens reads = subst (λ t. Reads t tokens) (sym (append_assoc a b 
 
 -- Blanks.
 
-blank_tokens : (text more : List ℕ) (placed : List Token) → behind_blank more ≡ Some text → Tokens text placed → Tokens more placed
+blank_tokens : (text more : List ℕ) (placed : List Placed) → behind_blank more ≡ Some text → Tokens text placed → Tokens more placed
 blank_tokens text more [] is gap = gap_more more text [] is gap
 blank_tokens text more (t ∷ ts) is (here, rest, gap, stands, left, last, goes) = (here, rest, gap_more more text here is gap, stands, left, last, goes)
 
@@ -267,7 +264,7 @@ same_front m text cs here rest k is other apart front gap stands =
     let at : mark_text m ++ cs ≡ here = one_gap (mark_text m ++ cs) (mark_text m ++ cs) here (gap_here (mark_text m ++ cs) front) (subst (λ t. Gap t here) is gap) in
     (one_stands (mark_text m ++ cs) k (kind.Mark m) rest cs (subst (λ t. Stands k t rest) (sym at) stands) (other_mark_stands m cs other apart)).0
 
-start_apart : (text : List ℕ) (placed : List Token) → Tokens text placed → is_start (kinds placed) ≡ true → joins mark.Not text ≡ false
+start_apart : (text : List ℕ) (placed : List Placed) → Tokens text placed → is_start (placed_kinds placed) ≡ true → joins mark.Not text ≡ false
 start_apart [] placed have start = refl
 start_apart (c ∷ cs) [] have start = absurd cc
 start_apart (c ∷ cs) (t ∷ ts) (here, rest, gap, stands, left, last, goes) start =
@@ -280,14 +277,14 @@ start_apart (c ∷ cs) (t ∷ ts) (here, rest, gap, stands, left, last, goes) st
     no_equal true e =
         let is : c ∷ cs ≡ 61 ∷ cs = ap (λ x. x ∷ cs) (eqb-true c 61 e) in
         let k : t.kind ≡ kind.Mark mark.Equal = same_front mark.Equal (c ∷ cs) cs here rest t.kind is refl (apart mark.Equal cs refl) refl gap stands in
-        let h : false ≡ true = subst (λ x. is_start (x ∷ kinds ts) ≡ true) k start in absurd cc
+        let h : false ≡ true = subst (λ x. is_start (x ∷ placed_kinds ts) ≡ true) k start in absurd cc
 
     no_in : (same : Bool) → (c == 126) ≡ same → same ≡ false
     no_in false e = refl
     no_in true e =
         let is : c ∷ cs ≡ 126 ∷ cs = ap (λ x. x ∷ cs) (eqb-true c 126 e) in
         let k : t.kind ≡ kind.Mark mark.In = same_front mark.In (c ∷ cs) cs here rest t.kind is refl (apart mark.In cs refl) refl gap stands in
-        let h : false ≡ true = subst (λ x. is_start (x ∷ kinds ts) ≡ true) k start in absurd cc
+        let h : false ≡ true = subst (λ x. is_start (x ∷ placed_kinds ts) ≡ true) k start in absurd cc
 
 pub not_reads : (rest : List ℕ) (tokens : List Kind) → is_start tokens ≡ true → Reads rest tokens → Reads (33 ∷ rest) (kind.Mark mark.Not ∷ tokens)
 unfolding Reads

@@ -3,9 +3,7 @@ use Rattle.std.proofs.Common.{◌≡◌, ℕ, Bool, true, false, List, [], ◌�
 use Rattle.ixp_lang.specs.Trees.{ItemTree}
 use Rattle.ixp_tokens.specs.declared.token.Kind.{Kind}
 use Rattle.ixp_tokens.specs.declared.token.Kind.TheVariants as kind
-use Rattle.ixp_tokens.specs.declared.token.Token.{Token}
-use Rattle.ixp_tokens.specs.Tokens.{Stands, Tokens, is_last}
-use Rattle.ixp_tokens.specs.Reading.{kinds}
+use Rattle.ixp_tokens.specs.Tokens.{Stands, Placed, placed_kinds, Tokens, is_last}
 use Rattle.ixp_tokens.proofs.TokenFacts.{name_facts, number_facts, text_facts}
 use Rattle.ixp_print.specs.Texts.{config_text}
 use Rattle.ixp_canonical.specs.CanonicalItems.{config_tokens}
@@ -24,12 +22,12 @@ stands_written (kind.Number n) text rest stands = number_facts n text rest stand
 stands_written (kind.Text said) text rest stands = text_facts said text rest stands
 stands_written _ text rest stands = tt
 
-pub tokens_written : (text : List ℕ) (placed : List Token) → Tokens text placed → AreWritten (kinds placed)
+pub tokens_written : (text : List ℕ) (placed : List Placed) → Tokens text placed → AreWritten (placed_kinds placed)
 tokens_written text [] have = tt
 tokens_written text (t ∷ ts) (here, rest, gap, stands, left, last, goes) = (stands_written t.kind here rest stands, by_case (is_last t.kind) refl (tokens_written rest ts))
   where
-    by_case : (b : Bool) → is_last t.kind ≡ b → (Tokens rest ts → AreWritten (kinds ts)) → AreWritten (kinds ts)
-    by_case true e again = subst (λ x. AreWritten (kinds x)) (sym (last e)) tt
+    by_case : (b : Bool) → is_last t.kind ≡ b → (Tokens rest ts → AreWritten (placed_kinds ts)) → AreWritten (placed_kinds ts)
+    by_case true e again = subst (λ x. AreWritten (placed_kinds x)) (sym (last e)) tt
     by_case false e again = again (goes e)
 
 pub written_law : (text : List ℕ) (c : List ItemTree) → SpellsText text c → AreWritten (config_tokens c)

@@ -79,7 +79,7 @@ fn pipe_from_at<'a>(index: &Index<'a>, place: usize, table: &Name) -> Option<&'a
     ensures { option_copied result ≡ pipe_at (is_from table.now) (slice_get (items_of index.now) place) }
 {
     match item_at(index, place) {
-        Some(Item::Pipe(pipe)) if same_name(&pipe.peer, table) => Some(pipe),
+        Some(Item::Pipe(pipe)) if same_name(&pipe.peer, table) => Some(&**pipe),
         _ => None,
     }
 }
@@ -108,7 +108,7 @@ fn pipe_between_at<'a>(
 {
     match item_at(index, place) {
         Some(Item::Pipe(pipe)) if same_name(&pipe.table, primary) && same_name(&pipe.peer, peer) =>
-            { Some(pipe) }
+            { Some(&**pipe) }
         _ => None,
     }
 }

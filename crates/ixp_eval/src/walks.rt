@@ -27,7 +27,7 @@ pub fn session_named<'a>(items: &'a [Item], name: &Name) -> Option<&'a Bgp>
         if let Item::Bgp(b) = item
             && same_name(&b.name, name)
         {
-            return Some(b);
+            return Some(&**b);
         }
     }
     None

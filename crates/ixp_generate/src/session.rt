@@ -500,8 +500,10 @@ fn add_filters(
 fn add_protocols(alloc: Global, items: &mut Vec<Item>, i: &Inputs) -> Result<(), AllocError>
     ensures { OnOk result (items_view items.new.items ≡ items_view items.old.items ++ protocols i.now) }
 {
-    add_item(items, Item::Pipe(pipe_of(alloc, i)?))?;
-    add_item(items, Item::Bgp(bgp_of(alloc, i)?))
+    let pipe = pipe_of(alloc, i)?;
+    add_item(items, Item::of_pipe(alloc, pipe)?)?;
+    let session = bgp_of(alloc, i)?;
+    add_item(items, Item::of_bgp(alloc, session)?)
 }
 
 /// Adds the session's part, in which these are the sets of the nets that the member's prefixes allow.

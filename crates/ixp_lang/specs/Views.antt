@@ -75,8 +75,8 @@ item_view (Define n e) = define_item n (expr_view e)
 item_view (Function n ps ss) = function_item n ps (stmts (stmts_view ss.items))
 item_view (Filter n ss) = filter_item n (stmts (stmts_view ss.items))
 item_view (Device n) = device_item n
-item_view (Pipe p) = pipe_item p
-item_view (Bgp b) = bgp_item b
+item_view (Pipe p) = pipe_item p.value
+item_view (Bgp b) = bgp_item b.value
 
 -- the items of a configuration
 abbrev pub config_view : Config → List ItemTree

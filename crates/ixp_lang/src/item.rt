@@ -1,6 +1,11 @@
 //! The items of a configuration.
+ghost use Rattle.std.specs.Prelude.{◌≡◌, IfOk};
+ghost use Rattle.ixp_lang.specs.Trees.{pipe_item, bgp_item};
+ghost use Rattle.ixp_lang.specs.Views.{item_view};
+
 use crate::{Expr, Stmt};
 use ixp_num::{Addr, Asn, Family, Items, Name};
+use std::alloc::{AllocError, Global};
 
 /// What a table holds.
 #[derive(Clone, Copy, Debug, PartialEq, Eq)]
@@ -68,7 +73,7 @@ pub struct Bgp {
     pub limit: Option<u32>,
 }
 
-/// An item of a configuration.
+/// An item of a configuration. Pipes and sessions stand on the heap, since most other items take a third of their room.
 #[derive(Debug, Drop)]
 pub enum Item {
     RouterId(Addr),
@@ -92,8 +97,26 @@ pub enum Item {
     Device {
         name: Option<Name>,
     },
-    Pipe(Pipe),
-    Bgp(Bgp),
+    Pipe(Box<Pipe>),
+    Bgp(Box<Bgp>),
+}
+
+impl Item {
+    /// The item that is this pipe.
+    pub fn of_pipe(alloc: Global, pipe: Pipe) -> Result<Item, AllocError>
+        ensures { IfOk result (λ item. item_view item ≡ pipe_item pipe) }
+    {
+        let pipe = Box::new(alloc, pipe)?;
+        Ok(Item::Pipe(pipe))
+    }
+
+    /// The item that is this session.
+    pub fn of_bgp(alloc: Global, session: Bgp) -> Result<Item, AllocError>
+        ensures { IfOk result (λ item. item_view item ≡ bgp_item session) }
+    {
+        let session = Box::new(alloc, session)?;
+        Ok(Item::Bgp(session))
+    }
 }
 
 /// A configuration: its items in the order of the text.

@@ -58,7 +58,7 @@ pub(crate) fn pipe_at<'t>(
         import: ways.import,
         export: ways.export,
     };
-    Ok((Item::Pipe(pipe), rest))
+    Ok((Item::of_pipe(alloc, pipe)?, rest))
 }
 
 /// What follows `protocol device`.

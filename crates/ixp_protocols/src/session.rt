@@ -238,5 +238,5 @@ pub(crate) fn bgp_at<'t>(
         export: channel.ways.export,
         limit: channel.limit,
     };
-    Ok((Item::Bgp(session), rest))
+    Ok((Item::of_bgp(alloc, session)?, rest))
 }

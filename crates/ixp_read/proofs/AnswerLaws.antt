@@ -5,7 +5,8 @@ use Rattle.ixp_lang.specs.declared.item.Config.{Config}
 use Rattle.ixp_lang.specs.Views.{config_view}
 use Rattle.ixp_tokens.specs.declared.fault.Cause.{Cause}
 use Rattle.ixp_tokens.specs.Grammars.{Took}
-use Rattle.ixp_tokens.specs.Reading.{Read, read, kinds}
+use Rattle.ixp_tokens.specs.Tokens.{placed_kinds}
+use Rattle.ixp_tokens.specs.Reading.{Read, read}
 use Rattle.ixp_tokens.proofs.TokenLaws.{one_tokens}
 use Rattle.ixp_read.specs.declared.fault.ReadFault.{ReadFault}
 use Rattle.ixp_read.specs.declared.fault.ReadFault.TheVariants.{Byte, Number, Unexpected, UnknownName, NameTwice, MixedLogic, WrongType, TooDeep, OutOfProfile, NoMemory}
@@ -28,7 +29,7 @@ stop_of text NoMemory told is = absurd told
 pub one_spelling : (text : List ℕ) (c d : List ItemTree) → SpellsText text c → SpellsText text d → c ≡ d
 one_spelling text c d (tokens, (placed, have, same), took) (others, (found, hold, is), reads) =
     let all : placed ≡ found = one_tokens text placed found have hold in
-    let e : others ≡ tokens = sym is ∙ sym (ap kinds all) ∙ same in
+    let e : others ≡ tokens = sym is ∙ sym (ap placed_kinds all) ∙ same in
     one_config tokens c d took (subst (λ t. Took config_form d t []) e reads)
 
 read_apart : (r : Read (List ItemTree)) (c : List ItemTree) (fault : Cause × ℕ) → r ≡ Ok (c, []) → r ≡ Err fault → ⊥
@@ -36,7 +37,7 @@ read_apart r c fault e f = absurd cc
 
 apart : (text : List ℕ) (c : List ItemTree) (f : ReadFault) → SpellsText text c → IsStop text f → ⊥
 apart text c f (tokens, (placed, have, same), took) stop =
-    let all : kinds placed ≡ kinds stop.tokens = ap kinds (one_tokens text placed stop.tokens have stop.are) in
+    let all : placed_kinds placed ≡ placed_kinds stop.tokens = ap placed_kinds (one_tokens text placed stop.tokens have stop.are) in
     read_apart (read config_form tokens) c (stop.cause, stop.left) (config_read tokens c took) (subst (λ ts. read config_form ts ≡ Err (stop.cause, stop.left)) (sym all ∙ same) stop.stops)
 
 one_end : (r : Read (List ItemTree)) (a b : Cause × ℕ) → r ≡ Err a → r ≡ Err b → a ≡ b
@@ -45,8 +46,8 @@ one_end r a b e f = cc
 one_fault : (text : List ℕ) (f g : ReadFault) → IsStop text f → IsStop text g → f ≡ g
 one_fault text f g one other =
     let all : other.tokens ≡ one.tokens = one_tokens text other.tokens one.tokens other.are one.are in
-    let same = one_end (read config_form (kinds one.tokens)) (one.cause, one.left) (other.cause, other.left) one.stops
-    (subst (λ ts. read config_form (kinds ts) ≡ Err (other.cause, other.left)) all other.stops) in
+    let same = one_end (read config_form (placed_kinds one.tokens)) (one.cause, one.left) (other.cause, other.left) one.stops
+    (subst (λ ts. read config_form (placed_kinds ts) ≡ Err (other.cause, other.left)) all other.stops) in
     one.is ∙ ap (λ a. fault_at text one.tokens a.0 a.1) same ∙ ap (λ ts. fault_at text ts other.cause other.left) (sym all) ∙ sym other.is
 
 pub answers_agree : (text : List ℕ) (one other : Result Config ReadFault) → IsTold one → IsTold other → ConfigAnswer text one → ConfigAnswer text other → SameAnswer one other

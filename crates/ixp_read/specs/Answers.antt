@@ -1,5 +1,5 @@
 -- What the reader of a text answers.
-use Rattle.std.specs.Prelude.{◌≡◌, ℕ, Bool, true, false, ◌-◌, List, [], length, Option, Some, None, slice_get, Result, Ok, Err, if◌then◌else◌}
+use Rattle.std.specs.Prelude.{◌≡◌, ℕ, Bool, true, false, ◌-◌, List, [], length, Option, Some, None, option_map, slice_get, Result, Ok, Err, if◌then◌else◌}
 use Rattle.ixp_lang.specs.Trees.{ItemTree}
 use Rattle.ixp_lang.specs.Views.{config_view}
 use Rattle.ixp_lang.specs.declared.item.Config.{Config}
@@ -9,18 +9,13 @@ use Rattle.ixp_tokens.specs.declared.token.Kind.{Kind}
 use Rattle.ixp_tokens.specs.declared.token.Kind.TheVariants as kind
 use Rattle.ixp_tokens.specs.declared.token.Mark.{Mark}
 use Rattle.ixp_tokens.specs.declared.token.Mark.TheVariants as mark
-use Rattle.ixp_tokens.specs.declared.token.Token.{Token}
 use Rattle.ixp_tokens.specs.Words.{is_foreign_word}
-use Rattle.ixp_tokens.specs.Tokens.{Tokens}
+use Rattle.ixp_tokens.specs.Tokens.{Placed, placed_kinds, Tokens, HasTokens}
 use Rattle.ixp_tokens.specs.Grammars.{Took}
-use Rattle.ixp_tokens.specs.Reading.{read, kinds}
+use Rattle.ixp_tokens.specs.Reading.{read}
 use Rattle.ixp_read.specs.declared.fault.ReadFault.{ReadFault}
 use Rattle.ixp_read.specs.declared.fault.ReadFault.TheVariants.{Byte, Number, Unexpected, UnknownName, NameTwice, MixedLogic, WrongType, TooDeep, OutOfProfile, NoMemory}
 use Rattle.ixp_read.specs.Items.{config_form}
-
--- the text has these tokens, each at some place
-abbrev pub HasTokens : List ℕ → List Kind → Type 0
-HasTokens text tokens = (placed : List Token) × Tokens text placed × (kinds placed ≡ tokens)
 
 -- the text has tokens that spell this configuration, with nothing behind them
 abbrev pub SpellsText : List ℕ → List ItemTree → Type 0
@@ -42,9 +37,9 @@ refused (kind.Word word) at = if is_foreign_word word then OutOfProfile at else 
 refused token at = Unexpected at
 
 -- the fault for a cause, at a token or at the end of the text
-abbrev pub named : Cause → Option Token → ℕ → ReadFault
+abbrev pub named : Cause → Option Kind → ℕ → ReadFault
 named cause.Unexpected None at = Unexpected at
-named cause.Unexpected (Some token) at = refused token.kind at
+named cause.Unexpected (Some token) at = refused token at
 named cause.Number token at = Number at
 named cause.Unknown token at = UnknownName at
 named cause.Twice token at = NameTwice at
@@ -54,25 +49,25 @@ named cause.Deep token at = TooDeep at
 named cause.Foreign token at = OutOfProfile at
 
 -- the token with which so many are left, itself among them; none at the end of the text
-abbrev pub token_with : ℕ → List Token → Option Token
+abbrev pub token_with : ℕ → List Placed → Option Placed
 token_with left tokens = slice_get tokens (length tokens - left)
 
 -- the byte at which a token of the text begins, or the text's length
-abbrev pub byte_of : List ℕ → Option Token → ℕ
+abbrev pub byte_of : List ℕ → Option Placed → ℕ
 byte_of text None = length text
 byte_of text (Some token) = length text - token.left
 
 -- the fault for a cause where so many of the text's tokens are left
-abbrev pub fault_at : List ℕ → List Token → Cause → ℕ → ReadFault
-fault_at text tokens cause left = named cause (token_with left tokens) (byte_of text (token_with left tokens))
+abbrev pub fault_at : List ℕ → List Placed → Cause → ℕ → ReadFault
+fault_at text tokens cause left = named cause (option_map (λ t. t.kind) (token_with left tokens)) (byte_of text (token_with left tokens))
 
 -- The text is no configuration: read by the grammar from left to right, its tokens stop at this fault.
 pub record IsStop (text : List ℕ) (fault : ReadFault) : Type 0 where
-  pub tokens : List Token
+  pub tokens : List Placed
   pub are : Tokens text tokens
   pub cause : Cause
   pub left : ℕ
-  pub stops : read config_form (kinds tokens) ≡ Err (cause, left)
+  pub stops : read config_form (placed_kinds tokens) ≡ Err (cause, left)
   pub is : fault ≡ fault_at text tokens cause left
 
 -- the configuration that the text spells, or where its reading stops; want of memory is free

@@ -1,13 +1,15 @@
 //! The whole text.
-ghost use Rattle.std.specs.Prelude.{◌≡◌, option_map, if◌then◌else◌};
+ghost use Rattle.std.specs.Prelude.{◌≡◌, List, option_map, slice_get, if◌then◌else◌};
+ghost use Rattle.ixp_tokens.specs.Reading.{kinds};
+ghost use Rattle.ixp_tokens.specs.Tokens.{Placed, placed_kinds, Tokens, HasTokens};
 ghost use Rattle.ixp_tokens.specs.declared.fault.Cause.TheVariants.{Unexpected as IsUnexpected};
 ghost use Rattle.ixp_read.specs.declared.fault.ReadFault.TheVariants.{Unexpected, OutOfProfile};
-ghost use Rattle.ixp_read.specs.Answers.{is_foreign_mark, refused, named, token_with, byte_of, fault_at, ConfigAnswer};
+ghost use Rattle.ixp_read.specs.Answers.{is_foreign_mark, refused, named, byte_of, fault_at, ConfigAnswer};
 
 use crate::ReadFault;
 use crate::item::items_at;
 use ixp_lang::Config;
-use ixp_tokens::{Cause, Fault, Kind, Mark, Token, is_foreign, tokens_of};
+use ixp_tokens::{Cause, Fault, Kind, Mark, Token, is_foreign, left_at, tokens_of};
 use std::alloc::Global;
 
 /// Whether the profile leaves the mark out.
@@ -46,7 +48,7 @@ fn refused(kind: &Kind, at: usize) -> ReadFault
 
 /// Why no text goes on here: the token that stands here, if the text hasn't ended.
 fn unexpected(token: Option<&Token>, at: usize) -> ReadFault
-    ensures { result ≡ named IsUnexpected (option_map (λ t. t.now) token.entry) at }
+    ensures { result ≡ named IsUnexpected (option_map (λ t. t.now.kind) token.entry) at }
 {
     match token {
         Some(token) => refused(&token.kind, at),
@@ -56,7 +58,7 @@ fn unexpected(token: Option<&Token>, at: usize) -> ReadFault
 
 /// Names the stop at a place by the token that stands there, if the text hasn't ended.
 fn named(cause: Cause, token: Option<&Token>, at: usize) -> ReadFault
-    ensures { result ≡ named cause (option_map (λ t. t.now) token.entry) at }
+    ensures { result ≡ named cause (option_map (λ t. t.now.kind) token.entry) at }
 {
     match cause {
         Cause::Unexpected => unexpected(token, at),
@@ -70,29 +72,34 @@ fn named(cause: Cause, token: Option<&Token>, at: usize) -> ReadFault
     }
 }
 
-/// The token with which so many are left, if one is.
-fn token_with(left: usize, tokens: &[Token]) -> Option<&Token>
-    ensures { option_map (λ t. t.now) result ≡ token_with left tokens.now }
+/// The token before which there are so many others, if one is.
+fn token_at(tokens: &[Token], others: usize) -> Option<&Token>
+    ensures { option_map (λ t. t.now) result ≡ slice_get tokens.now others }
 {
-    tokens.get(tokens.len().saturating_sub(left))
+    tokens.get(others)
 }
 
-/// The byte of the text at which the token begins, or the text's length.
-fn byte_of(text: &[u8], token: Option<&Token>) -> usize
-    ensures { result ≡ byte_of text.now (option_map (λ t. t.now) token.entry) }
+/// The byte of the text at which the token begins before which there are so many others, or the text's length where there is
+/// none.
+fn byte_at(text: &[u8], tokens: &[Token], others: usize) -> usize
+    requires { HasTokens text.now (kinds tokens.now) }
+    ensures { (placed : List Placed) → Tokens text.now placed → placed_kinds placed ≡ kinds tokens.now → result ≡ byte_of text.now (slice_get placed others) }
 {
-    match token {
-        Some(token) => text.len().saturating_sub(token.left),
-        None => text.len(),
+    if others < tokens.len() {
+        text.len().saturating_sub(left_at(text, others))
+    } else {
+        text.len()
     }
 }
 
 /// The fault for a cause where so many of the text's tokens are left.
 fn fault_at(text: &[u8], tokens: &[Token], cause: Cause, left: usize) -> ReadFault
-    ensures { result ≡ fault_at text.now tokens.now cause left }
+    requires { HasTokens text.now (kinds tokens.now) }
+    ensures { (placed : List Placed) → Tokens text.now placed → placed_kinds placed ≡ kinds tokens.now → result ≡ fault_at text.now placed cause left }
 {
-    let token = token_with(left, tokens);
-    named(cause, token, byte_of(text, token))
+    let others = tokens.len().saturating_sub(left);
+    let at = byte_at(text, tokens, others);
+    named(cause, token_at(tokens, others), at)
 }
 
 /// Reads a filter text.

@@ -7,6 +7,7 @@
 mod body;
 mod change;
 mod label;
+mod room;
 mod stmt;
 
 pub use body::{Frame, Returned};

@@ -11,6 +11,7 @@ ghost use Rattle.ixp_stmts.specs.Views.{frame_of, returned_of, begins_with, behi
 use crate::body::{Frame, Returned, begins_statement, deep, no_branch};
 use crate::change::plain_at;
 use crate::label::{Case, is_label, labels_at};
+use crate::room::exact;
 use ixp_exprs::{Context, Expected, ValueType, Wanted, expression, fits, settled};
 use ixp_lang::{Expr, Label, Stmt};
 use ixp_num::Items;
@@ -216,7 +217,7 @@ fn statements<'t>(
         body.push(stmt)?;
         left = rest;
     }
-    Ok((body, left))
+    Ok((exact(body), left))
 }
 
 /// The statements of a block, from behind its opening brace on.
@@ -256,7 +257,7 @@ fn branch<'t>(
     let (stmt, rest) = statement(frame, depth - 1, in_arm, returned, tokens)?;
     let mut body = Vec::new(frame.alloc);
     body.push(stmt)?;
-    Ok((body, rest))
+    Ok((exact(body), rest))
 }
 
 /// The arms of a `case`.
@@ -279,7 +280,7 @@ fn arms_at<'t>(
         arms.push((labels, body))?;
         left = rest;
     }
-    Ok((arms, left))
+    Ok((exact(arms), left))
 }
 
 /// What the `case` does where no arm has the value, and the brace.

@@ -64,7 +64,7 @@ const EDITS: &[(&str, &str, &str)] = &[
     (
         "POST /vlans",
         "{\"number\":1,\"name\":\"v\",\"tag\":100,\"v4\":\"0.0.1.0/24\",\"v6\":null}",
-        "AddVlan { number: 1, name: Items { items: [118] }, tag: 100, v4: Some(Prefix { family: V4, value: 256, len: 24 }), v6: None }",
+        "AddVlan { number: 1, name: Items { items: [118] }, tag: 100, v4: Some(Prefix { value: 256, family: V4, len: 24 }), v6: None }",
     ),
     ("DELETE /vlans/1", "", "DropVlan { vlan: 1 }"),
     (
@@ -106,7 +106,7 @@ const EDITS: &[(&str, &str, &str)] = &[
     (
         "PUT /members/1/rules",
         "[{\"way\":\"receive\",\"peer\":null,\"prefix\":null,\"action\":\"stop\"},{\"way\":\"advertise\",\"peer\":65001,\"prefix\":\"0.0.1.0/24\",\"action\":\"prepend2\"}]",
-        "SetRules { member: 1, rules: Items { items: [NewRule { way: Receive, peer: None, prefix: None, action: Stop }, NewRule { way: Advertise, peer: Some(Asn(65001)), prefix: Some(Prefix { family: V4, value: 256, len: 24 }), action: Prepend(2) }] } }",
+        "SetRules { member: 1, rules: Items { items: [NewRule { way: Receive, peer: None, prefix: None, action: Stop }, NewRule { way: Advertise, peer: Some(Asn(65001)), prefix: Some(Prefix { value: 256, family: V4, len: 24 }), action: Prepend(2) }] } }",
     ),
     (
         "PUT /public/bogon_as",
@@ -116,7 +116,7 @@ const EDITS: &[(&str, &str, &str)] = &[
     (
         "PUT /public/roas",
         "ASN,IP Prefix,Max Length\n65001,0.0.1.0/24,\n",
-        "PutPublic { list: Roas(Sorted { items: [Roa { prefix: Prefix { family: V4, value: 256, len: 24 }, max: 24, asn: Asn(65001) }] }) }",
+        "PutPublic { list: Roas(Sorted { items: [Roa { prefix: Prefix { value: 256, family: V4, len: 24 }, max: 24, asn: Asn(65001) }] }) }",
     ),
 ];
 

@@ -1,6 +1,11 @@
 //! Texts and their tokens, counted by hand from the rules of the language.
+ghost use Rattle.ixp_tokens.specs.Reading.{kinds};
+ghost use Rattle.ixp_tokens.specs.Tokens.{HasTokens};
+
 use ixp_num::{Asn, print_addr, print_asn, print_prefix};
-use ixp_tokens::{Kind, Mark, Token, is_foreign, is_keyword, one_list, tokens_of, written_tokens};
+use ixp_tokens::{
+    Keyword, Kind, Mark, Token, is_foreign, left_at, one_list, tokens_of, written_tokens,
+};
 use std::alloc::{AllocError, Global};
 use std::test::Fail;
 
@@ -130,19 +135,30 @@ fn show_kind(kind: &Kind, out: &mut Vec<u8>) -> Result<(), AllocError> {
     Ok(())
 }
 
-fn show_place(text: &[u8], token: &Token, out: &mut Vec<u8>) -> Result<(), AllocError> {
-    let place = text.len().saturating_sub(token.left);
-    print_asn(Asn(u32::try_from(place).unwrap_or(u32::MAX)), out)?;
-    out.push(b' ')?;
+/// The place of the token before which there are so many others.
+fn show_place(
+    text: &[u8],
+    tokens: &[Token],
+    others: usize,
+    out: &mut Vec<u8>,
+) -> Result<(), AllocError>
+    requires { HasTokens text.now (kinds tokens.now) }
+{
+    if others < tokens.len() {
+        let place = text.len().saturating_sub(left_at(text, others));
+        print_asn(Asn(u32::try_from(place).unwrap_or(u32::MAX)), out)?;
+        out.push(b' ')?;
+    }
     Ok(())
 }
 
 /// The tokens of a text, and their places.
 fn shown(alloc: Global, text: &[u8]) -> Result<Vec<u8>, AllocError> {
     let tokens = tokens_of(alloc, text)?;
+    let tokens = tokens.as_slice();
     let mut out = Vec::new(alloc);
-    for token in tokens.as_slice() {
-        show_place(text, token, &mut out)?;
+    for (others, token) in tokens.iter().enumerate() {
+        show_place(text, tokens, others, &mut out)?;
         show_kind(&token.kind, &mut out)?;
         out.extend_from_slice(b", ")?;
     }
@@ -176,6 +192,10 @@ fn marks_have_their_texts(rt: HostRuntime) -> Result<(), Fail> {
         assert!(rt; is_one_mark(rt.alloc(), text, *mark)?);
     }
     Ok(())
+}
+
+fn is_keyword(word: &[u8]) -> bool {
+    Keyword::of(word).is_some()
 }
 
 #[test]

@@ -5,7 +5,7 @@ use Rattle.ixp_tokens.specs.declared.token.Kind.{Kind}
 use Rattle.ixp_tokens.specs.declared.fault.Cause.{Cause}
 use Rattle.ixp_tokens.specs.declared.fault.Cause.TheVariants.{Unexpected}
 use Rattle.ixp_tokens.specs.Grammars.{Step, onward, done, Grammar, gives, takes, sequence, choice, rounds, checks, bars, unless, here}
-use Rattle.ixp_tokens.specs.Syntax.{Spot, spot, Fine, Halt, by_syntax, by_check, Scan, said, halted, stopped, refused, and_then, begins_at, scanned, stepping, scan_rounds, scan}
+use Rattle.ixp_tokens.specs.Syntax.{Spot, spot, Fine, Halt, by_syntax, by_check, Scan, said, halted, stopped, and_then, begins_at, scanned, stepping, scan_rounds, scan}
 use Rattle.ixp_tokens.proofs.Clear.{MayEmpty, Sight, IsSeen, ClearBy}
 use Rattle.ixp_tokens.proofs.Seen.{Like, like_behind, like_of}
 use Rattle.ixp_tokens.proofs.Sizes.{fewer}

@@ -1,8 +1,8 @@
 -- Grammars that a first token decides: what is of one is read, and read in one way.
-use Rattle.std.proofs.Common.{◌≡◌, ℕ, ◌⊎◌, Bool, true, false, ◌||◌, ◌&&◌, not, List, [], ◌∷◌, length}
+use Rattle.std.proofs.Common.{◌≡◌, ℕ, ◌⊎◌, true, false, List, [], ◌∷◌, length}
 use Rattle.std.specs.Option.{is_some}
 use Rattle.ixp_tokens.specs.declared.token.Kind.{Kind}
-use Rattle.ixp_tokens.specs.Grammars.{Step, onward, done, Grammar, gives, takes, sequence, choice, rounds, checks, bars, unless, here}
+use Rattle.ixp_tokens.specs.Grammars.{onward, done, Grammar, gives, takes, sequence, choice, rounds, checks, bars, unless, here}
 use Rattle.ixp_tokens.specs.Reading.{begins}
 
 -- before these tokens it may take none and say this

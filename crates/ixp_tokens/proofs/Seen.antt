@@ -1,5 +1,5 @@
 -- Tests that look no further than a sight, and tokens that are alike to them.
-use Rattle.std.proofs.Common.{◌≡◌, ℕ, ◌⊎◌, Bool, true, false, List, [], ◌∷◌, ◌++◌, refl, sym, ap, ◌∙◌}
+use Rattle.std.proofs.Common.{◌≡◌, Bool, true, false, List, [], ◌∷◌, ◌++◌, refl, sym, ap, ◌∙◌}
 use Rattle.ixp_tokens.specs.declared.token.Kind.{Kind}
 use Rattle.ixp_tokens.specs.Grammars.{Grammar, gives, takes, sequence, choice, rounds, checks, bars, unless, here}
 use Rattle.ixp_tokens.proofs.Clear.{IsOfFirst, Sight, IsSeen, ClearBy, Clear}

@@ -1,8 +1,8 @@
 -- What is fine leaves fewer tokens, or takes none.
-use Rattle.std.proofs.Common.{◌≡◌, ℕ, zero, suc, pred, ◌<◌, ◌≤◌, ◌⊎◌, inl, inr, Bool, List, [], ◌∷◌, length, refl, sym, ◌∙◌, arith, subst}
+use Rattle.std.proofs.Common.{◌≡◌, ℕ, zero, suc, ◌<◌, ◌⊎◌, inl, inr, Bool, List, [], ◌∷◌, length, sym, ◌∙◌, arith, subst}
 use Rattle.ixp_tokens.specs.declared.token.Kind.{Kind}
 use Rattle.ixp_tokens.specs.Grammars.{Step, onward, done, Grammar, gives, takes, sequence, choice, rounds, checks, bars, unless, here}
-use Rattle.ixp_tokens.specs.Syntax.{Spot, spot, FineRounds, Fine}
+use Rattle.ixp_tokens.specs.Syntax.{Spot, FineRounds, Fine}
 use Rattle.ixp_tokens.proofs.Clear.{MayEmpty, ClearBy}
 
 abbrev Shrinks : {A : Type 0} → Grammar A → A → Spot → Spot → Type 0

@@ -6,7 +6,7 @@ use Rattle.ixp_tokens.specs.declared.token.Kind.{Kind}
 use Rattle.ixp_tokens.specs.declared.fault.Cause.{Cause}
 use Rattle.ixp_tokens.specs.declared.fault.Cause.TheVariants.{Unexpected}
 use Rattle.ixp_tokens.specs.Grammars.{Step, onward, done, Grammar, gives, takes, sequence, choice, rounds, checks, bars, unless, here}
-use Rattle.ixp_tokens.specs.Syntax.{Spot, spot, FineRounds, Fine, Halt, by_syntax, by_check, Scan, said, halted, stopped, refused, and_then, begins_at, scanned, stepping, scan_rounds, unless_refused, scan}
+use Rattle.ixp_tokens.specs.Syntax.{Spot, spot, FineRounds, Fine, Halt, Scan, said, halted, stopped, refused, and_then, begins_at, scanned, stepping, scan_rounds, unless_refused, scan}
 use Rattle.ixp_tokens.proofs.Parted.{Leads}
 use Rattle.ixp_tokens.proofs.Fronts.{or_left, or_right, or_elim}
 use Rattle.ixp_tokens.proofs.Clear.{MayEmpty, MayOpen, GoesOn, ClearBy}

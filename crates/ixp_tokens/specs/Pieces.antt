@@ -1,6 +1,5 @@
 -- The grammars of single tokens.
 use Rattle.std.specs.Prelude.{ℕ, Bool, true, false, ◌==◌, List, [], ◌∷◌, Option, Some, None, if◌then◌else◌}
-use Rattle.std.specs.Option.{is_some}
 use Rattle.std.specs.Cmp.Lexicographic.{pointwise}
 use Rattle.ixp_num.specs.declared.addr.Addr.{Addr}
 use Rattle.ixp_tokens.specs.declared.token.Kind.{Kind}

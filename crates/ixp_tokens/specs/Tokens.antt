@@ -1,5 +1,5 @@
 -- The tokens of a filter text (BIRD 2 User's Guide, "Configuration" and "Filters"), and how many bytes are left where each begins.
-use Rattle.std.specs.Prelude.{◌≡◌, ◌≢◌, ◌⊎◌, ◌≤◌, ◌<◌, ◌+◌, ℕ, Bool, true, false, ◌==◌, List, [], ◌∷◌, ◌++◌, length, Result, Ok, Err, if◌then◌else◌}
+use Rattle.std.specs.Prelude.{◌≡◌, ◌≢◌, ◌⊎◌, ◌≤◌, ◌<◌, ◌+◌, ℕ, Bool, true, false, ◌==◌, List, [], ◌∷◌, ◌++◌, length, map, Result, Ok, Err, if◌then◌else◌}
 use Rattle.std.specs.List.{list_all}
 use Rattle.ixp_num.specs.declared.addr.Addr.{Addr}
 use Rattle.ixp_num.specs.declared.asn.Asn.{Asn}
@@ -14,7 +14,6 @@ use Rattle.ixp_tokens.specs.declared.token.Kind.{Kind}
 use Rattle.ixp_tokens.specs.declared.token.Kind.TheVariants as kind
 use Rattle.ixp_tokens.specs.declared.token.Mark.{Mark}
 use Rattle.ixp_tokens.specs.declared.token.Mark.TheVariants as mark
-use Rattle.ixp_tokens.specs.declared.token.Token.{Token}
 use Rattle.ixp_tokens.specs.Bytes.{is_in, is_digit, is_letter, begins_with, Run}
 use Rattle.ixp_tokens.specs.Gaps.{Gap}
 use Rattle.ixp_tokens.specs.Words.{is_keyword}
@@ -138,9 +137,21 @@ is_last kind.BadNumber = true
 is_last (kind.Mark mark.Slash) = true
 is_last _ = false
 
+-- a token, and how many bytes of the text are left where it begins
+pub record Placed : Type 0 where
+  pub kind : Kind
+  pub left : ℕ
+
+abbrev pub placed_kinds : List Placed → List Kind
+placed_kinds tokens = map (λ t. t.kind) tokens
+
 -- The text has these tokens, and each has its place.
-abbrev pub Tokens : List ℕ → List Token → Type 0
+abbrev pub Tokens : List ℕ → List Placed → Type 0
 Tokens text [] = Gap text []
 Tokens text (token ∷ tokens) =
     (here rest : List ℕ) × Gap text here × Stands token.kind here rest × (token.left ≡ length here)
     × (is_last token.kind ≡ true → tokens ≡ []) × (is_last token.kind ≡ false → Tokens rest tokens)
+
+-- the text has these tokens, each at some place
+abbrev pub HasTokens : List ℕ → List Kind → Type 0
+HasTokens text tokens = (placed : List Placed) × Tokens text placed × (placed_kinds placed ≡ tokens)

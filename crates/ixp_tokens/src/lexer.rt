@@ -1,7 +1,8 @@
 //! From bytes to tokens.
-ghost use Rattle.std.specs.Prelude.{◌≡◌, ◌<◌, [], false, length, IfOk, IfSome};
+ghost use Rattle.std.specs.Prelude.{◌≡◌, ◌<◌, List, [], false, length, slice_get, IfOk, IfSome};
 ghost use Rattle.ixp_tokens.specs.Cutting.{is_colon_text};
-ghost use Rattle.ixp_tokens.specs.Tokens.{word_kind, Says, Stands, Tokens};
+ghost use Rattle.ixp_tokens.specs.Reading.{kinds};
+ghost use Rattle.ixp_tokens.specs.Tokens.{word_kind, Says, Stands, Placed, Tokens, HasTokens};
 
 use crate::gap::behind_gap;
 use crate::shape::{Shape, piece_at, plain_behind};
@@ -61,18 +62,17 @@ fn token_at(alloc: Global, bytes: &[u8], plain: usize) -> Result<(Kind, &[u8]), 
     Ok((kind, piece.rest))
 }
 
-/// The tokens of any bytes, each with its place. Where one of them stands in no text, it is the last.
+/// The tokens of any bytes. Where one of them stands in no text, it is the last.
 pub fn tokens_of(alloc: Global, bytes: &[u8]) -> Result<Vec<Token>, AllocError>
-    ensures { IfOk result (λ v. Tokens bytes.now v.items) }
+    ensures { IfOk result (λ v. HasTokens bytes.now (kinds v.items)) }
 {
     let mut tokens = Vec::new(alloc);
     let mut rest = behind_gap(bytes);
     let mut plain = rest.len();
     'bytes: while !rest.is_empty() {
-        let left = rest.len();
         let (kind, after) = token_at(alloc, rest, plain)?;
         let is_last = kind.is_last();
-        tokens.push(Token { kind, left })?;
+        tokens.push(Token { kind })?;
         if is_last {
             break;
         }
@@ -80,4 +80,21 @@ pub fn tokens_of(alloc: Global, bytes: &[u8]) -> Result<Vec<Token>, AllocError>
         rest = behind_gap(after);
     }
     Ok(tokens)
+}
+
+/// How many bytes of a text are left where the token begins before which there are so many others.
+pub fn left_at(bytes: &[u8], others: usize) -> usize
+    requires { (tokens : List Placed) × Tokens bytes.now tokens × (others < length tokens) }
+    ensures { (tokens : List Placed) → Tokens bytes.now tokens → IfSome (slice_get tokens others) (λ t. result ≡ t.left) }
+{
+    let mut rest = behind_gap(bytes);
+    let mut plain = rest.len();
+    let mut more = others;
+    'tokens: while more > 0 {
+        let after = piece_at(rest, plain).rest;
+        plain = plain_behind(rest, after, plain);
+        rest = behind_gap(after);
+        more -= 1;
+    }
+    rest.len()
 }

@@ -7,16 +7,15 @@ ghost use Rattle.ixp_num.specs.declared.asn.Asn.{Asn};
 ghost use Rattle.ixp_num.specs.declared.prefix.Prefix.{Prefix};
 ghost use Rattle.ixp_tokens.specs.Bytes.{begins_with, is_digit, is_letter, is_word_byte, is_address_byte, is_text_byte};
 ghost use Rattle.ixp_tokens.specs.Pieces.{same_mark};
-ghost use Rattle.ixp_tokens.specs.Tokens.{mark_text, AreDigits, word_kind, Stands, Tokens};
+ghost use Rattle.ixp_tokens.specs.Tokens.{mark_text, AreDigits, word_kind, Stands, Placed, Tokens};
 ghost use Rattle.ixp_tokens.specs.Written.{FewColons, NoOctet, NoLength, joins};
 ghost use Rattle.ixp_tokens.specs.declared.token.Kind.TheVariants as Kind;
 ghost use Rattle.ixp_tokens.specs.declared.token.Mark.{Mark};
 ghost use Rattle.ixp_tokens.specs.declared.token.Mark.TheVariants.{Colon};
-ghost use Rattle.ixp_tokens.specs.declared.token.Token.{Token};
 
 /// A text has one list of tokens: what [`crate::tokens_of`] ensures says exactly which one it gives.
 pub fn one_list()
-    ensures { (text : List ℕ) (one other : List Token) → Tokens text one → Tokens text other → one ≡ other }
+    ensures { (text : List ℕ) (one other : List Placed) → Tokens text one → Tokens text other → one ≡ other }
 {}
 
 /// A token that is written stands at the front of its text, where what is behind it doesn't go on with it.

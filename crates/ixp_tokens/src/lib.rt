@@ -22,7 +22,7 @@ mod word;
 
 pub use boxed::Boxed;
 pub use fault::{Cause, Fault};
-pub use lexer::tokens_of;
+pub use lexer::{left_at, tokens_of};
 pub use lexer_laws::{one_list, written_tokens};
 pub use take::{
     addr_at, after_mark, after_word, is_mark, is_word, mark_at, name_at, number_at, unexpected,

@@ -140,9 +140,8 @@ impl Kind {
     }
 }
 
-/// A token, and how many bytes of the text are left where it begins.
+/// A token of a text. It doesn't keep its place, since only a fault asks for one: [`crate::left_at`] finds it.
 #[derive(Drop)]
 pub struct Token {
     pub kind: Kind,
-    pub left: usize,
 }

@@ -176,7 +176,7 @@ branch-returns-clause-reads t c =
     (sym c.in_default.ensures.reads)
     ∙ ap (λ x. x >>= branch_read) c.in_ok-stmt.ensures.reads
     ∙ ap (λ xs. Ok (said (returned_of c.statement.new.returned) (stmts_view xs), kinds c.in_ok-stmt.rest.now))
-    (sym (c.in_ok-push.ensures.items ∙ ap (λ xs. xs ++ c.in_ok-stmt.stmt ∷ []) c.new-body.ensures.items))
+    (sym (c.exact.ensures ∙ c.in_ok-push.ensures.items ∙ ap (λ xs. xs ++ c.in_ok-stmt.stmt ∷ []) c.new-body.ensures.items))
 
 -- Statements one behind the other.
 
@@ -228,6 +228,7 @@ statements-returns-clause-reads t c =
     sym c.each.invariant.reads.2
     ∙ ends (λ s ts. read (statement_round (statement_form frame c.args.depth) c.args.in_arm s) ts) c.each.invariant.reads.0 before ts ts before
     (round_ends frame c.args.depth c.args.in_arm before ts (sym c.is_statement.ensures ∙ c.each-test.false))
+    ∙ ap (λ xs. Ok (said (returned_of c.each.returned) (stmts_view xs), ts)) (sym c.exact.ensures)
 
 -- The arms of a `case`.
 
@@ -300,3 +301,4 @@ arms_at-returns-clause-reads t c =
     sym c.each.invariant.reads.2
     ∙ ends (λ s ts. read (arm_round (statement_form frame c.args.depth) case.is_of_states case.place s) ts) c.each.invariant.reads.0 before ts ts before
     (arms_end_here frame c.args.depth case.is_of_states case.place before ts (sym c.is_label.ensures ∙ c.each-test.false))
+    ∙ ap (λ xs. Ok (said (returned_of c.each.returned) (arms_list xs), ts)) (sym c.exact.ensures)

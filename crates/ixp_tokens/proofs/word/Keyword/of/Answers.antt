@@ -1,4 +1,4 @@
-use Rattle.std.proofs.Common.{sym, ◌∙◌, ap, subst, ◌+◌, Some, slice_index_or, []}
+use Rattle.std.proofs.Common.{sym, ◌∙◌, subst, ◌+◌, Some, slice_index_or, []}
 use Rattle.ixp_tokens.specs.Vocabulary.{all_words}
 use Rattle.ixp_tokens.specs.Words.{IsKeyword}
 use Rattle.ixp_tokens.proofs.Keywords.{profile_length, in_profile, in_foreign, in_neither}
