@@ -1,27 +1,27 @@
 -- Which call a request is.
 use Rattle.std.specs.Prelude.{◌≡◌, ℕ, Result, Ok, Err}
 use Rattle.ixp_registry.specs.declared.edit_kind.EditKind.{EditKind}
-use Rattle.ixp_edits.specs.declared.edit.Edit.{Edit}
-use Rattle.ixp_steps.specs.declared.state.Entry.{Entry}
+use Rattle.ixp_machine_edits.specs.declared.edit.Edit.{Edit}
+use Rattle.ixp_machine_steps.specs.declared.state.Entry.{Entry}
 use Rattle.ixp_machine.specs.declared.question.Query.{Query}
 use Rattle.ixp_machine.specs.declared.question.Query.TheVariants as query
 use Rattle.ixp_http.specs.declared.request.Request.{Request}
-use Rattle.ixp_json.specs.declared.pointer.CallFault.{CallFault}
-use Rattle.ixp_json.specs.declared.pointer.CallFault.TheVariants as fault
-use Rattle.ixp_json.specs.declared.pointer.Pointer.TheVariants.{RequestNumber, Seen}
-use Rattle.ixp_paths.specs.Table.{look}
-use Rattle.ixp_paths.specs.declared.served.Found.{Found}
-use Rattle.ixp_paths.specs.declared.served.Found.TheVariants as found
-use Rattle.ixp_paths.specs.declared.table.Args.{Args}
-use Rattle.ixp_paths.specs.declared.table.Kind.{Kind}
-use Rattle.ixp_paths.specs.declared.table.Kind.TheVariants as kind
-use Rattle.ixp_paths.specs.declared.table.Question.{Question}
-use Rattle.ixp_paths.specs.declared.table.Question.TheVariants as question
-use Rattle.ixp_bodies.specs.Answers.{must, read_then, ThenSays}
-use Rattle.ixp_bodies.specs.declared.asked.RouteAsked.{RouteAsked}
-use Rattle.ixp_bodies.specs.Asked.{SaysRoute}
-use Rattle.ixp_bodies.specs.Bodies.{SaysEdit}
-use Rattle.ixp_bodies.specs.Edits.{handle_in}
+use Rattle.ixp_api_json.specs.declared.pointer.CallFault.{CallFault}
+use Rattle.ixp_api_json.specs.declared.pointer.CallFault.TheVariants as fault
+use Rattle.ixp_api_json.specs.declared.pointer.Pointer.TheVariants.{RequestNumber, Seen}
+use Rattle.ixp_api_paths.specs.Table.{look}
+use Rattle.ixp_api_paths.specs.declared.served.Found.{Found}
+use Rattle.ixp_api_paths.specs.declared.served.Found.TheVariants as found
+use Rattle.ixp_api_paths.specs.declared.table.Args.{Args}
+use Rattle.ixp_api_paths.specs.declared.table.Kind.{Kind}
+use Rattle.ixp_api_paths.specs.declared.table.Kind.TheVariants as kind
+use Rattle.ixp_api_paths.specs.declared.table.Question.{Question}
+use Rattle.ixp_api_paths.specs.declared.table.Question.TheVariants as question
+use Rattle.ixp_api_bodies.specs.Answers.{must, read_then, ThenSays}
+use Rattle.ixp_api_bodies.specs.declared.asked.RouteAsked.{RouteAsked}
+use Rattle.ixp_api_bodies.specs.Asked.{SaysRoute}
+use Rattle.ixp_api_bodies.specs.Bodies.{SaysEdit}
+use Rattle.ixp_api_bodies.specs.Edits.{handle_in}
 use Rattle.ixp_api.specs.Heads.{secret_of, number_of, seen_of}
 use Rattle.ixp_api.specs.declared.call.Call.{Call}
 use Rattle.ixp_api.specs.declared.call.Call.TheVariants as call

@@ -5,7 +5,7 @@ use Rattle.std.specs.Str.Lossy.{utf8_lossy}
 use Rattle.form_urlencoded.specs.Form.{decode, raw_pairs}
 use Rattle.ixp_http.specs.Fields.{values}
 use Rattle.ixp_http.specs.declared.fields.Field.{Field}
-use Rattle.ixp_paths.specs.Numbers.{number_upto}
+use Rattle.ixp_num_tables.specs.Decimals.{number_upto}
 
 -- the value of the first field with the name, case aside
 abbrev pub field_of : List ℕ → List Field → Option (List ℕ)

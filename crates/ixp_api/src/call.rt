@@ -1,8 +1,8 @@
 //! Calls.
-use ixp_bodies::RouteAsked;
+use ixp_api_bodies::RouteAsked;
 use ixp_machine::Query;
+use ixp_machine_steps::Entry;
 use ixp_num::{Items, Name};
-use ixp_steps::Entry;
 
 /// What a request calls for.
 #[derive(Debug, Drop)]

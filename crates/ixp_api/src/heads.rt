@@ -4,7 +4,7 @@ ghost use Rattle.ixp_api.specs.Heads as spec;
 
 use ixp_http::{Field, first_value};
 use ixp_num::Items;
-use ixp_paths::number_upto;
+use ixp_num_tables::number_upto;
 use std::alloc::{AllocError, Global};
 
 /// A copy of the secret of the request, empty where it has none.

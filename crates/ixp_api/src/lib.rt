@@ -10,8 +10,8 @@ mod routing;
 mod seen;
 
 pub use call::{Call, ExplainCall};
-pub use ixp_bodies::RouteAsked;
-pub use ixp_json::{CallFault, Field, Pointer};
-pub use ixp_paths::Paths;
-pub use ixp_replies::{Outcome, reply_of};
+pub use ixp_api_bodies::RouteAsked;
+pub use ixp_api_json::{CallFault, Field, Pointer};
+pub use ixp_api_paths::Paths;
+pub use ixp_api_replies::{Outcome, reply_of};
 pub use routing::route;

@@ -1,22 +1,22 @@
 //! The call that a request is.
 ghost use Rattle.std.specs.Prelude.{◌≡◌, ◌<◌, ◌^◌, Ok, true, IfOk};
-ghost use Rattle.ixp_bodies.specs.Answers.{Gives, must};
-ghost use Rattle.ixp_bodies.specs.Lawful.{is_lawful};
+ghost use Rattle.ixp_api_bodies.specs.Answers.{Gives, must};
+ghost use Rattle.ixp_api_bodies.specs.Lawful.{is_lawful};
 ghost use Rattle.ixp_api.specs.Calls as spec;
 ghost use Rattle.ixp_api.specs.Heads as heads;
 
 use crate::call::{Call, ExplainCall};
 use crate::heads::{number_of, secret_of};
 use crate::seen::seen_of;
-use ixp_bodies::{edit_of, route_asked, router_of};
-use ixp_edits::Edit;
+use ixp_api_bodies::{edit_of, route_asked, router_of};
+use ixp_api_json::{CallFault, Pointer};
+use ixp_api_paths::{Args, Found, Kind, Paths, Question};
 use ixp_http::{Field, Request};
-use ixp_json::{CallFault, Pointer};
 use ixp_machine::Query;
+use ixp_machine_edits::Edit;
+use ixp_machine_steps::Entry;
 use ixp_num::Items;
-use ixp_paths::{Args, Found, Kind, Paths, Question};
 use ixp_registry::EditKind;
-use ixp_steps::Entry;
 use std::alloc::Global;
 
 // A copy of the secret of the request.

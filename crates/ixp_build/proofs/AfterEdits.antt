@@ -2,8 +2,8 @@
 use Rattle.std.proofs.Common.{◌≡◌, ℕ, ◌<◌, ◌^◌, Bool, true, false, List, [], ◌∷◌, ◌++◌, Option, Some, None, IfSome, option_map, map, refl, sym, ap, ◌∙◌, subst, if◌then◌else◌}
 use Rattle.std.proofs.lemmas.Bool.{or_parts}
 use Rattle.std.specs.List.{AllByRecursion, list_any}
-use Rattle.ixp_tables.specs.Tables.{if_there, same}
-use Rattle.ixp_tables.proofs.Looking.{all_found}
+use Rattle.ixp_num_tables.specs.Tables.{if_there, same}
+use Rattle.ixp_num_tables.proofs.Looking.{all_found}
 use Rattle.ixp_num.specs.declared.roa.Roa.{Roa}
 use Rattle.ixp_print.specs.Texts.{config_text}
 use Rattle.ixp_registry.specs.declared.registry.Registry.{Registry}
@@ -11,17 +11,17 @@ use Rattle.ixp_registry.specs.declared.router.Router.{Router}
 use Rattle.ixp_registry.specs.Keys.{router_key}
 use Rattle.ixp_registry.specs.Sessions.{Session, session}
 use Rattle.ixp_registry.specs.Valid.{Valid}
-use Rattle.ixp_edits.specs.declared.edit.Edit.{Edit}
-use Rattle.ixp_edits.specs.Edits.{next, refusal, IsLawful}
-use Rattle.ixp_edits.proofs.AllEdits.{still_valid}
+use Rattle.ixp_machine_edits.specs.declared.edit.Edit.{Edit}
+use Rattle.ixp_machine_edits.specs.Edits.{next, refusal, IsLawful}
+use Rattle.ixp_machine_edits.proofs.AllEdits.{still_valid}
 use Rattle.ixp_compile.specs.Header.{header}
 use Rattle.ixp_compile.specs.Generated.{inputs, session_part}
-use Rattle.ixp_generate.specs.Answers.{router_at}
-use Rattle.ixp_steps.specs.Runs.{after_all}
-use Rattle.ixp_touches.specs.declared.touch.Touch.{Touch}
-use Rattle.ixp_touches.specs.Touched.{SessionKey, is_key, touch}
-use Rattle.ixp_touches.proofs.Equalities.{any_of_both}
-use Rattle.ixp_touches.proofs.Untouched.{headers_stay, parts_stay, roas_stay}
+use Rattle.ixp_compile_text.specs.Answers.{router_at}
+use Rattle.ixp_machine_steps.specs.Runs.{after_all}
+use Rattle.ixp_build_touches.specs.declared.touch.Touch.{Touch}
+use Rattle.ixp_build_touches.specs.Touched.{SessionKey, is_key, touch}
+use Rattle.ixp_build_touches.proofs.Equalities.{any_of_both}
+use Rattle.ixp_build_touches.proofs.Untouched.{headers_stay, parts_stay, roas_stay}
 use Rattle.ixp_build.specs.declared.bundle.Bundle.{Bundle}
 use Rattle.ixp_build.specs.Bundles.{AgreesBut, IsOf, untouched, full_text, text_of, head_wanted, part_wanted}
 use Rattle.ixp_build.specs.Changes.{with_texts}

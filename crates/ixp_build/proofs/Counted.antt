@@ -6,17 +6,17 @@ use Rattle.std.specs.Ordering.{match_ordering}
 use Rattle.std.specs.List.{AllByRecursion}
 use Rattle.std.proofs.lemmas.Bool.{eqb-true}
 use Rattle.std.proofs.lemmas.List.{append-nil}
-use Rattle.ixp_edits.proofs.Numbers.{differ}
-use Rattle.ixp_tables.specs.Sums.{count, one_if}
-use Rattle.ixp_tables.specs.Tables.{Ascends, order, find, if_there, same}
-use Rattle.ixp_tables.proofs.Counts.{same_is}
-use Rattle.ixp_tables.proofs.Looking.{all_found}
-use Rattle.ixp_tables.proofs.Orders.{order_same}
-use Rattle.ixp_tables.proofs.Places.{above_equal, find_above}
-use Rattle.ixp_touches.specs.Touched.{is_key, lists_header, lists_session}
-use Rattle.ixp_touches.proofs.ListedOnce.{counted_flat, counted_mapped}
-use Rattle.ixp_touches.proofs.Listing.{as_list}
-use Rattle.ixp_touches.proofs.TwoSteps.{none_counted}
+use Rattle.ixp_machine_edits.proofs.Numbers.{differ}
+use Rattle.ixp_num_tables.specs.Sums.{count, one_if}
+use Rattle.ixp_num_tables.specs.Tables.{Ascends, order, find, if_there, same}
+use Rattle.ixp_num_tables.proofs.Counts.{same_is}
+use Rattle.ixp_num_tables.proofs.Looking.{all_found}
+use Rattle.ixp_num_tables.proofs.Orders.{order_same}
+use Rattle.ixp_num_tables.proofs.Places.{above_equal, find_above}
+use Rattle.ixp_build_touches.specs.Touched.{is_key, lists_header, lists_session}
+use Rattle.ixp_build_touches.proofs.ListedOnce.{counted_flat, counted_mapped}
+use Rattle.ixp_build_touches.proofs.Listing.{as_list}
+use Rattle.ixp_build_touches.proofs.TwoSteps.{none_counted}
 use Rattle.ixp_build.specs.declared.pending.Pending.{Pending}
 use Rattle.ixp_build.specs.declared.pending.PendingRouter.{PendingRouter}
 use Rattle.ixp_build.specs.declared.pending.PendingSession.{PendingSession}

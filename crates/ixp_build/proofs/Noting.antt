@@ -3,24 +3,24 @@ use Rattle.std.proofs.Common.{◌≡◌, ◌<◌, ℕ, Bool, true, false, not, �
 use Rattle.std.specs.declared.cmp.Ordering.TheVariants.{Equal}
 use Rattle.std.specs.List.{list_any}
 use Rattle.std.proofs.lemmas.Bool.{eqb-true, eqb-false}
-use Rattle.ixp_tables.specs.Tables.{Ascends, order, find, put, without, if_there, same}
-use Rattle.ixp_tables.proofs.Counts.{same_is, same_itself}
-use Rattle.ixp_tables.proofs.Looking.{look_kept, put-without}
-use Rattle.ixp_tables.proofs.Orders.{head_same, order_equal, order_same}
-use Rattle.ixp_tables.proofs.TableLaws.{find-key, find-put-other, find-put-same-key}
+use Rattle.ixp_num_tables.specs.Tables.{Ascends, order, find, put, without, if_there, same}
+use Rattle.ixp_num_tables.proofs.Counts.{same_is, same_itself}
+use Rattle.ixp_num_tables.proofs.Looking.{look_kept, put-without}
+use Rattle.ixp_num_tables.proofs.Orders.{head_same, order_equal, order_same}
+use Rattle.ixp_num_tables.proofs.TableLaws.{find-key, find-put-other, find-put-same-key}
 use Rattle.ixp_print.specs.Texts.{config_text}
 use Rattle.ixp_registry.specs.declared.registry.Registry.{Registry}
 use Rattle.ixp_registry.specs.Valid.{Valid}
-use Rattle.ixp_edits.specs.declared.edit.Edit.{Edit}
-use Rattle.ixp_edits.specs.Edits.{next, refusal, IsLawful}
+use Rattle.ixp_machine_edits.specs.declared.edit.Edit.{Edit}
+use Rattle.ixp_machine_edits.specs.Edits.{next, refusal, IsLawful}
 use Rattle.ixp_compile.specs.Header.{header}
 use Rattle.ixp_compile.specs.Generated.{session_part}
-use Rattle.ixp_touches.specs.declared.touch.Touch.{Touch}
-use Rattle.ixp_touches.specs.Touched.{SessionKey, is_key, lists_header, lists_session, reached, touch, with_after}
-use Rattle.ixp_touches.proofs.Equalities.{eq_itself}
-use Rattle.ixp_touches.proofs.Listing.{any_flat, any_mapped}
-use Rattle.ixp_touches.proofs.TwoSteps.{headers_alike, roas_alike, sessions_alike}
-use Rattle.ixp_touches.proofs.Untouched.{headers_stay, parts_stay, roas_stay}
+use Rattle.ixp_build_touches.specs.declared.touch.Touch.{Touch}
+use Rattle.ixp_build_touches.specs.Touched.{SessionKey, is_key, lists_header, lists_session, reached, touch, with_after}
+use Rattle.ixp_build_touches.proofs.Equalities.{eq_itself}
+use Rattle.ixp_build_touches.proofs.Listing.{any_flat, any_mapped}
+use Rattle.ixp_build_touches.proofs.TwoSteps.{headers_alike, roas_alike, sessions_alike}
+use Rattle.ixp_build_touches.proofs.Untouched.{headers_stay, parts_stay, roas_stay}
 use Rattle.ixp_build.specs.declared.bundle.Bundle.{Bundle}
 use Rattle.ixp_build.specs.declared.making.Made.{Made}
 use Rattle.ixp_build.specs.declared.orders.Order.{Order}

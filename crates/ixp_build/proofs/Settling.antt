@@ -1,17 +1,17 @@
--- Texts that are made anew settle what was listed.
+-- Texts that are regenerated settle what was listed.
 use Rattle.std.proofs.Common.{◌≡◌, ℕ, Bool, true, false, ◌==◌, List, [], ◌∷◌, Option, Some, None, option_map, map, refl, sym, ap, ◌∙◌, subst}
 use Rattle.std.proofs.lemmas.Bool.{eqb-true}
 use Rattle.std.specs.List.{list_any}
-use Rattle.ixp_tables.specs.Tables.{find, if_there, same}
-use Rattle.ixp_tables.proofs.Counts.{same_is, same_itself}
+use Rattle.ixp_num_tables.specs.Tables.{find, if_there, same}
+use Rattle.ixp_num_tables.proofs.Counts.{same_is, same_itself}
 use Rattle.ixp_print.specs.Texts.{config_text}
 use Rattle.ixp_registry.specs.declared.registry.Registry.{Registry}
 use Rattle.ixp_registry.specs.declared.router.Router.{Router}
 use Rattle.ixp_registry.specs.Sessions.{session}
 use Rattle.ixp_compile.specs.Header.{header}
 use Rattle.ixp_compile.specs.Generated.{header_inputs, inputs, session_part}
-use Rattle.ixp_generate.specs.Answers.{router_at}
-use Rattle.ixp_touches.specs.Touched.{SessionKey, is_key}
+use Rattle.ixp_compile_text.specs.Answers.{router_at}
+use Rattle.ixp_build_touches.specs.Touched.{SessionKey, is_key}
 use Rattle.ixp_build.specs.declared.rows.RouterTexts.{RouterTexts}
 use Rattle.ixp_build.specs.Keys.{part_key, texts_key}
 use Rattle.ixp_build.specs.Changes.{with_head, with_heads, with_part, with_parts, with_texts}

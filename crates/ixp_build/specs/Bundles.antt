@@ -2,15 +2,15 @@
 use Rattle.std.specs.Prelude.{◌≡◌, ℕ, false, List, [], ◌∷◌, ◌++◌, Option, None, flat_map}
 use Rattle.std.specs.Option.{option_map}
 use Rattle.std.specs.List.{AllByRecursion}
-use Rattle.ixp_tables.specs.Tables.{Ascends, find, if_there}
+use Rattle.ixp_num_tables.specs.Tables.{Ascends, find, if_there}
 use Rattle.ixp_num.specs.declared.roa.Roa.{Roa}
 use Rattle.ixp_print.specs.Texts.{config_text}
 use Rattle.ixp_registry.specs.declared.registry.Registry.{Registry}
 use Rattle.ixp_compile.specs.Header.{header}
 use Rattle.ixp_compile.specs.Generated.{footer, generated, session_part}
-use Rattle.ixp_generate.specs.Answers.{header_inputs_at, inputs_at, router_at}
-use Rattle.ixp_touches.specs.declared.touch.Touch.{Touch}
-use Rattle.ixp_touches.specs.Touched.{lists_header, lists_session}
+use Rattle.ixp_compile_text.specs.Answers.{header_inputs_at, inputs_at, router_at}
+use Rattle.ixp_build_touches.specs.declared.touch.Touch.{Touch}
+use Rattle.ixp_build_touches.specs.Touched.{lists_header, lists_session}
 use Rattle.ixp_build.specs.declared.bundle.Bundle.{Bundle}
 use Rattle.ixp_build.specs.declared.rows.RouterTexts.{RouterTexts}
 use Rattle.ixp_build.specs.Keys.{part_key, texts_key}
@@ -27,7 +27,7 @@ part_in ts h n = if_there (find texts_key h ts) None (λ t. option_map (λ p. p.
 abbrev pub built_of : Bundle → ℕ
 built_of b = b.built
 
--- how many texts the last installation of a later version made anew
+-- how many texts the last installation of a later version regenerated
 abbrev pub made_of : Bundle → ℕ
 made_of b = b.made
 

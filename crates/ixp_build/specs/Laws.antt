@@ -1,10 +1,10 @@
 -- What is pending of a bundle after edits, one after the other.
 use Rattle.std.specs.Prelude.{◌≡◌, ℕ, false, ⊤, ◌||◌, List, [], ◌∷◌, ◌++◌, None}
 use Rattle.ixp_registry.specs.declared.registry.Registry.{Registry}
-use Rattle.ixp_edits.specs.declared.edit.Edit.{Edit}
-use Rattle.ixp_edits.specs.Edits.{next, refusal, IsLawful}
-use Rattle.ixp_touches.specs.declared.touch.Touch.{Touch}
-use Rattle.ixp_touches.specs.Touched.{lists_header, lists_session, touch}
+use Rattle.ixp_machine_edits.specs.declared.edit.Edit.{Edit}
+use Rattle.ixp_machine_edits.specs.Edits.{next, refusal, IsLawful}
+use Rattle.ixp_build_touches.specs.declared.touch.Touch.{Touch}
+use Rattle.ixp_build_touches.specs.Touched.{lists_header, lists_session, touch}
 
 -- each was accepted on the registry that it met
 abbrev pub AllAccepted : Registry → List Edit → Type 0

@@ -3,14 +3,14 @@ use Rattle.std.specs.Prelude.{◌≡◌, ◌≢◌, ℕ, ◌+◌, ◌<◌, ◌^�
 use Rattle.std.specs.List.{AllByRecursion}
 use Rattle.std.specs.Option.{option_map}
 use Rattle.ixp_print.specs.Texts.{config_text}
-use Rattle.ixp_tables.specs.Tables.{if_there}
+use Rattle.ixp_num_tables.specs.Tables.{if_there}
 use Rattle.ixp_registry.specs.declared.registry.Registry.{Registry}
 use Rattle.ixp_compile.specs.declared.inputs.HeaderInputs.{HeaderInputs}
 use Rattle.ixp_compile.specs.declared.inputs.Inputs.{Inputs}
 use Rattle.ixp_compile.specs.Header.{header}
 use Rattle.ixp_compile.specs.Generated.{session_part}
-use Rattle.ixp_generate.specs.Answers.{header_inputs_at, inputs_at}
-use Rattle.ixp_touches.specs.declared.touch.Touch.{Touch}
+use Rattle.ixp_compile_text.specs.Answers.{header_inputs_at, inputs_at}
+use Rattle.ixp_build_touches.specs.declared.touch.Touch.{Touch}
 use Rattle.ixp_build.specs.declared.bundle.Bundle.{Bundle}
 use Rattle.ixp_build.specs.declared.fault.InstallFault.{InstallFault}
 use Rattle.ixp_build.specs.declared.fault.InstallFault.TheVariants.{Stale, NoMemory}

@@ -1,9 +1,9 @@
 -- What is pending of a bundle: the texts that edits touched since it was built, each with the count of the last edit that touched it.
 use Rattle.std.specs.Prelude.{◌≡◌, ℕ, ◌==◌, nat_lt, not, Bool, List, [], ◌∷◌, Option, Some, None, filter, filter_map, flat_map, map, if◌then◌else◌}
 use Rattle.std.specs.List.{AllByRecursion}
-use Rattle.ixp_tables.specs.Tables.{Ascends, find, put, if_there}
+use Rattle.ixp_num_tables.specs.Tables.{Ascends, find, put, if_there}
 use Rattle.ixp_registry.specs.declared.registry.Registry.{Registry}
-use Rattle.ixp_touches.specs.declared.touch.Touch.{Touch}
+use Rattle.ixp_build_touches.specs.declared.touch.Touch.{Touch}
 use Rattle.ixp_build.specs.declared.pending.Pending.{Pending}
 use Rattle.ixp_build.specs.declared.pending.PendingRouter.{PendingRouter}
 use Rattle.ixp_build.specs.declared.pending.PendingSession.{PendingSession}

@@ -1,6 +1,6 @@
 //! Bundles.
 ghost use Rattle.std.specs.Prelude.{◌≡◌, ◌++◌, IfOk, OnOk, OnErr, flat_map};
-ghost use Rattle.ixp_tables.specs.Tables.{if_there};
+ghost use Rattle.ixp_num_tables.specs.Tables.{if_there};
 ghost use Rattle.std.specs.Option.{option_map};
 ghost use Rattle.ixp_build.specs.Bundles.{built_of, made_of, roas_of, text_of, whole_text};
 ghost use Rattle.ixp_build.specs.Orders.{Installs, installed, made_after};
@@ -9,10 +9,9 @@ use crate::changing::{put_heads, put_parts, shared_texts};
 use crate::fault::InstallFault;
 use crate::making::Made;
 use crate::rows::{PartText, RouterTexts};
-use ixp_generate::footer;
-use ixp_lists::Held;
+use ixp_compile_text::footer;
 use ixp_num::{Items, Name, Roa};
-use ixp_tables::Table;
+use ixp_num_tables::{Held, Table};
 use std::alloc::{AllocError, Global};
 
 /// The texts of all routers of a registry, part by part, and its ROAs. Only [`Bundle::open`] and [`Bundle::share`] give a bundle, and

@@ -2,11 +2,11 @@
 ghost use Rattle.std.specs.Prelude.{◌≡◌, ◌<◌, ◌==◌, not, ℕ, List, None, if◌then◌else◌};
 ghost use Rattle.ixp_registry.specs.declared.registry.Registry.{Registry};
 ghost use Rattle.ixp_registry.specs.Valid.{Valid};
-ghost use Rattle.ixp_edits.specs.declared.edit.Edit.{Edit};
-ghost use Rattle.ixp_edits.specs.Edits.{next, refusal, IsLawful};
-ghost use Rattle.ixp_steps.specs.Runs.{after_all};
-ghost use Rattle.ixp_touches.specs.declared.touch.Touch.{Touch};
-ghost use Rattle.ixp_touches.specs.Touched.{lists_header, lists_session, reached, touch, with_after};
+ghost use Rattle.ixp_machine_edits.specs.declared.edit.Edit.{Edit};
+ghost use Rattle.ixp_machine_edits.specs.Edits.{next, refusal, IsLawful};
+ghost use Rattle.ixp_machine_steps.specs.Runs.{after_all};
+ghost use Rattle.ixp_build_touches.specs.declared.touch.Touch.{Touch};
+ghost use Rattle.ixp_build_touches.specs.Touched.{lists_header, lists_session, reached, touch, with_after};
 ghost use Rattle.ixp_build.specs.declared.bundle.Bundle.{Bundle};
 ghost use Rattle.ixp_build.specs.Bundles.{AgreesBut, IsOf, full_text, text_of, untouched};
 ghost use Rattle.ixp_build.specs.declared.pending.Pending.{Pending};

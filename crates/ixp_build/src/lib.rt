@@ -1,4 +1,4 @@
-//! The texts of all route servers, made anew only where edits touched them.
+//! The texts of all route servers, regenerated only where edits touched them.
 //!
 //! A [`Bundle`] holds, for each router of a registry, the text of its head and of each session's part, and the ROAs. [`Bundle::order`]
 //! takes from the registry what touched texts depend on, [`make`] makes these texts, and [`Bundle::install`] puts them in their places. After

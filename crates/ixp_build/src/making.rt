@@ -9,9 +9,9 @@ ghost use Rattle.ixp_build.specs.Orders.{HasBound, HasBounds, head_made, made_fr
 
 use crate::orders::Order;
 use ixp_compile::{HeaderInputs, Inputs};
-use ixp_generate::{fragment, header_of};
-use ixp_lists::Held;
+use ixp_compile_text::{fragment, header_of};
 use ixp_num::{Items, Name, Roa};
+use ixp_num_tables::Held;
 use std::alloc::{AllocError, Global};
 
 /// The texts of an order, ready to be installed.

@@ -3,19 +3,18 @@ ghost use Rattle.std.specs.Prelude.{◌≡◌, ◌<◌, ◌^◌, IfOk, map};
 ghost use Rattle.std.specs.List.{AllByRecursion};
 ghost use Rattle.ixp_registry.specs.Keys.{interface_key};
 ghost use Rattle.ixp_registry.specs.Valid.{Valid};
-ghost use Rattle.ixp_tables.specs.Tables.{Ascends};
-ghost use Rattle.ixp_generate.specs.Parts.{texts_by_session};
+ghost use Rattle.ixp_num_tables.specs.Tables.{Ascends};
+ghost use Rattle.ixp_compile_text.specs.Parts.{texts_by_session};
 ghost use Rattle.ixp_build.specs.Bundles.{IsOf, built_of, made_of};
 ghost use Rattle.ixp_build.specs.Opened.{part_row, texts_row, texts_rows};
 
 use crate::bundle::Bundle;
 use crate::rows::{PartText, RouterTexts};
-use ixp_generate::{SessionText, header_inputs_of, header_of, texts_by_session};
-use ixp_lists::Held;
+use ixp_compile_text::{SessionText, header_inputs_of, header_of, texts_by_session};
+use ixp_machine_steps::State;
 use ixp_num::Items;
+use ixp_num_tables::{Held, Table};
 use ixp_registry::{Registry, Router};
-use ixp_steps::State;
-use ixp_tables::Table;
 use std::alloc::{AllocError, Global};
 
 fn part_rows(alloc: Global, texts: Vec<SessionText>) -> Result<Vec<PartText>, AllocError>

@@ -1,12 +1,12 @@
 //! What is pending of a bundle.
 ghost use Rattle.std.specs.Prelude.{◌≡◌, ◌++◌, IfOk, OnOk, filter, filter_map, flat_map, map};
-ghost use Rattle.ixp_tables.specs.Tables.{put};
+ghost use Rattle.ixp_num_tables.specs.Tables.{put};
 ghost use Rattle.ixp_build.specs.Keys.{pending_key};
 ghost use Rattle.ixp_build.specs.Pendings.{header_listed, header_noted, headers_noted, is_later, later, later_count, later_router, listed, noted, nothing, row_of, session_listed, session_noted, sessions_listed, sessions_noted};
 
+use ixp_build_touches::Touch;
 use ixp_num::{Items, Name};
-use ixp_tables::{Row, Table};
-use ixp_touches::Touch;
+use ixp_num_tables::{Row, Table};
 use std::alloc::{AllocError, Global};
 use std::cmp::Ordering;
 

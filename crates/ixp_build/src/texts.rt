@@ -8,9 +8,9 @@ ghost use Rattle.ixp_build.specs.Pendings.{Follows, noted, nothing};
 use crate::bundle::Bundle;
 use crate::making::make;
 use crate::pending::Pending;
+use ixp_build_touches::Touch;
+use ixp_machine_steps::State;
 use ixp_num::Name;
-use ixp_steps::State;
-use ixp_touches::Touch;
 use std::alloc::{AllocError, Global};
 
 /// The texts of all routers of a state that is edited: a bundle, and what edits touched since it was built.

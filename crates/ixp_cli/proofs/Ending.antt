@@ -1,9 +1,9 @@
 -- How a run ends, and its status.
 use Rattle.std.proofs.Common.{◌≡◌, ◌↔◌, inl, inr, ℕ, true, false, Option, Some, None, refl, sym, ap, ◌∙◌, subst}
-use Rattle.ixp_link.specs.declared.ends.LinkEnd.{LinkEnd}
-use Rattle.ixp_link.specs.declared.ends.LinkEnd.TheVariants as link
-use Rattle.ixp_load.specs.declared.fault.LoadFault.{LoadFault}
-use Rattle.ixp_load.specs.declared.fault.LoadFault.TheVariants as load
+use Rattle.ixp_http_link.specs.declared.ends.LinkEnd.{LinkEnd}
+use Rattle.ixp_http_link.specs.declared.ends.LinkEnd.TheVariants as link
+use Rattle.ixp_store_words.specs.declared.fault.LoadFault.{LoadFault}
+use Rattle.ixp_store_words.specs.declared.fault.LoadFault.TheVariants as load
 use Rattle.ixp_cli.specs.Sessions.{Unloaded, end_by}
 use Rattle.ixp_cli.specs.declared.command.Command.{Command}
 use Rattle.ixp_cli.specs.declared.command.Command.TheVariants.{Ask, Ixf, Restore, Dump, Session, Demo}

@@ -3,11 +3,11 @@ use Rattle.std.proofs.Common.{◌≡◌, ◌≢◌, ◌↔◌, ℕ, true, false,
 use Rattle.ixp_lang.specs.declared.item.Bgp.{Bgp}
 use Rattle.ixp_lang.specs.Trees.{ItemTree}
 use Rattle.ixp_lang.specs.Walks.{bgp_sessions, session_named}
-use Rattle.ixp_trial.specs.declared.trial.Trial.{Trial}
-use Rattle.ixp_causes.specs.declared.Cause.{Cause}
-use Rattle.ixp_trial.specs.declared.fault.TrialFault.{TrialFault}
-use Rattle.ixp_trial.specs.Causes.{cause_of}
-use Rattle.ixp_trial.specs.Trials.{TrialAnswer}
+use Rattle.ixp_eval_trial.specs.declared.trial.Trial.{Trial}
+use Rattle.ixp_num.specs.declared.cause.Cause.{Cause}
+use Rattle.ixp_eval_trial.specs.declared.fault.TrialFault.{TrialFault}
+use Rattle.ixp_eval_trial.specs.Causes.{cause_of}
+use Rattle.ixp_eval_trial.specs.Trials.{TrialAnswer}
 use Rattle.ixp_cli.specs.declared.end.NoAnswer.{NoAnswer}
 use Rattle.ixp_cli.specs.declared.end.NoAnswer.TheVariants.{Bad, Unknown, NoMemory}
 use Rattle.ixp_cli.specs.Evals.{IsConfiguration, IsOfOtherFamily, IsNoText, IsNoTrial, IsNoEval, IsRefused}

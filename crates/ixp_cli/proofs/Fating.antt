@@ -1,7 +1,7 @@
 -- The fate of a route, from its parts.
 use Rattle.std.proofs.Common.{◌≡◌, inl, inr, ◌+◌, ℕ, List, ◌++◌, length, drop, Option, Some, None, Result, Ok, Err, refl, sym, ap, ◌∙◌, subst}
-use Rattle.ixp_tables.specs.Tables.{find}
-use Rattle.ixp_causes.specs.declared.Cause.{Cause}
+use Rattle.ixp_num_tables.specs.Tables.{find}
+use Rattle.ixp_num.specs.declared.cause.Cause.{Cause}
 use Rattle.ixp_compile.proofs.Rights.{right}
 use Rattle.ixp_compile.specs.Fragment.{bgp_name}
 use Rattle.ixp_compile.specs.Generated.{generated, roa_tables}
@@ -15,24 +15,24 @@ use Rattle.ixp_num.specs.declared.roa.Roa.{Roa}
 use Rattle.ixp_lang.specs.Walks.{walk}
 use Rattle.ixp_policy.specs.Fates.{fate_of}
 use Rattle.ixp_read.specs.Answers.{SpellsText}
-use Rattle.ixp_readback.specs.Right.{Gen}
-use Rattle.ixp_readback.proofs.ReadBack.{alone, whole_right, whole_spelt}
+use Rattle.ixp_compile_laws.specs.Right.{Gen}
+use Rattle.ixp_compile_laws.proofs.ReadBack.{alone, whole_right, whole_spelt}
 use Rattle.ixp_registry.specs.Keys.{router_key}
 use Rattle.ixp_registry.specs.Valid.{Valid}
 use Rattle.ixp_lang.specs.declared.fate.Fate.{Fate}
 use Rattle.ixp_registry.specs.declared.registry.Registry.{Registry}
 use Rattle.ixp_registry.specs.declared.router.Router.{Router}
 use Rattle.ixp_registry.specs.Sessions.{Session, session}
-use Rattle.ixp_trial.specs.declared.fault.TrialFault.{TrialFault}
-use Rattle.ixp_trial.specs.declared.session_route.SessionRoute.{SessionRoute}
-use Rattle.ixp_trial.specs.Causes.{cause_of}
-use Rattle.ixp_trial.specs.Lines.{lines}
-use Rattle.ixp_trial.specs.SessionRoutes.{SessionRouteAnswer}
+use Rattle.ixp_eval_trial.specs.declared.fault.TrialFault.{TrialFault}
+use Rattle.ixp_eval_trial.specs.declared.session_route.SessionRoute.{SessionRoute}
+use Rattle.ixp_eval_trial.specs.Causes.{cause_of}
+use Rattle.ixp_eval_trial.specs.Lines.{lines}
+use Rattle.ixp_eval_trial.specs.SessionRoutes.{SessionRouteAnswer}
 use Rattle.ixp_cli.specs.declared.end.NoAnswer.{NoAnswer}
 use Rattle.ixp_cli.specs.declared.end.NoAnswer.TheVariants.{Bad, Unknown, NoMemory}
 use Rattle.ixp_cli.specs.Checks.{IsNoDump}
 use Rattle.ixp_cli.specs.Fates.{Fates, HasNoRouter, HasRegistry, HasRoute, IsAstray, IsFate, IsNoFate, IsNoRoute, IsOfSession, HasFate}
-use Rattle.ixp_texts.specs.Texts.{IsTextOf}
+use Rattle.ixp_compile_laws.specs.Texts.{IsTextOf}
 use Rattle.ixp_cli.specs.Inputs.{dump_part}
 use Rattle.ixp_cli.specs.Runs.{Refused, RefusedOr, no_answer}
 

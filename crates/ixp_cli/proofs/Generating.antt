@@ -1,10 +1,10 @@
 -- What is generated, from a valid registry.
 use Rattle.std.proofs.Common.{ℕ, List, None, Some, Ok, sym, subst}
 use Rattle.ixp_registry.specs.declared.registry.Registry.{Registry}
-use Rattle.ixp_readback.specs.Right.{Right}
-use Rattle.ixp_readback.proofs.ReadBack.{whole_right}
+use Rattle.ixp_compile_laws.specs.Right.{Right}
+use Rattle.ixp_compile_laws.proofs.ReadBack.{whole_right}
 use Rattle.ixp_rows.specs.Dumps.{RegistryAnswer, version_in}
-use Rattle.ixp_texts.specs.Texts.{IsTextOf}
+use Rattle.ixp_compile_laws.specs.Texts.{IsTextOf}
 use Rattle.ixp_cli.specs.Generates.{Generates, IsUnknown}
 
 pub generated_is : (r : Registry) (handle input text : List ℕ) → RegistryAnswer (version_in input) input (Ok r) → IsTextOf r handle (Some text) → Generates handle input text

@@ -1,8 +1,8 @@
 -- The dump in an input.
 use Rattle.std.proofs.Common.{◌≡◌, ℕ, ◌+◌, Bool, true, false, ◌==◌, ◌&&◌, List, [], ◌∷◌, ◌++◌, length, take, drop, append_assoc, codes, refl, sym, ap, ◌∙◌, subst, add-one}
 use Rattle.std.proofs.Math.Seq.{take-add}
-use Rattle.ixp_tables.specs.Tables.{same}
-use Rattle.ixp_valid.proofs.Lists.{take_next}
+use Rattle.ixp_num_tables.specs.Tables.{same}
+use Rattle.ixp_registry_breach.proofs.Lists.{take_next}
 use Rattle.ixp_cli.specs.Inputs.{first_line, dump_from, dump_part}
 
 abbrev ends_here : Bool → List ℕ → Bool

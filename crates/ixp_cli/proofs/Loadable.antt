@@ -1,13 +1,13 @@
 -- Of a store that can be loaded neither damage nor an older version is told.
 use Rattle.std.proofs.Common.{◌≡◌, inl, inr, ℕ, List, Option, Some, None, Err, refl, sym, ◌∙◌, subst, arith}
-use Rattle.ixp_link.specs.declared.ends.LinkEnd.{LinkEnd}
-use Rattle.ixp_link.specs.declared.ends.LinkEnd.TheVariants as link
-use Rattle.ixp_load.specs.Answers.{IsLoaded, LoadsAll, empty_registry}
-use Rattle.ixp_load.specs.Faults.{IsKeepers}
-use Rattle.ixp_load.specs.declared.fault.LoadFault.{LoadFault}
-use Rattle.ixp_load.specs.declared.fault.LoadFault.TheVariants as load
-use Rattle.ixp_opening.specs.Openings.{first_state}
-use Rattle.ixp_steps.specs.declared.state.State.{State}
+use Rattle.ixp_http_link.specs.declared.ends.LinkEnd.{LinkEnd}
+use Rattle.ixp_http_link.specs.declared.ends.LinkEnd.TheVariants as link
+use Rattle.ixp_store_words.specs.Answers.{IsLoaded, LoadsAll, empty_registry}
+use Rattle.ixp_store_words.specs.Faults.{IsKeepers}
+use Rattle.ixp_store_words.specs.declared.fault.LoadFault.{LoadFault}
+use Rattle.ixp_store_words.specs.declared.fault.LoadFault.TheVariants as load
+use Rattle.ixp_machine_steps.specs.Openings.{first_state}
+use Rattle.ixp_machine_steps.specs.declared.state.State.{State}
 use Rattle.ixp_cli.specs.declared.command.Command.{Command}
 use Rattle.ixp_cli.specs.declared.command.Command.TheVariants.{Ask, Ixf, Restore, Dump, Session, Demo}
 use Rattle.ixp_cli.specs.declared.end.End.{End}
@@ -16,7 +16,7 @@ use Rattle.ixp_cli.specs.Restores.{Store}
 use Rattle.ixp_cli.specs.Runs.{CanBeLoaded, Flow, Outside, Ends, NotLoaded, SessionEnds, Runs, status_of}
 use Rattle.ixp_cli.specs.Sessions.{Unloaded, end_by}
 
--- what is told is the store's fault, or want of memory
+-- what is told is the store's fault, or running out of memory
 keepers : (s : State) (fault : LoadFault) → IsLoaded s (Err fault) → IsKeepers fault
 keepers s load.KeeperFault is = tt
 keepers s (load.Damaged name damage) is = absurd is

@@ -2,11 +2,11 @@
 use Rattle.std.proofs.Common.{◌≡◌, inl, inr, Err, IsErrOf, refl, ap}
 use Rattle.ixp_io.specs.Faults.{Rose}
 use Rattle.ixp_io.specs.Told.{WhereTold}
-use Rattle.ixp_load.specs.Answers.{TellsVersion, LoadsAll}
-use Rattle.ixp_load.specs.Damages.{TellsRow}
-use Rattle.ixp_load.specs.declared.fault.LoadFault.{LoadFault}
-use Rattle.ixp_load.specs.declared.fault.LoadFault.TheVariants as load
-use Rattle.ixp_steps.specs.declared.state.State.{State}
+use Rattle.ixp_store_words.specs.Answers.{TellsVersion, LoadsAll}
+use Rattle.ixp_store_damage.specs.Damages.{TellsRow}
+use Rattle.ixp_store_words.specs.declared.fault.LoadFault.{LoadFault}
+use Rattle.ixp_store_words.specs.declared.fault.LoadFault.TheVariants as load
+use Rattle.ixp_machine_steps.specs.declared.state.State.{State}
 use Rattle.ixp_cli.specs.declared.end.End.{End}
 use Rattle.ixp_cli.specs.declared.end.End.TheVariants.{Done, Usage, BadInput, ReadFault, WriteFault, KeeperFault, NoMemory, UnknownRouter, NotEmpty, Damaged, OldVersion, BadLink}
 use Rattle.ixp_cli.specs.Restores.{Store}

@@ -2,14 +2,14 @@
 use Rattle.std.proofs.Common.{inl, inr, ℕ, Result, Ok, Err, Option, List, [], ◌∷◌, length, ap}
 use Rattle.ixp_http.specs.Messages.{Reading, message, closed, cut, bad}
 use Rattle.ixp_http.specs.declared.request.Request.{Request}
-use Rattle.ixp_json.specs.declared.pointer.CallFault.{CallFault}
-use Rattle.ixp_replies.specs.declared.outcome.Outcome.{Outcome}
+use Rattle.ixp_api_json.specs.declared.pointer.CallFault.{CallFault}
+use Rattle.ixp_api_replies.specs.declared.outcome.Outcome.{Outcome}
 use Rattle.ixp_api.specs.declared.call.Call.{Call}
-use Rattle.ixp_link.specs.declared.ends.LinkEnd.{LinkEnd}
-use Rattle.ixp_link.specs.declared.ends.LinkEnd.TheVariants.{Closed, BadMessage, Cut, Spent, ReadFault, WriteFault, NoMemory}
-use Rattle.ixp_link.specs.declared.ends.Served.{Served}
-use Rattle.ixp_link.specs.Turns.{Exchange, Turned, Answers, Goes, GoesOn}
-use Rattle.ixp_link.specs.Links.{Replied, EndsBy, Stopped, Ends, Serves}
+use Rattle.ixp_http_link.specs.declared.ends.LinkEnd.{LinkEnd}
+use Rattle.ixp_http_link.specs.declared.ends.LinkEnd.TheVariants.{Closed, BadMessage, Cut, Spent, ReadFault, WriteFault, NoMemory}
+use Rattle.ixp_http_link.specs.declared.ends.Served.{Served}
+use Rattle.ixp_http_link.specs.Turns.{Exchange, Turned, Answers, Goes, GoesOn}
+use Rattle.ixp_http_link.specs.Links.{Replied, EndsBy, Stopped, Ends, Serves}
 
 module _ {D E : Type 0} (f : D → E) (turn : D → Call → Outcome → D → Type 0) (turn' : E → Call → Outcome → E → Type 0) (on : (d : D) (c : Call) (o : Outcome) (e : D) → turn d c o e → turn' (f d) c o (f e)) where
   turned : (d : D) (said : Result Call CallFault) (o : Outcome) (e : D) → Turned turn d said o e → Turned turn' (f d) said o (f e)

@@ -1,6 +1,6 @@
 -- An input has one answer: one output, or it is refused.
 use Rattle.std.proofs.Common.{◌≡◌, ◌≢◌, inl, inr, ◌++◌, ℕ, List, Option, Some, None, Result, Ok, Err, sym, ap, ◌∙◌, subst}
-use Rattle.ixp_causes.specs.declared.Cause.{Cause}
+use Rattle.ixp_num.specs.declared.cause.Cause.{Cause}
 use Rattle.ixp_ixf.specs.Views.{ixf_text_of}
 use Rattle.ixp_lang.specs.Texts.{fate_text}
 use Rattle.ixp_lang.specs.Trees.{ItemTree}
@@ -10,7 +10,7 @@ use Rattle.ixp_read.specs.declared.fault.ReadFault.TheVariants as text_fault
 use Rattle.ixp_read.specs.Answers.{SpellsText}
 use Rattle.ixp_read.specs.Causes as text
 use Rattle.ixp_read.proofs.AnswerLaws.{spelt_is_answered}
-use Rattle.ixp_readback.specs.Right.{Gen}
+use Rattle.ixp_compile_laws.specs.Right.{Gen}
 use Rattle.ixp_registry.specs.declared.registry.Registry.{Registry}
 use Rattle.ixp_registry.specs.declared.router.Router.{Router}
 use Rattle.ixp_registry.specs.Keys.{router_key}
@@ -22,15 +22,15 @@ use Rattle.ixp_rows.specs.Causes as dump
 use Rattle.ixp_rows.specs.Dumps.{RegistryAnswer, version_in}
 use Rattle.ixp_rows.specs.Texts.{rows_count}
 use Rattle.ixp_rows.proofs.OneRegistry.{one_registry}
-use Rattle.ixp_tables.specs.Tables.{find}
-use Rattle.ixp_trial.specs.declared.fault.TrialFault.{TrialFault}
-use Rattle.ixp_trial.specs.declared.fault.TrialFault.TheVariants as trial_fault
-use Rattle.ixp_trial.specs.declared.session_route.SessionRoute.{SessionRoute}
-use Rattle.ixp_trial.specs.declared.trial.Trial.{Trial}
-use Rattle.ixp_trial.specs.Causes as trial
-use Rattle.ixp_trial.specs.Trials.{TrialAnswer}
-use Rattle.ixp_trial.proofs.OneSessionRoute.{one_session_route}
-use Rattle.ixp_trial.proofs.OneTrial.{one_text, one_trial}
+use Rattle.ixp_num_tables.specs.Tables.{find}
+use Rattle.ixp_eval_trial.specs.declared.fault.TrialFault.{TrialFault}
+use Rattle.ixp_eval_trial.specs.declared.fault.TrialFault.TheVariants as trial_fault
+use Rattle.ixp_eval_trial.specs.declared.session_route.SessionRoute.{SessionRoute}
+use Rattle.ixp_eval_trial.specs.declared.trial.Trial.{Trial}
+use Rattle.ixp_eval_trial.specs.Causes as trial
+use Rattle.ixp_eval_trial.specs.Trials.{TrialAnswer}
+use Rattle.ixp_eval_trial.proofs.OneSessionRoute.{one_session_route}
+use Rattle.ixp_eval_trial.proofs.OneTrial.{one_text, one_trial}
 use Rattle.ixp_cli.specs.declared.command.Question.{Question}
 use Rattle.ixp_cli.specs.declared.command.Question.TheVariants.{Check, Eval, Fate, Generate, Export}
 use Rattle.ixp_cli.specs.Checks.{Checks, IsNoDump, ok_text}
@@ -42,7 +42,7 @@ use Rattle.ixp_cli.specs.Inputs.{dump_part}
 use Rattle.ixp_cli.specs.Runs.{Answers, AsksInVain}
 use Rattle.ixp_cli.proofs.OneOutput.{one_configuration, one_output, one_route}
 
--- a fault with a cause isn't want of memory
+-- a fault with a cause isn't running out of memory
 
 dump_told : (f : DumpFault) (c : Cause) → dump.cause_of f ≡ Some c → ◌≢◌ {A = Result Registry DumpFault} (Err f) (Err dump_fault.NoMemory)
 dump_told f c e same = let gone : f ≡ dump_fault.NoMemory = cc in let none : ◌≡◌ {A = Option Cause} (Some c) None = sym e ∙ ap dump.cause_of gone in cc

@@ -4,11 +4,11 @@ use Rattle.ixp_lang.specs.Trees.{ItemTree}
 use Rattle.ixp_lang.proofs.TableNames.{walk_same}
 use Rattle.ixp_read.specs.Answers.{SpellsText}
 use Rattle.ixp_read.proofs.AnswerLaws.{one_spelling}
-use Rattle.ixp_trial.specs.declared.fault.TrialFault.{TrialFault}
-use Rattle.ixp_trial.specs.declared.fault.TrialFault.TheVariants as trial_fault
-use Rattle.ixp_trial.specs.declared.trial.Trial.{Trial}
-use Rattle.ixp_trial.specs.Trials.{TrialAnswer}
-use Rattle.ixp_trial.proofs.OneTrial.{one_text, one_trial}
+use Rattle.ixp_eval_trial.specs.declared.fault.TrialFault.{TrialFault}
+use Rattle.ixp_eval_trial.specs.declared.fault.TrialFault.TheVariants as trial_fault
+use Rattle.ixp_eval_trial.specs.declared.trial.Trial.{Trial}
+use Rattle.ixp_eval_trial.specs.Trials.{TrialAnswer}
+use Rattle.ixp_eval_trial.proofs.OneTrial.{one_text, one_trial}
 use Rattle.ixp_cli.specs.Evals.{IsConfiguration, IsOutcome, outcome_text, Evaluates}
 
 pub one_configuration : (input : List ℕ) (c d : List ItemTree) → IsConfiguration input c → IsConfiguration input d → c ≡ d

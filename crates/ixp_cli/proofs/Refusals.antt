@@ -1,6 +1,6 @@
 -- Refusals of a command, as those of some command.
 use Rattle.std.proofs.Common.{ℕ, List}
-use Rattle.ixp_causes.specs.declared.Cause.{Cause}
+use Rattle.ixp_num.specs.declared.cause.Cause.{Cause}
 use Rattle.ixp_cli.specs.declared.end.NoAnswer.{NoAnswer}
 use Rattle.ixp_cli.specs.declared.end.NoAnswer.TheVariants.{Bad, Unknown, NoMemory}
 use Rattle.ixp_cli.specs.Runs.{Refused, RefusedOr}

@@ -2,9 +2,9 @@
 use Rattle.std.proofs.Common.{◌≡◌, ◌⊎◌, inl, inr, ℕ, List, Option, Some, subst}
 use Rattle.ixp_io.specs.Faults.{Rose}
 use Rattle.ixp_io.specs.Told.{WhereTold}
-use Rattle.ixp_link.specs.Whole.{IsExact, IsComplete}
-use Rattle.ixp_link.proofs.Completes.{complete}
-use Rattle.ixp_link.proofs.Wholes.{exact}
+use Rattle.ixp_http_link.specs.Whole.{IsExact, IsComplete}
+use Rattle.ixp_http_link.proofs.Completes.{complete}
+use Rattle.ixp_http_link.proofs.Wholes.{exact}
 use Rattle.ixp_cli.specs.declared.command.Command.TheVariants.{Session}
 use Rattle.ixp_cli.specs.declared.end.End.{End}
 use Rattle.ixp_cli.specs.Runs.{Outside, Runs, SessionEnds, Serving, TurnOf, IsTold}

@@ -1,6 +1,6 @@
 -- What `check` makes of an input.
 use Rattle.std.specs.Prelude.{◌≡◌, ℕ, List, [], ◌∷◌, ◌++◌, Some, Ok, Err, codes, decimal}
-use Rattle.ixp_causes.specs.declared.Cause.{Cause}
+use Rattle.ixp_num.specs.declared.cause.Cause.{Cause}
 use Rattle.ixp_registry.specs.declared.registry.Registry.{Registry}
 use Rattle.ixp_registry.specs.Registries.{rows_of}
 use Rattle.ixp_rows.specs.declared.fault.DumpFault.{DumpFault}

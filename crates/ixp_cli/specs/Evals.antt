@@ -1,6 +1,6 @@
 -- What `eval` makes of an input: a filter text, the line `%%`, lines of ROAs, and the line of a route.
 use Rattle.std.specs.Prelude.{◌≡◌, ◌≢◌, ◌⊎◌, ℕ, List, Some, None, Result, Ok, Err, codes}
-use Rattle.ixp_causes.specs.declared.Cause.{Cause}
+use Rattle.ixp_num.specs.declared.cause.Cause.{Cause}
 use Rattle.ixp_num.specs.declared.roa.Roa.{Roa}
 use Rattle.ixp_lang.specs.declared.fate.Fate.{Fate}
 use Rattle.ixp_lang.specs.declared.item.Bgp.{Bgp}
@@ -11,14 +11,14 @@ use Rattle.ixp_lang.specs.Walks.{bgp_sessions, session_named, walk}
 use Rattle.ixp_read.specs.declared.fault.ReadFault.{ReadFault}
 use Rattle.ixp_read.specs.Answers.{SpellsText, ConfigAnswer}
 use Rattle.ixp_read.specs.Causes as text
-use Rattle.ixp_trial.specs.declared.fault.RouteCode.TheVariants as code
-use Rattle.ixp_trial.specs.declared.fault.TrialFault.{TrialFault}
-use Rattle.ixp_trial.specs.declared.fault.TrialFault.TheVariants as trial_fault
-use Rattle.ixp_trial.specs.declared.trial.Trial.{Trial}
-use Rattle.ixp_trial.specs.Causes as trial
-use Rattle.ixp_trial.specs.Lines.{IsFilterText}
-use Rattle.ixp_trial.specs.Tables.{AreTables}
-use Rattle.ixp_trial.specs.Trials.{TrialAnswer}
+use Rattle.ixp_eval_trial.specs.declared.fault.RouteCode.TheVariants as code
+use Rattle.ixp_eval_trial.specs.declared.fault.TrialFault.{TrialFault}
+use Rattle.ixp_eval_trial.specs.declared.fault.TrialFault.TheVariants as trial_fault
+use Rattle.ixp_eval_trial.specs.declared.trial.Trial.{Trial}
+use Rattle.ixp_eval_trial.specs.Causes as trial
+use Rattle.ixp_eval_trial.specs.Lines.{IsFilterText}
+use Rattle.ixp_eval_trial.specs.Tables.{AreTables}
+use Rattle.ixp_eval_trial.specs.Trials.{TrialAnswer}
 
 -- the filter text in the input spells this configuration
 abbrev pub IsConfiguration : List ℕ → List ItemTree → Type 0

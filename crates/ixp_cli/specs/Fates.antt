@@ -1,9 +1,9 @@
 -- What `fate` makes of an input: the dump of a registry, and the line of a route that a session of one of its routers brings.
 use Rattle.std.specs.Prelude.{◌≡◌, ◌≢◌, ◌⊎◌, ◌+◌, ℕ, List, ◌++◌, length, drop, None, Some, Result, Ok, Err}
-use Rattle.ixp_causes.specs.declared.Cause.{Cause}
-use Rattle.ixp_causes.specs.declared.Code.TheVariants.{E2, E5}
-use Rattle.ixp_causes.specs.declared.Place.TheVariants.{Line}
-use Rattle.ixp_tables.specs.Tables.{find}
+use Rattle.ixp_num.specs.declared.cause.Cause.{Cause}
+use Rattle.ixp_num.specs.declared.cause.Code.TheVariants.{E2, E5}
+use Rattle.ixp_num.specs.declared.cause.Place.TheVariants.{Line}
+use Rattle.ixp_num_tables.specs.Tables.{find}
 use Rattle.ixp_lang.specs.declared.fate.Fate.{Fate}
 use Rattle.ixp_lang.specs.Texts.{fate_text}
 use Rattle.ixp_registry.specs.declared.registry.Registry.{Registry}
@@ -12,12 +12,12 @@ use Rattle.ixp_registry.specs.Keys.{router_key}
 use Rattle.ixp_registry.specs.Sessions.{Session, session}
 use Rattle.ixp_rows.specs.Dumps.{RegistryAnswer, version_in}
 use Rattle.ixp_policy.specs.Fates.{fate_of}
-use Rattle.ixp_readback.specs.Right.{Gen, Right}
-use Rattle.ixp_trial.specs.declared.fault.TrialFault.{TrialFault}
-use Rattle.ixp_trial.specs.declared.session_route.SessionRoute.{SessionRoute}
-use Rattle.ixp_trial.specs.Causes as trial
-use Rattle.ixp_trial.specs.Lines.{lines}
-use Rattle.ixp_trial.specs.SessionRoutes.{SessionRouteAnswer}
+use Rattle.ixp_compile_laws.specs.Right.{Gen, Right}
+use Rattle.ixp_eval_trial.specs.declared.fault.TrialFault.{TrialFault}
+use Rattle.ixp_eval_trial.specs.declared.session_route.SessionRoute.{SessionRoute}
+use Rattle.ixp_eval_trial.specs.Causes as trial
+use Rattle.ixp_eval_trial.specs.Lines.{lines}
+use Rattle.ixp_eval_trial.specs.SessionRoutes.{SessionRouteAnswer}
 use Rattle.ixp_cli.specs.Checks.{IsNoDump}
 use Rattle.ixp_cli.specs.Inputs.{dump_part}
 

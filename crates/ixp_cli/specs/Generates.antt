@@ -1,11 +1,11 @@
 -- What `generate` makes of an input.
 use Rattle.std.specs.Prelude.{◌≡◌, ℕ, List, None, Some, Ok}
-use Rattle.ixp_tables.specs.Tables.{find}
+use Rattle.ixp_num_tables.specs.Tables.{find}
 use Rattle.ixp_registry.specs.declared.registry.Registry.{Registry}
 use Rattle.ixp_registry.specs.declared.router.Router.{Router}
 use Rattle.ixp_registry.specs.Keys.{router_key}
 use Rattle.ixp_rows.specs.Dumps.{RegistryAnswer, version_in}
-use Rattle.ixp_readback.specs.Right.{Gen, Right}
+use Rattle.ixp_compile_laws.specs.Right.{Gen, Right}
 
 -- The input is the dump of a valid registry, and a router of it has the handle. The output is that router's text, which does
 -- what the rules say.

@@ -1,7 +1,7 @@
 -- The dump in an input of `fate`.
 use Rattle.std.specs.Prelude.{ℕ, ◌+◌, Bool, true, ◌==◌, ◌&&◌, List, [], ◌∷◌, take, Option, Some, None, codes, if◌then◌else◌}
 use Rattle.std.specs.List.{position}
-use Rattle.ixp_tables.specs.Tables.{same}
+use Rattle.ixp_num_tables.specs.Tables.{same}
 
 -- a text's first line, with its end
 abbrev pub line_part : Option ℕ → List ℕ → List ℕ

@@ -3,12 +3,12 @@ use Rattle.std.specs.Prelude.{◌≡◌, ◌≢◌, ℕ, List, [], ◌∷◌, �
 use Rattle.std.specs.FinMap.{empty}
 use Rattle.ixp_io.specs.Tables.{Table}
 use Rattle.ixp_io.specs.Told.{Told, WhereTold}
-use Rattle.ixp_opening.specs.Openings.{first_state}
+use Rattle.ixp_machine_steps.specs.Openings.{first_state}
 use Rattle.ixp_registry.specs.declared.registry.Registry.{Registry}
 use Rattle.ixp_registry.specs.Registries.{rows_of}
 use Rattle.ixp_rows.specs.Dumps.{RegistryAnswer, version_in}
 use Rattle.ixp_rows.specs.Texts.{rows_count}
-use Rattle.ixp_stored.specs.States.{tables}
+use Rattle.ixp_store_rows.specs.States.{tables}
 use Rattle.ixp_cli.specs.declared.restore.NoDump.{NoDump}
 use Rattle.ixp_cli.specs.declared.restore.NoDump.TheVariants as dump
 use Rattle.ixp_cli.specs.Checks.{IsNoDump}

@@ -1,15 +1,15 @@
 -- What a run of the program does.
 use Rattle.std.specs.Prelude.{◌≡◌, ◌<◌, ◌≤◌, ◌⊎◌, ◌+◌, ℕ, ◌==◌, ◌&&◌, ◌||◌, Bool, true, false, List, [], ◌∷◌, ◌++◌, length, Option, Some, None, Result, Ok, Err, option_map, codes, decimal, IsTrue, if◌then◌else◌}
 use Rattle.std.specs.FinMap.{empty}
-use Rattle.ixp_causes.specs.declared.Cause.{Cause}
-use Rattle.ixp_causes.specs.declared.Code.TheVariants.{U5}
-use Rattle.ixp_causes.specs.declared.Place.TheVariants.{Byte}
-use Rattle.ixp_causes.specs.Causes.{cause_text}
+use Rattle.ixp_num.specs.declared.cause.Cause.{Cause}
+use Rattle.ixp_num.specs.declared.cause.Code.TheVariants.{U5}
+use Rattle.ixp_num.specs.declared.cause.Place.TheVariants.{Byte}
+use Rattle.ixp_num.specs.Causes.{cause_text}
 use Rattle.ixp_io.specs.Faults.{Rose}
 use Rattle.ixp_io.specs.Told.{Told, WhereTold, Moves, MovesUpTo, IsDone, Takes, TakesPart}
 use Rattle.ixp_registry.specs.Alphabets.{is_handle}
 use Rattle.ixp_registry.specs.declared.registry.Registry.{Registry}
-use Rattle.ixp_tables.specs.Tables.{same}
+use Rattle.ixp_num_tables.specs.Tables.{same}
 use Rattle.ixp_cli.specs.declared.command.Command.{Command}
 use Rattle.ixp_cli.specs.declared.command.Command.TheVariants.{Ask, Ixf, Restore, Dump, Session, Demo}
 use Rattle.ixp_cli.specs.declared.restore.NoDump.{NoDump}
@@ -27,21 +27,21 @@ use Rattle.ixp_cli.specs.Exports.{Exports}
 use Rattle.ixp_cli.specs.Fates.{Fates, HasNoRouter, IsNoFate}
 use Rattle.ixp_cli.specs.Generates.{Generates, IsUnknown}
 use Rattle.ixp_api.specs.declared.call.Call.{Call}
-use Rattle.ixp_replies.specs.declared.outcome.Outcome.{Outcome}
-use Rattle.ixp_lines.specs.declared.version.Version.TheVariants.{Two}
-use Rattle.ixp_link.specs.declared.ends.Served.{Served}
-use Rattle.ixp_link.specs.Links.{Serves}
-use Rattle.ixp_load.specs.Answers.{IsStoreOf, LoadsAll, TellsVersion}
-use Rattle.ixp_load.specs.Damages.{TellsRow}
-use Rattle.ixp_load.specs.declared.fault.LoadFault.{LoadFault}
-use Rattle.ixp_load.specs.declared.fault.LoadFault.TheVariants.{KeeperFault as StoreFault}
-use Rattle.ixp_load.specs.Storing.{IsStorable}
-use Rattle.ixp_plain_desk.specs.Turns.{IsTurn}
+use Rattle.ixp_api_replies.specs.declared.outcome.Outcome.{Outcome}
+use Rattle.ixp_rows_lines.specs.declared.version.Version.TheVariants.{Two}
+use Rattle.ixp_http_link.specs.declared.ends.Served.{Served}
+use Rattle.ixp_http_link.specs.Links.{Serves}
+use Rattle.ixp_store_words.specs.Answers.{IsStoreOf, LoadsAll, TellsVersion}
+use Rattle.ixp_store_damage.specs.Damages.{TellsRow}
+use Rattle.ixp_store_words.specs.declared.fault.LoadFault.{LoadFault}
+use Rattle.ixp_store_words.specs.declared.fault.LoadFault.TheVariants.{KeeperFault as StoreFault}
+use Rattle.ixp_store_words.specs.Storing.{IsStorable}
+use Rattle.ixp_desk_plain.specs.Turns.{IsTurn}
 use Rattle.ixp_registry.specs.Registries.{rows_of}
 use Rattle.ixp_rows.specs.Texts.{dump_text}
-use Rattle.ixp_steps.specs.declared.state.State.{State}
-use Rattle.ixp_steps.specs.States.{ValidState}
-use Rattle.ixp_stored.specs.States.{tables}
+use Rattle.ixp_machine_steps.specs.declared.state.State.{State}
+use Rattle.ixp_machine_steps.specs.States.{ValidState}
+use Rattle.ixp_store_rows.specs.States.{tables}
 use Rattle.ixp_cli.specs.Restores.{Store, IsDumpOf, Fills, IsFilled, Restores}
 use Rattle.ixp_cli.specs.Sessions.{code_word, Unloaded, end_of}
 
@@ -108,7 +108,7 @@ RefusedOr why away (answer.Bad cause) = why cause
 RefusedOr why away (answer.Unknown router) = away router
 RefusedOr why away answer.NoMemory = Unit {0}
 
--- the cause, or want of memory where there is none
+-- the cause, or running out of memory where there is none
 abbrev pub no_answer : Option Cause → NoAnswer
 no_answer (Some cause) = answer.Bad cause
 no_answer None = answer.NoMemory

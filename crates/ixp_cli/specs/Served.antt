@@ -1,7 +1,7 @@
 -- What a session does with an input that is told.
 use Rattle.std.specs.Prelude.{◌≡◌, ℕ, List, Option}
 use Rattle.ixp_io.specs.Faults.{Rose}
-use Rattle.ixp_link.specs.Whole.{IsExact, IsComplete}
+use Rattle.ixp_http_link.specs.Whole.{IsExact, IsComplete}
 use Rattle.ixp_cli.specs.declared.end.End.{End}
 use Rattle.ixp_cli.specs.Runs.{Outside, NotLoaded, Serving, TurnOf, IsTold}
 

@@ -1,14 +1,14 @@
 -- How `dump` and `session` end.
 use Rattle.std.specs.Prelude.{◌≡◌, ◌⊎◌, ℕ, ◌==◌, List, ◌∷◌, ◌++◌, codes, decimal, if◌then◌else◌}
 use Rattle.ixp_io.specs.declared.keeper.RowName.{RowName}
-use Rattle.ixp_lines.specs.Fields.{free_text}
-use Rattle.ixp_link.specs.declared.ends.LinkEnd.{LinkEnd}
-use Rattle.ixp_link.specs.declared.ends.LinkEnd.TheVariants as link
-use Rattle.ixp_link.specs.declared.ends.Served.{Served}
-use Rattle.ixp_load.specs.declared.fault.Damage.{Damage}
-use Rattle.ixp_load.specs.declared.fault.Damage.TheVariants.{Row, Rule}
-use Rattle.ixp_load.specs.declared.fault.LoadFault.{LoadFault}
-use Rattle.ixp_load.specs.declared.fault.LoadFault.TheVariants as load
+use Rattle.ixp_rows_lines.specs.Fields.{free_text}
+use Rattle.ixp_http_link.specs.declared.ends.LinkEnd.{LinkEnd}
+use Rattle.ixp_http_link.specs.declared.ends.LinkEnd.TheVariants as link
+use Rattle.ixp_http_link.specs.declared.ends.Served.{Served}
+use Rattle.ixp_store_words.specs.declared.fault.Damage.{Damage}
+use Rattle.ixp_store_words.specs.declared.fault.Damage.TheVariants.{Row, Rule}
+use Rattle.ixp_store_words.specs.declared.fault.LoadFault.{LoadFault}
+use Rattle.ixp_store_words.specs.declared.fault.LoadFault.TheVariants as load
 use Rattle.ixp_cli.specs.declared.end.End.{End}
 use Rattle.ixp_cli.specs.declared.end.End.TheVariants.{Done, ReadFault, WriteFault, KeeperFault, NoMemory, Damaged, OldVersion, BadLink}
 use Rattle.ixp_cli.specs.declared.end.LinkCode.{LinkCode}

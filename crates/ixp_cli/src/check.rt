@@ -5,8 +5,8 @@ ghost use Rattle.ixp_cli.specs.Checks.{Checks, IsNoDump, ok_text};
 ghost use Rattle.ixp_cli.specs.Runs.{Refused};
 
 use crate::end::NoAnswer;
+use ixp_num_tables::{put, put_number};
 use ixp_rows::{Registry, read_any_dump, rows_count};
-use ixp_text::{put, put_number};
 use std::alloc::{AllocError, Global};
 
 /// The valid registry whose dump the text is.

@@ -1,4 +1,4 @@
-//! The top calls: a command by its words, over the objects that the caller hands in.
+//! The top calls: a command by its words, over the objects that the caller supplies.
 ghost use Rattle.std.specs.Prelude.{◌≡◌, ◌↔◌, ◌≤◌, List, ℕ, map, option_map, Option, Some, None, Ok, Err, IsSome, IsTrue, IfOk, IfErr, IfSome};
 ghost use Rattle.ixp_cli.specs.declared.command.Command.TheVariants.{Ask, Demo};
 ghost use Rattle.ixp_cli.specs.declared.command.Question.TheVariants.{Generate as AskFor};
@@ -16,11 +16,10 @@ use crate::fate::fate;
 use crate::generation::router_text;
 use crate::restore::run_restore;
 use crate::session::run_session;
-use ixp_causes::{Cause, Code, Place};
 use ixp_io::{Clock, Door, Gate, Keeper, Sink, Source, WholeFault, read_whole, write_all};
-use ixp_num::Name;
-use ixp_paths::number_upto;
-use ixp_places::is_handle;
+use ixp_num::{Cause, Code, Name, Place};
+use ixp_num_tables::number_upto;
+use ixp_registry::is_handle;
 use std::alloc::{AllocError, Global};
 
 /// The greatest number of bytes of an input that is read whole.

@@ -4,10 +4,9 @@ ghost use Rattle.ixp_cli.specs.Demos.{demo_text};
 ghost use Rattle.ixp_cli.specs.Runs.{DemoEnds, Flow};
 
 use crate::end::End;
-use ixp_demo::demo_registry;
-use ixp_demo_builds::{builds, put_builds};
-use ixp_demo_counts::{counts, put_counts};
+use ixp_build_demo::{builds, counts, put_builds, put_counts};
 use ixp_io::{Sink, write_all};
+use ixp_registry_demo::demo_registry;
 use std::alloc::{AllocError, Global};
 
 /// What is written of the demo exchange with so many members.
@@ -24,7 +23,7 @@ fn demo_text(alloc: Global, members: u32) -> Result<Vec<u8>, AllocError>
     Ok(text)
 }
 
-/// Makes the demo exchange with so many members, edits it, and writes how large it is and what was made anew.
+/// Makes the demo exchange with so many members, edits it, and writes how large it is and what was regenerated.
 pub(crate) fn run_demo<K: Sink>(alloc: Global, output: &mut K, members: u32) -> End
     requires { members ≤ 4000 }
     ensures { DemoEnds members (record { bytes = K.written output.old; faults = K.write_faults output.old })

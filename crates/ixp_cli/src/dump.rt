@@ -1,6 +1,6 @@
 //! The command `dump`: it writes the dump of the store's registry.
 ghost use Rattle.std.specs.Prelude.{◌≡◌, IfOk};
-ghost use Rattle.ixp_lines.specs.declared.version.Version.TheVariants.{Two};
+ghost use Rattle.ixp_rows_lines.specs.declared.version.Version.TheVariants.{Two};
 ghost use Rattle.ixp_registry.specs.Registries.{rows_of};
 ghost use Rattle.ixp_rows.specs.Texts.{dump_text};
 ghost use Rattle.ixp_cli.specs.Restores.{Store};
@@ -9,8 +9,8 @@ ghost use Rattle.ixp_cli.specs.Runs.{DumpEnds, Flow};
 use crate::end::End;
 use crate::unloaded::unloaded;
 use ixp_io::{Keeper, Sink, Source, write_all};
-use ixp_load::load;
 use ixp_rows::{Registry, print_dump};
+use ixp_store_load::load;
 use std::alloc::{AllocError, Global};
 
 fn dump_of(alloc: Global, registry: &Registry) -> Result<Vec<u8>, AllocError>

@@ -1,14 +1,13 @@
 //! How a run ends, and the line that tells of it.
 ghost use Rattle.std.specs.Prelude.{◌≡◌, ◌≤◌, ◌++◌, ◌∷◌, [], OnOk, OnErr, decimal};
-ghost use Rattle.ixp_causes.specs.Causes.{place_text, cause_text};
+ghost use Rattle.ixp_num.specs.Causes.{place_text, cause_text};
 ghost use Rattle.ixp_io.specs.Faults.{Rose};
 ghost use Rattle.ixp_io.specs.Told.{Takes, TakesPart};
 ghost use Rattle.ixp_cli.specs.Runs.{Flow, Tells, error_text};
 
 use itoa::Buffer;
-use ixp_causes::{Cause, Place, code_text};
 use ixp_io::{Failed, Sink, write_all};
-use ixp_num::{Items, Name};
+use ixp_num::{Cause, Items, Name, Place, code_text};
 use std::alloc::{AllocError, AllocFailed};
 
 /// How a run ends: what was asked for is done, or the first cause that it met.

@@ -6,14 +6,14 @@ ghost use Rattle.ixp_lang.specs.Views.{config_view};
 ghost use Rattle.ixp_eval.specs.Answers.{Gives};
 ghost use Rattle.ixp_cli.specs.Evals.{Evaluates, IsConfiguration, IsNoEval, IsNoText, IsNoTrial, IsOfOtherFamily, IsOutcome, IsRefused, IsTaken, IsTrial, outcome_text};
 ghost use Rattle.ixp_cli.specs.Runs.{Refused, no_answer};
-ghost use Rattle.ixp_trial.specs.Causes.{cause_of};
+ghost use Rattle.ixp_eval_trial.specs.Causes.{cause_of};
 
 use crate::end::NoAnswer;
 use ixp_eval::{EvalFault, session_named, walk};
+use ixp_eval_trial::{RouteCode, Trial, TrialFault, filter_text, read_trial, tables_of};
 use ixp_lang::{Config, Fate, print_fate};
+use ixp_num_tables::put;
 use ixp_read::read_config;
-use ixp_text::put;
-use ixp_trial::{RouteCode, Trial, TrialFault, filter_text, read_trial, tables_of};
 use std::alloc::{AllocError, Global};
 
 /// The configuration that the filter text in an input spells.

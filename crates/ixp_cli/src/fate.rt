@@ -5,12 +5,12 @@ ghost use Rattle.ixp_lang.specs.Trees.{ItemTree};
 ghost use Rattle.ixp_lang.specs.Views.{config_view};
 ghost use Rattle.ixp_registry.specs.Keys.{router_key};
 ghost use Rattle.ixp_registry.specs.Valid.{Valid};
-ghost use Rattle.ixp_tables.specs.Tables.{find};
+ghost use Rattle.ixp_num_tables.specs.Tables.{find};
 ghost use Rattle.ixp_compile.specs.Generated.{roa_tables};
 ghost use Rattle.ixp_eval.specs.declared.fault.EvalFault.TheVariants.{NoMemory as no_memory};
 ghost use Rattle.ixp_read.specs.declared.fault.ReadFault.TheVariants.{NoMemory as no_room};
 ghost use Rattle.ixp_read.specs.Answers.{SpellsText};
-ghost use Rattle.ixp_readback.specs.Right.{Gen};
+ghost use Rattle.ixp_compile_laws.specs.Right.{Gen};
 ghost use Rattle.ixp_cli.specs.Fates.{Fates, HasFate, HasNoRouter, HasRoute, IsAstray, IsFate, IsNoFate, IsNoRoute, IsOfSession, IsStray};
 ghost use Rattle.ixp_cli.specs.Runs.{Refused, RefusedOr};
 
@@ -18,17 +18,16 @@ use crate::check::registry_of;
 use crate::end::NoAnswer;
 use crate::eval::refused;
 use crate::input::dump_part;
-use ixp_causes::{Cause, Code, Place};
+use ixp_compile_laws::text_of;
 use ixp_eval::{EvalFault, walk};
+use ixp_eval_trial::{SessionRoute, read_session_route};
 use ixp_lang::{Config, Fate, numbered, print_fate};
-use ixp_num::{Items, Name};
+use ixp_num::{Cause, Code, Items, Name, Place};
 use ixp_policy::session;
 use ixp_read::{ReadFault, read_config};
 use ixp_registry::Router;
 use ixp_roa::RoaTable;
 use ixp_rows::Registry;
-use ixp_texts::text_of;
-use ixp_trial::{SessionRoute, read_session_route};
 use std::alloc::{AllocError, Global};
 
 /// The route whose line follows the dump.
@@ -66,14 +65,14 @@ fn astray(registry: &Registry, router: &Router, route: &SessionRoute) -> Option<
     }
 }
 
-/// Want of memory while a text is read: one that spells a configuration is refused for nothing else.
+/// Running out of memory while a text is read: one that spells a configuration is refused for nothing else.
 fn unread(_fault: ReadFault) -> AllocError
     requires { _fault ≡ no_room }
 {
     AllocError
 }
 
-/// Want of memory on a walk that has no other fault.
+/// Running out of memory on a walk that has no other fault.
 fn unwalked(_fault: EvalFault) -> AllocError
     requires { _fault ≡ no_memory }
 {

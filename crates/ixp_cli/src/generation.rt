@@ -6,8 +6,8 @@ ghost use Rattle.ixp_cli.specs.Runs.{RefusedOr};
 
 use crate::check::registry_of;
 use crate::end::NoAnswer;
+use ixp_compile_laws::text_of;
 use ixp_num::Name;
-use ixp_texts::text_of;
 use std::alloc::Global;
 
 /// What `generate` writes for an input: the text of the router with the handle, where the input is the dump of a valid registry.

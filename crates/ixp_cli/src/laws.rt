@@ -1,6 +1,6 @@
 //! Laws of runs. The functions do nothing: each is called for what it ensures.
 ghost use Rattle.std.specs.Prelude.{◌≡◌, ◌⊎◌, ◌<◌, ◌≤◌, true, ℕ, List, Option, Some, Ok, Err, length};
-ghost use Rattle.ixp_causes.specs.declared.Cause.{Cause};
+ghost use Rattle.ixp_num.specs.declared.cause.Cause.{Cause};
 ghost use Rattle.std.specs.FinMap.{empty};
 ghost use Rattle.ixp_io.specs.Told.{Told};
 ghost use Rattle.ixp_ixf.specs.Views.{ixf_text_of};

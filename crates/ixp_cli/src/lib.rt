@@ -1,4 +1,4 @@
-//! The program's commands, over the objects of the outside that the caller hands in.
+//! The program's commands, over the objects of the outside that the caller supplies.
 #![tactic(auto)]
 
 mod check;

@@ -2,19 +2,19 @@
 ghost use Rattle.std.specs.Prelude.{◌≡◌, OnOk, OnErr, IfOk, IfErr, IsErrOf};
 ghost use Rattle.ixp_io.specs.Faults.{Rose};
 ghost use Rattle.ixp_registry.specs.Valid.{Valid};
-ghost use Rattle.ixp_stored.specs.declared.filling.FillFault.TheVariants.{Failed as KeeperFailed, NotEmpty as SomeRow};
+ghost use Rattle.ixp_store_rows.specs.declared.filling.FillFault.TheVariants.{Failed as KeeperFailed, NotEmpty as SomeRow};
 ghost use Rattle.ixp_cli.specs.Restores.{Fills, IsDumpOf, IsFilled, IsUndumped, Restores, Store};
 ghost use Rattle.ixp_cli.specs.Runs.{Flow, NotRead, ReadsDump, RestoreEnds};
 
 use crate::check::registry_of;
 use crate::command::{INPUT_LIMIT, too_long};
 use crate::end::{End, NoAnswer};
-use ixp_causes::Cause;
 use ixp_io::{Keeper, Sink, Source, WholeFault, read_whole, write_all};
-use ixp_opening::first_state;
+use ixp_machine_steps::first_state;
+use ixp_num::Cause;
+use ixp_num_tables::{put, put_number};
 use ixp_rows::{Registry, rows_count};
-use ixp_stored::{FillFault, fill};
-use ixp_text::{put, put_number};
+use ixp_store_rows::{FillFault, fill};
 use std::alloc::{AllocError, Global};
 
 /// What is written of a registry that is restored.

@@ -6,10 +6,10 @@ ghost use Rattle.ixp_cli.specs.Sessions.{code_of, end_of};
 
 use crate::end::{End, LinkCode};
 use crate::unloaded::unloaded;
+use ixp_desk_plain::PlainDesk;
+use ixp_http_link::{LinkEnd, Served, serve};
 use ixp_io::{Clock, Keeper, Sink, Source};
-use ixp_link::{LinkEnd, Served, serve};
-use ixp_load::load;
-use ixp_plain_desk::PlainDesk;
+use ixp_store_load::load;
 use std::alloc::Global;
 
 /// The code of a message that is no request, by the status of its reply.

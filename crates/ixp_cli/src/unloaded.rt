@@ -4,10 +4,10 @@ ghost use Rattle.ixp_cli.specs.Sessions.{Unloaded, damage_text, damage_word};
 
 use crate::end::End;
 use ixp_io::RowName;
-use ixp_lines::put_free;
-use ixp_load::{Damage, LoadFault};
 use ixp_num::Items;
-use ixp_text::{put, put_number};
+use ixp_num_tables::{put, put_number};
+use ixp_rows_lines::put_free;
+use ixp_store_load::{Damage, LoadFault};
 use std::alloc::{AllocError, Global};
 
 fn put_damage(damage: Damage, out: &mut Vec<u8>) -> Result<(), AllocError>

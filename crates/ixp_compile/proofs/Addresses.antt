@@ -5,8 +5,8 @@ use Rattle.std.specs.declared.cmp.Ordering.{Ordering}
 use Rattle.std.specs.declared.cmp.Ordering.TheVariants.{Less, Equal, Greater}
 use Rattle.std.specs.Ordering.{match_ordering}
 use Rattle.std.proofs.lemmas.List.Folds.{list_any-append}
-use Rattle.ixp_tables.specs.Tables.{order, put}
-use Rattle.ixp_tables.proofs.Orders.{head_same, tail_same}
+use Rattle.ixp_num_tables.specs.Tables.{order, put}
+use Rattle.ixp_num_tables.proofs.Orders.{head_same, tail_same}
 use Rattle.ixp_num.specs.declared.addr.Addr.{Addr}
 use Rattle.ixp_num.specs.declared.family.Family.{Family}
 use Rattle.ixp_num.specs.declared.family.Family.TheVariants.{V4, V6}

@@ -16,7 +16,7 @@ use Rattle.ixp_lang.specs.Meaning.{Environment, Known, End, falls, accepts, retu
 use Rattle.ixp_registry.specs.declared.registry.Registry.{Registry}
 use Rattle.ixp_registry.specs.declared.router.Router.{Router}
 use Rattle.ixp_registry.specs.declared.rules.MemberRule.{MemberRule}
-use Rattle.ixp_tables.specs.Tables.{if_there}
+use Rattle.ixp_num_tables.specs.Tables.{if_there}
 use Rattle.ixp_registry.specs.Sessions.{Session, is_about, is_advertise, is_from, is_stop, receives}
 use Rattle.ixp_compile.specs.Exports.{LetsIn, passed_on, times_down}
 use Rattle.ixp_compile.specs.Fragment.{down_body}

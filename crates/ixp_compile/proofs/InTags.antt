@@ -5,7 +5,7 @@ use Rattle.ixp_num.specs.declared.roa.Validity.TheVariants.{Valid, Invalid, Unkn
 use Rattle.ixp_lang.specs.declared.route.Route.{Route}
 use Rattle.ixp_lang.specs.Meaning.{End, accepts}
 use Rattle.ixp_lang.specs.Attributes.{same_state}
-use Rattle.ixp_tables.specs.Tables.{if_there}
+use Rattle.ixp_num_tables.specs.Tables.{if_there}
 use Rattle.ixp_policy.specs.declared.line.Line.{Line}
 use Rattle.ixp_policy.specs.declared.line.Reason.TheVariants.{PrefixTooLong, PrefixTooShort, Bogon, PathEmpty, PathTooLong, TooManyCommunities, FirstAsNotPeerAs, NextHopNotPeer, BogonAsInPath, TransitFreeAsInPath, OriginNotRegistered, OriginInvalid, PrefixNotRegistered}
 use Rattle.ixp_policy.specs.Reasons.{number_of}

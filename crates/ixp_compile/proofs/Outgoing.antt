@@ -9,7 +9,7 @@ use Rattle.ixp_lang.specs.Steering.{has_pair}
 use Rattle.ixp_lang.specs.Trees.{StmtTree, accept, delete_triples, stmts}
 use Rattle.ixp_lang.specs.Meaning.{Environment, Known, End, falls, accepts, returns, runs_all}
 use Rattle.ixp_registry.specs.declared.router.Router.{Router}
-use Rattle.ixp_tables.specs.Tables.{if_there}
+use Rattle.ixp_num_tables.specs.Tables.{if_there}
 use Rattle.ixp_policy.specs.Blackholes.{is_blackhole, is_host_net}
 use Rattle.ixp_policy.specs.Export.{hop_of, is_of_server, server_actions}
 use Rattle.ixp_compile.specs.Header.{blackhole_hop, pairs_taken_away, out_body}

@@ -18,7 +18,7 @@ use Rattle.ixp_lang.specs.Meaning.{Environment, Known, Params, End, runs_all}
 use Rattle.ixp_registry.specs.declared.rules.Action.{Action}
 use Rattle.ixp_registry.specs.declared.rules.Action.TheVariants.{AsIs, Prepend, Stop}
 use Rattle.ixp_registry.specs.declared.rules.MemberRule.{MemberRule}
-use Rattle.ixp_tables.specs.Tables.{if_there}
+use Rattle.ixp_num_tables.specs.Tables.{if_there}
 use Rattle.ixp_registry.specs.Sessions.{is_about, is_advertise}
 use Rattle.ixp_compile.specs.MemberRules.{within, any_number, number_or_0, steering_actions, is_printed, is_of_family, action_written, rewriting, where_about, advertise_rule, advertise_rules}
 use Rattle.ixp_compile.specs.Rewriting.{applies, steers_triple, steers_pair, with_one, with_action, rewritten}

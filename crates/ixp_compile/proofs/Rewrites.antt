@@ -14,7 +14,7 @@ use Rattle.ixp_registry.specs.declared.rules.Action.TheVariants.{AsIs, Prepend, 
 use Rattle.ixp_registry.specs.declared.rules.MemberRule.{MemberRule}
 use Rattle.ixp_registry.specs.declared.rules.Way.{Way}
 use Rattle.ixp_registry.specs.declared.rules.Way.TheVariants.{Advertise, Receive}
-use Rattle.ixp_tables.specs.Tables.{if_there}
+use Rattle.ixp_num_tables.specs.Tables.{if_there}
 use Rattle.ixp_registry.specs.Words.{is_action_of}
 use Rattle.ixp_registry.specs.Sessions.{asked, is_for, is_about, is_advertise}
 use Rattle.ixp_policy.specs.Export.{steered, times_of}

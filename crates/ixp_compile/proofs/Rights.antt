@@ -1,7 +1,7 @@
 -- The texts of a valid registry do what the rules over its rows say.
 use Rattle.std.proofs.Common.{◌≡◌, ℕ, ◌≤◌, Bool, true, false, nat_le, not, List, [], ◌∷◌, ◌++◌, map, reverse, append-nil, Option, Some, None, Result, Ok, codes, refl, sym, ap, ◌∙◌, subst, if◌then◌else◌}
 use Rattle.std.specs.Option.{is_some}
-use Rattle.ixp_tables.specs.Tables.{find}
+use Rattle.ixp_num_tables.specs.Tables.{find}
 use Rattle.ixp_lang.specs.declared.fate.Fate.{Fate}
 use Rattle.ixp_lang.specs.declared.route.Route.{Route}
 use Rattle.ixp_lang.specs.declared.route.Verdict.TheVariants.{Accept, Reject}

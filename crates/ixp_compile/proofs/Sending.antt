@@ -13,7 +13,7 @@ use Rattle.ixp_registry.specs.declared.router.Router.{Router}
 use Rattle.ixp_registry.specs.declared.rules.Action.{Action}
 use Rattle.ixp_registry.specs.declared.rules.Action.TheVariants.{AsIs, Prepend, Stop}
 use Rattle.ixp_registry.specs.declared.rules.MemberRule.{MemberRule}
-use Rattle.ixp_tables.specs.Tables.{if_there}
+use Rattle.ixp_num_tables.specs.Tables.{if_there}
 use Rattle.ixp_registry.specs.Sessions.{Session}
 use Rattle.ixp_policy.specs.Blackholes.{is_blackhole, is_host_net}
 use Rattle.ixp_policy.specs.Export.{hop_of, is_for_server, is_of_server, server_actions, sent_route}

@@ -6,9 +6,9 @@ use Rattle.std.specs.declared.cmp.Ordering.TheVariants.{Less, Equal, Greater}
 use Rattle.std.specs.Ordering.{match_ordering}
 use Rattle.std.proofs.lemmas.Bool.{ne_eqb}
 use Rattle.std.proofs.lemmas.List.Elements.{filter_map-append}
-use Rattle.ixp_tables.specs.Tables.{order, Ascends, find, if_there}
-use Rattle.ixp_tables.proofs.Orders.{head_same}
-use Rattle.ixp_tables.proofs.TableLaws.{find-key}
+use Rattle.ixp_num_tables.specs.Tables.{order, Ascends, find, if_there}
+use Rattle.ixp_num_tables.proofs.Orders.{head_same}
+use Rattle.ixp_num_tables.proofs.TableLaws.{find-key}
 use Rattle.ixp_registry.specs.declared.members.Member.{Member}
 use Rattle.ixp_registry.specs.declared.network.IfAddr.{IfAddr}
 use Rattle.ixp_registry.specs.declared.network.Interface.{Interface}
@@ -19,8 +19,8 @@ use Rattle.ixp_registry.specs.Keys.{interface_key, member_key, rules_key}
 use Rattle.ixp_registry.specs.Sessions.{Session, address_of, is_session, rules_of, session, session_at, session_with}
 use Rattle.ixp_registry.specs.declared.rules.RuleList.{RuleList}
 use Rattle.ixp_registry.specs.Valid.{Valid, ValidInterface, ValidRuleList}
-use Rattle.ixp_tables.proofs.Looking.{all_found}
-use Rattle.ixp_tables.proofs.FirstNumbers.{key_up}
+use Rattle.ixp_num_tables.proofs.Looking.{all_found}
+use Rattle.ixp_num_tables.proofs.FirstNumbers.{key_up}
 use Rattle.ixp_compile.specs.Generated.{router_sessions}
 use Rattle.ixp_compile.specs.Rewriting.{AreLawful}
 use Rattle.ixp_compile.proofs.FatesWalked.{Numbered}

@@ -6,15 +6,15 @@ use Rattle.std.specs.declared.cmp.Ordering.TheVariants.{Less}
 use Rattle.std.proofs.lemmas.Bool.{and_parts, leb-true, not-true}
 use Rattle.ixp_num.specs.declared.addr.Addr.{Addr}
 use Rattle.ixp_num.specs.declared.asn.Asn.{Asn}
-use Rattle.ixp_tables.specs.Tables.{order, Ascends, find, if_there}
+use Rattle.ixp_num_tables.specs.Tables.{order, Ascends, find, if_there}
 use Rattle.ixp_registry.specs.declared.registry.Registry.{Registry}
 use Rattle.ixp_registry.specs.declared.router.Router.{Router}
 use Rattle.ixp_registry.specs.Keys.{router_key}
-use Rattle.ixp_sorted.specs.Keys.{range_key}
+use Rattle.ixp_num_sorted.specs.Keys.{range_key}
 use Rattle.ixp_num.specs.Families.{same_family}
 use Rattle.ixp_registry.specs.Valid.{Valid, ValidRouter}
-use Rattle.ixp_tables.proofs.Looking.{all_found}
-use Rattle.ixp_tables.proofs.FirstNumbers.{key_up}
+use Rattle.ixp_num_tables.proofs.Looking.{all_found}
+use Rattle.ixp_num_tables.proofs.FirstNumbers.{key_up}
 use Rattle.ixp_compile.proofs.Communities.{eq_swap}
 use Rattle.ixp_compile.specs.Shared.{FirstsAscend, HeadStands}
 

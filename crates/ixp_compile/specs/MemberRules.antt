@@ -14,7 +14,7 @@ use Rattle.ixp_lang.specs.Trees.{ExprTree, set_literal, conjunction, exprs, Stmt
 use Rattle.ixp_registry.specs.declared.rules.Action.{Action}
 use Rattle.ixp_registry.specs.declared.rules.Action.TheVariants.{AsIs, Prepend, Stop}
 use Rattle.ixp_registry.specs.declared.rules.MemberRule.{MemberRule}
-use Rattle.ixp_tables.specs.Tables.{if_there}
+use Rattle.ixp_num_tables.specs.Tables.{if_there}
 use Rattle.ixp_registry.specs.Sessions.{is_advertise, is_stop}
 use Rattle.ixp_compile.specs.Pieces.{int, truth_value, compared, when, tell}
 

@@ -8,7 +8,7 @@ use Rattle.ixp_lang.specs.Attributes.{fits_part}
 use Rattle.ixp_registry.specs.declared.rules.Action.{Action}
 use Rattle.ixp_registry.specs.declared.rules.Action.TheVariants.{AsIs, Prepend, Stop}
 use Rattle.ixp_registry.specs.declared.rules.MemberRule.{MemberRule}
-use Rattle.ixp_tables.specs.Tables.{if_there}
+use Rattle.ixp_num_tables.specs.Tables.{if_there}
 use Rattle.ixp_registry.specs.Words.{is_lawful}
 use Rattle.ixp_registry.specs.Sessions.{is_about, is_advertise}
 use Rattle.ixp_compile.specs.MemberRules.{any_number, number_or_0, steering_actions}

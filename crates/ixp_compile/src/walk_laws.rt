@@ -1,7 +1,7 @@
 //! The texts of a valid registry, walked and asked, do what the rules over its rows say.
 ghost use Rattle.std.specs.Prelude.{◌≡◌, ◌<◌, ◌^◌, ℕ, true, List, [], Some, Ok, codes, reverse};
 ghost use Rattle.std.specs.Option.{is_some};
-ghost use Rattle.ixp_tables.specs.Tables.{find};
+ghost use Rattle.ixp_num_tables.specs.Tables.{find};
 ghost use Rattle.ixp_lang.specs.declared.route.Route.{Route};
 ghost use Rattle.ixp_lang.specs.declared.route.Verdict.TheVariants.{Accept};
 ghost use Rattle.ixp_lang.specs.declared.value.Value.TheVariants.{Bool, Int};

@@ -9,7 +9,7 @@ use Rattle.ixp_eval.specs.declared.search.Before.{Before}
 use Rattle.ixp_eval.specs.declared.search.Sort.TheVariants.{Define, Filter, Function}
 use Rattle.ixp_eval.specs.Frames.{define_of}
 use Rattle.ixp_eval.specs.Indexed.{define_part, filter_part, function_parts, is_of, items_before, items_of}
-use Rattle.ixp_eval.specs.Places.{last_of}
+use Rattle.ixp_eval.specs.Places.{last_place}
 use Rattle.ixp_eval.specs.Views.{backwards}
 use Rattle.ixp_eval.proofs.Placing.{FoundAt, found_at}
 
@@ -30,10 +30,10 @@ module _ {P R : Type 0} (look : List ItemTree → Option R) (test : ItemTree →
     (skips : (i : ItemTree) (is : List ItemTree) → test i ≡ false → look (i ∷ is) ≡ look is)
     (hits : (i : ItemTree) (is : List ItemTree) (q : P) → test i ≡ true → parts i ≡ Some q → look (i ∷ is) ≡ Some (whole is q))
     (has : (i : ItemTree) → test i ≡ true → parts i ≡ None → ⊥) (b : Before) where
-  found : (o : Option ℕ) → last_of test 0 None (items_before b) ≡ o → FoundAt look test skips (items_before b) o (backwards b)
+  found : (o : Option ℕ) → last_place test 0 None (items_before b) ≡ o → FoundAt look test skips (items_before b) o (backwards b)
   found o e = subst (λ p. FoundAt look test skips (items_before b) p (backwards b)) e (found_at look test skips (items_before b))
 
-  pub no_place : last_of test 0 None (items_before b) ≡ None → look (backwards b) ≡ None
+  pub no_place : last_place test 0 None (items_before b) ≡ None → look (backwards b) ≡ None
   no_place e = found None e ∙ nothing
 
   same_item : (p : ℕ) (i j : ItemTree) → slice_get (items_of b.index.now) p ≡ Some i → slice_get (items_before b) p ≡ Some j → j ≡ i
@@ -41,19 +41,19 @@ module _ {P R : Type 0} (look : List ItemTree → Option R) (test : ItemTree →
       let one : ◌≡◌ {A = Option ItemTree} (Some j) (Some i) = sym (within_take b.count p (items_of b.index.now) j there) ∙ here in
       cc
 
-  pub no_item : (p : ℕ) → last_of test 0 None (items_before b) ≡ Some p → slice_get (items_of b.index.now) p ≡ None → {A : Type 0} → A
+  pub no_item : (p : ℕ) → last_place test 0 None (items_before b) ≡ Some p → slice_get (items_of b.index.now) p ≡ None → {A : Type 0} → A
   no_item p e gone =
       let f = found (Some p) e in
       let bad : ◌≡◌ {A = Option ItemTree} (Some f.0) None = sym (within_take b.count p (items_of b.index.now) f.0 f.1) ∙ gone in
       absurd cc
 
-  pub no_part : (p : ℕ) (i : ItemTree) → last_of test 0 None (items_before b) ≡ Some p → slice_get (items_of b.index.now) p ≡ Some i → parts i ≡ None → {A : Type 0} → A
+  pub no_part : (p : ℕ) (i : ItemTree) → last_place test 0 None (items_before b) ≡ Some p → slice_get (items_of b.index.now) p ≡ Some i → parts i ≡ None → {A : Type 0} → A
   no_part p i e here none =
       let f = found (Some p) e in
       let same = same_item p i f.0 here f.1 in
       absurd (has i (subst (λ j. test j ≡ true) same f.2) none)
 
-  pub is_found : (p : ℕ) (i : ItemTree) (q : P) → last_of test 0 None (items_before b) ≡ Some p → slice_get (items_of b.index.now) p ≡ Some i → parts i ≡ Some q
+  pub is_found : (p : ℕ) (i : ItemTree) (q : P) → last_place test 0 None (items_before b) ≡ Some p → slice_get (items_of b.index.now) p ≡ Some i → parts i ≡ Some q
       → look (backwards b) ≡ Some (whole (reverse (take p (items_of b.index.now))) q)
   is_found p i q e here some =
       let f = found (Some p) e in
@@ -98,16 +98,16 @@ function_has n (pipe_item p) h none = cc
 function_has n (bgp_item b) h none = cc
 
 module _ (n : List ℕ) (b : Before) where
-  pub no_function_place : last_of (is_of Function n) 0 None (items_before b) ≡ None → function_of (backwards b) n ≡ None
+  pub no_function_place : last_place (is_of Function n) 0 None (items_before b) ≡ None → function_of (backwards b) n ≡ None
   no_function_place = no_place (λ is. function_of is n) (is_of Function n) function_parts (λ is q. (is, q.0, q.1)) refl (function_skips n) (function_hits n) (function_has n) b
 
-  pub no_function_item : (p : ℕ) → last_of (is_of Function n) 0 None (items_before b) ≡ Some p → slice_get (items_of b.index.now) p ≡ None → {A : Type 0} → A
+  pub no_function_item : (p : ℕ) → last_place (is_of Function n) 0 None (items_before b) ≡ Some p → slice_get (items_of b.index.now) p ≡ None → {A : Type 0} → A
   no_function_item = no_item (λ is. function_of is n) (is_of Function n) function_parts (λ is q. (is, q.0, q.1)) refl (function_skips n) (function_hits n) (function_has n) b
 
-  pub no_function_part : (p : ℕ) (i : ItemTree) → last_of (is_of Function n) 0 None (items_before b) ≡ Some p → slice_get (items_of b.index.now) p ≡ Some i → function_parts i ≡ None → {A : Type 0} → A
+  pub no_function_part : (p : ℕ) (i : ItemTree) → last_place (is_of Function n) 0 None (items_before b) ≡ Some p → slice_get (items_of b.index.now) p ≡ Some i → function_parts i ≡ None → {A : Type 0} → A
   no_function_part = no_part (λ is. function_of is n) (is_of Function n) function_parts (λ is q. (is, q.0, q.1)) refl (function_skips n) (function_hits n) (function_has n) b
 
-  pub function_is_found : (p : ℕ) (i : ItemTree) (q : List (Ty × List ℕ) × StmtTrees) → last_of (is_of Function n) 0 None (items_before b) ≡ Some p → slice_get (items_of b.index.now) p ≡ Some i → function_parts i ≡ Some q
+  pub function_is_found : (p : ℕ) (i : ItemTree) (q : List (Ty × List ℕ) × StmtTrees) → last_place (is_of Function n) 0 None (items_before b) ≡ Some p → slice_get (items_of b.index.now) p ≡ Some i → function_parts i ≡ Some q
       → function_of (backwards b) n ≡ Some (reverse (take p (items_of b.index.now)), q.0, q.1)
   function_is_found = is_found (λ is. function_of is n) (is_of Function n) function_parts (λ is q. (is, q.0, q.1)) refl (function_skips n) (function_hits n) (function_has n) b
 
@@ -148,16 +148,16 @@ define_has n (pipe_item p) h none = cc
 define_has n (bgp_item b) h none = cc
 
 module _ (n : List ℕ) (b : Before) where
-  pub no_define_place : last_of (is_of Define n) 0 None (items_before b) ≡ None → define_of (backwards b) n ≡ None
+  pub no_define_place : last_place (is_of Define n) 0 None (items_before b) ≡ None → define_of (backwards b) n ≡ None
   no_define_place = no_place (λ is. define_of is n) (is_of Define n) define_part (λ is q. (is, q)) refl (define_skips n) (define_hits n) (define_has n) b
 
-  pub no_define_item : (p : ℕ) → last_of (is_of Define n) 0 None (items_before b) ≡ Some p → slice_get (items_of b.index.now) p ≡ None → {A : Type 0} → A
+  pub no_define_item : (p : ℕ) → last_place (is_of Define n) 0 None (items_before b) ≡ Some p → slice_get (items_of b.index.now) p ≡ None → {A : Type 0} → A
   no_define_item = no_item (λ is. define_of is n) (is_of Define n) define_part (λ is q. (is, q)) refl (define_skips n) (define_hits n) (define_has n) b
 
-  pub no_define_part : (p : ℕ) (i : ItemTree) → last_of (is_of Define n) 0 None (items_before b) ≡ Some p → slice_get (items_of b.index.now) p ≡ Some i → define_part i ≡ None → {A : Type 0} → A
+  pub no_define_part : (p : ℕ) (i : ItemTree) → last_place (is_of Define n) 0 None (items_before b) ≡ Some p → slice_get (items_of b.index.now) p ≡ Some i → define_part i ≡ None → {A : Type 0} → A
   no_define_part = no_part (λ is. define_of is n) (is_of Define n) define_part (λ is q. (is, q)) refl (define_skips n) (define_hits n) (define_has n) b
 
-  pub define_is_found : (p : ℕ) (i : ItemTree) (q : ExprTree) → last_of (is_of Define n) 0 None (items_before b) ≡ Some p → slice_get (items_of b.index.now) p ≡ Some i → define_part i ≡ Some q
+  pub define_is_found : (p : ℕ) (i : ItemTree) (q : ExprTree) → last_place (is_of Define n) 0 None (items_before b) ≡ Some p → slice_get (items_of b.index.now) p ≡ Some i → define_part i ≡ Some q
       → define_of (backwards b) n ≡ Some (reverse (take p (items_of b.index.now)), q)
   define_is_found = is_found (λ is. define_of is n) (is_of Define n) define_part (λ is q. (is, q)) refl (define_skips n) (define_hits n) (define_has n) b
 
@@ -198,15 +198,15 @@ filter_has n (pipe_item p) h none = cc
 filter_has n (bgp_item b) h none = cc
 
 module _ (n : List ℕ) (b : Before) where
-  pub no_filter_place : last_of (is_of Filter n) 0 None (items_before b) ≡ None → filter_of (backwards b) n ≡ None
+  pub no_filter_place : last_place (is_of Filter n) 0 None (items_before b) ≡ None → filter_of (backwards b) n ≡ None
   no_filter_place = no_place (λ is. filter_of is n) (is_of Filter n) filter_part (λ is q. (is, q)) refl (filter_skips n) (filter_hits n) (filter_has n) b
 
-  pub no_filter_item : (p : ℕ) → last_of (is_of Filter n) 0 None (items_before b) ≡ Some p → slice_get (items_of b.index.now) p ≡ None → {A : Type 0} → A
+  pub no_filter_item : (p : ℕ) → last_place (is_of Filter n) 0 None (items_before b) ≡ Some p → slice_get (items_of b.index.now) p ≡ None → {A : Type 0} → A
   no_filter_item = no_item (λ is. filter_of is n) (is_of Filter n) filter_part (λ is q. (is, q)) refl (filter_skips n) (filter_hits n) (filter_has n) b
 
-  pub no_filter_part : (p : ℕ) (i : ItemTree) → last_of (is_of Filter n) 0 None (items_before b) ≡ Some p → slice_get (items_of b.index.now) p ≡ Some i → filter_part i ≡ None → {A : Type 0} → A
+  pub no_filter_part : (p : ℕ) (i : ItemTree) → last_place (is_of Filter n) 0 None (items_before b) ≡ Some p → slice_get (items_of b.index.now) p ≡ Some i → filter_part i ≡ None → {A : Type 0} → A
   no_filter_part = no_part (λ is. filter_of is n) (is_of Filter n) filter_part (λ is q. (is, q)) refl (filter_skips n) (filter_hits n) (filter_has n) b
 
-  pub filter_is_found : (p : ℕ) (i : ItemTree) (q : StmtTrees) → last_of (is_of Filter n) 0 None (items_before b) ≡ Some p → slice_get (items_of b.index.now) p ≡ Some i → filter_part i ≡ Some q
+  pub filter_is_found : (p : ℕ) (i : ItemTree) (q : StmtTrees) → last_place (is_of Filter n) 0 None (items_before b) ≡ Some p → slice_get (items_of b.index.now) p ≡ Some i → filter_part i ≡ Some q
       → filter_of (backwards b) n ≡ Some (reverse (take p (items_of b.index.now)), q)
   filter_is_found = is_found (λ is. filter_of is n) (is_of Filter n) filter_part (λ is q. (is, q)) refl (filter_skips n) (filter_hits n) (filter_has n) b

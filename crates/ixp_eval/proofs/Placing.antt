@@ -3,12 +3,12 @@ use Rattle.std.proofs.Common.{◌≡◌, ◌≤◌, ◌+◌, ◌⊎◌, inl, inr
 use Rattle.std.specs.List.{slice_get}
 use Rattle.std.proofs.lemmas.Bool.{cases_Bool, cond-true, cond-false, leb-true}
 use Rattle.std.proofs.lemmas.List.{reverse-append}
-use Rattle.ixp_tables.specs.Tables.{if_there}
+use Rattle.ixp_num_tables.specs.Tables.{if_there}
 use Rattle.ixp_lang.specs.Trees.{ItemTree, router_id_item, table_item, define_item, function_item, filter_item, device_item, pipe_item, bgp_item}
 use Rattle.ixp_eval.specs.declared.search.Sort.{Sort}
 use Rattle.ixp_eval.specs.declared.search.Sort.TheVariants.{Define, Filter, Function}
 use Rattle.ixp_eval.specs.Indexed.{is_of}
-use Rattle.ixp_eval.specs.Places.{finds, is_at, last_of, places_of, put_place}
+use Rattle.ixp_eval.specs.Places.{finds, is_at, last_place, places_of, put_place}
 
 -- what a place more adds
 pub place_put : (n : List ℕ) (at : ℕ) (i : ItemTree) (is : List ItemTree) → places_of n at (i ∷ is) ≡ put_place n at i ++ places_of n (at + 1) is
@@ -95,7 +95,7 @@ past count test at found (i ∷ is) le =
 is_later : (at c : ℕ) → nat_le (at + suc c) at ≡ true → {A : Type 0} → A
 is_later at c e = let le = leb-true (at + suc c) at e in absurd (omega (arith, le))
 
-pub up_to : (test : ItemTree → Bool) (at c : ℕ) (found : Option ℕ) (is : List ItemTree) → last_to (at + c) test at found is ≡ last_of test at found (take c is)
+pub up_to : (test : ItemTree → Bool) (at c : ℕ) (found : Option ℕ) (is : List ItemTree) → last_to (at + c) test at found is ≡ last_place test at found (take c is)
 up_to test at zero found [] = refl
 up_to test at (suc c) found [] = refl
 up_to test at zero found (i ∷ is) = past (at + zero) test at found (i ∷ is) (omega arith)
@@ -104,8 +104,8 @@ up_to test at (suc c) found (i ∷ is) = by_case (cases_Bool (nat_le (at + suc c
   next = omega arith
 
   by_case : (nat_le (at + suc c) at ≡ true) ⊎ (nat_le (at + suc c) at ≡ false)
-      → last_to ((at + 1) + c) test (at + 1) (if test i then Some at else found) is ≡ last_of test (at + 1) (if test i then Some at else found) (take c is)
-      → last_to (at + suc c) test at found (i ∷ is) ≡ last_of test at found (i ∷ take c is)
+      → last_to ((at + 1) + c) test (at + 1) (if test i then Some at else found) is ≡ last_place test (at + 1) (if test i then Some at else found) (take c is)
+      → last_to (at + suc c) test at found (i ∷ is) ≡ last_place test at found (i ∷ take c is)
   by_case (inl e) more = is_later at c e
   by_case (inr e) more =
       ap (λ b. last_to (at + suc c) test (at + 1) (if (if b then false else test i) then Some at else found) is) e
@@ -117,7 +117,7 @@ none_before n = omega arith
 
 -- the last item before a place that passes is found among those of its name
 pub last_chosen : (n : List ℕ) (test : ItemTree → Bool) → ((i : ItemTree) → test i ≡ true → finds n i ≡ true) → (count : ℕ) (all : List ItemTree)
-    → chosen (is_at count test all) None (places_of n 0 all) ≡ last_of test 0 None (take count all)
+    → chosen (is_at count test all) None (places_of n 0 all) ≡ last_place test 0 None (take count all)
 last_chosen n test tested count all = one_by_one n test tested count all 0 None all refl ∙ ap (λ k. last_to k test 0 None all) (sym (none_before count)) ∙ up_to test 0 count None all
 
 pub chosen_end : (test : ℕ → Bool) (found : Option ℕ) (left all : List ℕ) → left ≡ [] → chosen test found left ≡ chosen test None all → found ≡ chosen test None all
@@ -161,19 +161,19 @@ module _ {X : Type 0} (look : List ItemTree → X) (test : ItemTree → Bool) (s
   same_look None i is e h = skips i is e ∙ h
   same_look (Some p) i is e (j, at, passes, h) = (j, at, passes, skips i is e ∙ h)
 
-  found_by : (at : ℕ) (found : Option ℕ) (done left : List ItemTree) → done ≡ reverse (take at all) → left ≡ drop at all → FoundAt found done → FoundAt (last_of test at found left) (reverse all)
+  found_by : (at : ℕ) (found : Option ℕ) (done left : List ItemTree) → done ≡ reverse (take at all) → left ≡ drop at all → FoundAt found done → FoundAt (last_place test at found left) (reverse all)
   found_by at found done [] front rest h = subst (FoundAt found) (front ∙ ap reverse (all_taken all at rest)) h
   found_by at found done (i ∷ is) front rest h =
       by_case (cases_Bool (test i)) (λ f g. found_by (at + 1) f (i ∷ done) is more (subst (λ k. is ≡ drop k all) (one_more at) (next_drop all at i is rest)) g) where
         more : i ∷ done ≡ reverse (take (at + 1) all)
         more = ap (λ t. i ∷ t) front ∙ sym (ap reverse (ap (λ k. take k all) (sym (one_more at)) ∙ next_take all at i is rest) ∙ reverse-append (take at all) (i ∷ []))
 
-        by_case : (test i ≡ true) ⊎ (test i ≡ false) → ((f : Option ℕ) → FoundAt f (i ∷ done) → FoundAt (last_of test (at + 1) f is) (reverse all)) → FoundAt (last_of test at found (i ∷ is)) (reverse all)
+        by_case : (test i ≡ true) ⊎ (test i ≡ false) → ((f : Option ℕ) → FoundAt f (i ∷ done) → FoundAt (last_place test (at + 1) f is) (reverse all)) → FoundAt (last_place test at found (i ∷ is)) (reverse all)
         by_case (inl e) on =
-            subst (λ b. FoundAt (last_of test (at + 1) (if b then Some at else found) is) (reverse all)) (sym e)
+            subst (λ b. FoundAt (last_place test (at + 1) (if b then Some at else found) is) (reverse all)) (sym e)
             (on (Some at) (i, item_at all at i is rest, e, ap (λ t. look (i ∷ t)) front))
         by_case (inr e) on =
-            subst (λ b. FoundAt (last_of test (at + 1) (if b then Some at else found) is) (reverse all)) (sym e) (on found (same_look found i done e h))
+            subst (λ b. FoundAt (last_place test (at + 1) (if b then Some at else found) is) (reverse all)) (sym e) (on found (same_look found i done e h))
 
-  pub found_at : FoundAt (last_of test 0 None all) (reverse all)
+  pub found_at : FoundAt (last_place test 0 None all) (reverse all)
   found_at = found_by 0 None [] all refl refl refl

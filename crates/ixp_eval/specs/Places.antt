@@ -1,7 +1,7 @@
 -- Where the items of a configuration stand, by their names.
 use Rattle.std.specs.Prelude.{ℕ, ◌+◌, Bool, false, ◌&&◌, List, [], ◌∷◌, nat_le, Option, Some, None, if◌then◌else◌}
 use Rattle.std.specs.List.{slice_get}
-use Rattle.ixp_tables.specs.Tables.{if_there}
+use Rattle.ixp_num_tables.specs.Tables.{if_there}
 use Rattle.ixp_lang.specs.declared.item.Pipe.{Pipe}
 use Rattle.ixp_lang.specs.Meaning.{same_name}
 use Rattle.ixp_lang.specs.Trees.{ItemTree, router_id_item, table_item, define_item, function_item, filter_item, device_item, pipe_item, bgp_item}
@@ -30,9 +30,9 @@ abbrev pub is_at : ℕ → (ItemTree → Bool) → List ItemTree → ℕ → Boo
 is_at count test items at = if nat_le count at then false else if_there (slice_get items at) false test
 
 -- the place of the last item that passes the test, or else this one
-abbrev pub last_of : (ItemTree → Bool) → ℕ → Option ℕ → List ItemTree → Option ℕ
-last_of test at found [] = found
-last_of test at found (i ∷ is) = last_of test (at + 1) (if test i then Some at else found) is
+abbrev pub last_place : (ItemTree → Bool) → ℕ → Option ℕ → List ItemTree → Option ℕ
+last_place test at found [] = found
+last_place test at found (i ∷ is) = last_place test (at + 1) (if test i then Some at else found) is
 
 -- Pipes.
 

@@ -20,8 +20,8 @@ use crate::fault::EvalFault;
 use crate::tasks::{Act, Arms, Callee, How, Operator, Task};
 use crate::val::{Val, number, truth};
 use ixp_lang::{Expr, Route, Stmt};
-use ixp_lists::Stack;
 use ixp_num::{Asn, Items, Name, Validity};
+use ixp_num_tables::Stack;
 use ixp_roa::RoaTable;
 use std::alloc::{AllocError, Global};
 

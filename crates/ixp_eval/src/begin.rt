@@ -9,8 +9,8 @@ use crate::env::Env;
 use crate::tasks::{Callee, Change, Operator, Task};
 use crate::val::{Val, held};
 use ixp_lang::{Expr, Op, Route, Stmt};
-use ixp_lists::Stack;
 use ixp_num::Items;
+use ixp_num_tables::Stack;
 use std::alloc::{AllocError, Global};
 
 /// Pushes the tasks of two operands and their operator.

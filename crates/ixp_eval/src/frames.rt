@@ -17,8 +17,8 @@ use crate::search::Before;
 use crate::tasks::{Act, Callee, How, Task};
 use crate::val::{Val, copied};
 use ixp_lang::{Expr, Route, Stmt, Ty};
-use ixp_lists::Stack;
 use ixp_num::{Items, Name};
+use ixp_num_tables::Stack;
 use std::alloc::{AllocError, Global};
 use std::mem;
 

@@ -1,12 +1,11 @@
 //! Where the items of a configuration stand, by the names that find them.
 ghost use Rattle.std.specs.Prelude.{◌≡◌, ℕ, false, List, ◌++◌, map, IfOk, OnOk, MatchOption};
-ghost use Rattle.ixp_groups.specs.Values.{values_of};
+ghost use Rattle.ixp_lang.specs.Values.{values_of};
 ghost use Rattle.ixp_lang.specs.Meaning.{same_name};
 ghost use Rattle.ixp_lang.specs.Views.{item_view};
 ghost use Rattle.ixp_eval.specs.Places.{finds, places_of, put_place};
 
-use ixp_groups::Groups;
-use ixp_lang::Item;
+use ixp_lang::{Groups, Item};
 use std::alloc::{AllocError, Global};
 
 /// The items of a configuration, and where those of each name stand.

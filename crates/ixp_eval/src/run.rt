@@ -17,8 +17,8 @@ use crate::search::Before;
 use crate::tasks::How;
 use crate::val::{Val, into_value};
 use ixp_lang::{Config, Route, Value, Verdict};
-use ixp_lists::Stack;
 use ixp_num::{Items, Name};
+use ixp_num_tables::Stack;
 use std::alloc::Global;
 
 /// Runs a body to its end.

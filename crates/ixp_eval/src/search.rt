@@ -5,7 +5,7 @@ ghost use Rattle.ixp_lang.specs.Views.{item_view};
 ghost use Rattle.ixp_lang.specs.Walks.{pipe_between, pipe_from, pipes_of};
 ghost use Rattle.ixp_eval.specs.Indexed.{is_of, items_before, items_of};
 ghost use Rattle.std.specs.List.{slice_get};
-ghost use Rattle.ixp_eval.specs.Places.{is_at, is_between, is_from, last_of, pipe_at};
+ghost use Rattle.ixp_eval.specs.Places.{is_at, is_between, is_from, last_place, pipe_at};
 
 use crate::index::Index;
 use crate::names::same_name;
@@ -62,7 +62,7 @@ fn is_at(before: Before<'_, '_>, place: usize, sort: Sort, name: &Name) -> bool
 
 /// The place of the last item before that is of the sort and has the name.
 pub fn last_place<'i, 'a>(before: Before<'i, 'a>, sort: Sort, name: &'a Name) -> Option<usize>
-    ensures { result ≡ last_of (is_of sort name.now) 0 None (items_before before.entry) }
+    ensures { result ≡ last_place (is_of sort name.now) 0 None (items_before before.entry) }
 {
     let mut found = None;
     let places = before.index.places.of(name.as_bytes());

@@ -10,7 +10,7 @@ use Rattle.ixp_explain.specs.declared.report.ExplainFault.{ExplainFault}
 use Rattle.ixp_explain.specs.declared.report.ExplainFault.TheVariants as told
 use Rattle.ixp_explain.specs.Explained.{Trouble, other_family, faulty, misshapen}
 
--- a fault of the language, as the program names it; want of memory is none
+-- a fault of the language, as the program names it; running out of memory is none
 abbrev pub fault_of : NoValue → Option CallFault
 fault_of call.Ended = Some ended
 fault_of (call.Failed fault.NoMemory) = None
@@ -36,7 +36,7 @@ abbrev pub Tells : {A : Type 0} → Result A ExplainFault → Result A Trouble �
 Tells (Ok x) outcome = Ok x ≡ outcome
 Tells (Err f) outcome = Troubled outcome f
 
--- the text is no configuration, told as its reader tells it; or want of memory
+-- the text is no configuration, told as its reader tells it; or running out of memory
 abbrev pub IsUnread : List ℕ → ExplainFault → Type 0
 IsUnread text told.NoMemory = Unit {0}
 IsUnread text (told.Unread f) = IsTold (Err f) × ConfigAnswer text (Err f)
@@ -47,7 +47,7 @@ abbrev pub Spelt : {A : Type 0} → List ℕ → (List ItemTree → Result A Tro
 Spelt text outcome answer = (items : List ItemTree) × SpellsText text items × Tells answer (outcome items)
 
 -- The answer to a question about a text. A text that is no configuration is told as its reader tells it; all else is the outcome by the
--- configuration that the text spells. Want of memory is free.
+-- configuration that the text spells. Running out of memory is free.
 abbrev pub Answers : {A : Type 0} → List ℕ → (List ItemTree → Result A Trouble) → Result A ExplainFault → Type 0
 Answers text outcome (Err told.NoMemory) = Unit {0}
 Answers text outcome (Err (told.Unread f)) = IsUnread text (told.Unread f)

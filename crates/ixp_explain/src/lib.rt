@@ -2,7 +2,7 @@
 //!
 //! [`explain`] and [`explain_member`] read the text and run it. What they answer is the outcome by the configuration that the text spells
 //! (`specs/Explained.antt`), so a text that was altered by hand is explained as it stands. [`print_own`] writes what a member is told.
-//! What the texts of a valid registry explain is said in `ixp_explained`.
+//! What the texts of a valid registry explain is said in `ixp_explain_member`.
 #![tactic(auto)]
 
 mod fates;

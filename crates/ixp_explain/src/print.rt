@@ -6,7 +6,7 @@ ghost use Rattle.ixp_explain.specs.Texts.{ask_text, asks_text, own_text, times_t
 use crate::report::OwnReport;
 use ixp_lang::{Route, print_route};
 use ixp_num::{Asn, print_prefix};
-use ixp_text::{put, put_number, put_whole};
+use ixp_num_tables::{put, put_number, put_whole};
 use std::alloc::{AllocError, Global};
 
 fn put_times(out: &mut Vec<u8>, times: Option<u8>) -> Result<(), AllocError>

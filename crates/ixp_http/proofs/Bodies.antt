@@ -10,12 +10,12 @@ use Rattle.ixp_http.specs.declared.next.HttpFault.{HttpFault}
 use Rattle.ixp_http.specs.declared.head.Start.{Start}
 use Rattle.ixp_http.specs.declared.head.Start.TheVariants.{Headed}
 use Rattle.ixp_http.specs.declared.fields.Need.{Need}
-use Rattle.ixp_http.specs.declared.fields.Need.TheVariants.{Body}
+use Rattle.ixp_http.specs.declared.fields.Need.TheVariants.{Body, Refused}
 use Rattle.ixp_http.specs.declared.request.Head.{Head}
 use Rattle.ixp_http.specs.declared.request.Request.{Request}
 use Rattle.ixp_http.specs.Heads.{start_of}
 use Rattle.ixp_http.specs.Fields.{need_of}
-use Rattle.ixp_http.specs.Messages.{Reading, message, cut, Begins, First, IsHead, request_of, with_need}
+use Rattle.ixp_http.specs.Messages.{Reading, message, bad, cut, Begins, First, IsHead, request_of, with_need}
 use Rattle.ixp_http.specs.Answers.{Together, Tells, IsHeaded, IsBodied}
 use Rattle.ixp_http.proofs.Together.{together_none, told_by, told_with, tells_after, where_any, where_by}
 
@@ -96,6 +96,17 @@ head_bodied a b held holds from n size head r fits is need t =
       subst (λ (t : List ℕ). IsHead t head) (sym (kept_part held rest from n fits)) is,
       e ∙ ap (λ (need : Need). with_need head need (drop (from + n) (held ++ rest))) (sym need),
     )) t
+
+pub head_refused : (a : Option (List ℕ)) (held : List ℕ) (from n status : ℕ) (head : Head) → from + n ≤ length held
+    → IsHead (take n (drop from held)) head → need_of head.fields ≡ Refused status
+    → Told a a (λ left rest. IsHeaded from n (held ++ left) (bad status))
+head_refused a held from n status head fits is need =
+    told_by a a (λ left rest. held ++ left ≡ held ++ rest) (λ left rest. IsHeaded from n (held ++ left) (bad status)) (together_none a held)
+    λ left rest e. inl (
+      head,
+      subst (λ (t : List ℕ). IsHead t head) (sym (kept_part held left from n fits)) is,
+      ap (λ (need : Need). with_need head need (drop (from + n) (held ++ left))) (sym need),
+    )
 
 -- ---- what stands first
 

@@ -1,6 +1,5 @@
 pub mod Starts
 pub mod Items
-pub mod Numbers
 pub mod Together
 pub mod Grammar
 pub mod Writes

@@ -1,7 +1,8 @@
 -- The fields of a request (RFC 9110 section 5, RFC 9112 section 6).
-use Rattle.std.specs.Prelude.{ℕ, ◌+◌, ◌-◌, ◌*◌, Bool, true, false, ◌&&◌, ◌||◌, ◌==◌, not, nat_lt, if◌then◌else◌, Option, None, Some, List, [], ◌∷◌, reverse, codes}
+use Rattle.std.specs.Prelude.{ℕ, Bool, true, false, ◌&&◌, ◌||◌, ◌==◌, not, if◌then◌else◌, Option, None, Some, List, [], ◌∷◌, reverse, codes}
 use Rattle.std.specs.List.{list_any}
 use Rattle.std.specs.Char.{to_ascii_lowercase, is_ascii_digit}
+use Rattle.ixp_num_tables.specs.Decimals.{number_upto}
 use Rattle.ixp_http.specs.declared.fields.Field.{Field}
 use Rattle.ixp_http.specs.declared.fields.Need.{Need}
 use Rattle.ixp_http.specs.declared.fields.Need.TheVariants.{Refused, Body}
@@ -91,23 +92,19 @@ is_decimal [] = false
 is_decimal (b ∷ []) = is_ascii_digit b
 is_decimal (b ∷ c ∷ bytes) = is_ascii_digit b && not (b == 48) && all_digits (c ∷ bytes)
 
--- the number with these digits behind the digits of another one
-abbrev pub number_from : ℕ → List ℕ → ℕ
-number_from n [] = n
-number_from n (b ∷ bytes) = number_from (n * 10 + (b - 48)) bytes
-
 -- the greatest length of a body: 64 MiB
 abbrev pub body_limit : ℕ
 body_limit = 67108864
 
 -- a length is within the limit, or the content is too large (RFC 9110 section 15.5.14)
-abbrev pub need_within : ℕ → Need
-need_within n = if nat_lt body_limit n then Refused 413 else Body n
+abbrev pub need_within : Option ℕ → Need
+need_within None = Refused 413
+need_within (Some n) = Body n
 
 -- The lengths that a head gives: none (RFC 9112 section 6.3), or one, which may come more than once.
 abbrev pub need_by : List (List ℕ) → Need
 need_by [] = Body 0
-need_by (v ∷ vs) = if all_are v (v ∷ vs) && is_decimal v then need_within (number_from 0 v) else Refused 400
+need_by (v ∷ vs) = if all_are v (v ∷ vs) && is_decimal v then need_within (number_upto body_limit v) else Refused 400
 
 -- a head with a transfer coding is refused (RFC 9112 section 6.1)
 abbrev pub need_coded : List (List ℕ) → Need → Need

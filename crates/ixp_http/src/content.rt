@@ -1,5 +1,5 @@
 //! The content of replies.
-use ixp_lists::Items;
+use ixp_num_tables::Items;
 use std::marker::Model;
 
 /// Bytes that stand in the program, or that were made.

@@ -1,8 +1,10 @@
 //! The fields of a request.
-ghost use Rattle.std.specs.Prelude.{◌≡◌, ◌<◌, ◌∷◌, option_map, slice_get, length, codes, IfSome};
+ghost use Rattle.std.specs.Prelude.{◌≡◌, ◌<◌, ◌≤◌, ◌∷◌, ℕ, option_map, slice_get, length, codes, IfSome};
+ghost use Rattle.ixp_num_tables.specs.Decimals.{number_upto};
 ghost use Rattle.ixp_http.specs.Fields as spec;
+ghost use Rattle.ixp_http.specs.declared.fields.Need.TheVariants.{Body};
 
-use ixp_lists::Items;
+use ixp_num_tables::{Items, number_upto};
 
 /// The greatest length of a body, in bytes.
 pub const BODY_LIMIT: usize = 67_108_864;
@@ -191,22 +193,19 @@ fn is_decimal(bytes: &[u8]) -> bool
 
 // What a length in decimal says of the body.
 fn need_within(digits: &[u8]) -> Need
-    ensures { result ≡ spec.need_within (spec.number_from 0 digits.now) }
+    ensures need { result ≡ spec.need_within (number_upto 67108864 digits.now) }
+    ensures small { (size : ℕ) → result ≡ Body size → size ≤ spec.body_limit }
 {
-    let mut number = 0;
-    for b in digits {
-        number = (number * 10 + usize::from(b.saturating_sub(b'0'))).min(BODY_LIMIT + 1);
-    }
-    if number > BODY_LIMIT {
-        Need::Refused(413)
-    } else {
-        Need::Body(number)
+    match number_upto(BODY_LIMIT as u64, digits) {
+        Some(number) => Need::Body(number as usize),
+        None => Need::Refused(413),
     }
 }
 
 // What the lengths of a head say of the body.
 fn need_by(fields: &[Field]) -> Need
-    ensures { result ≡ spec.need_by (spec.values (codes "content-length") fields.now) }
+    ensures need { result ≡ spec.need_by (spec.values (codes "content-length") fields.now) }
+    ensures small { (size : ℕ) → result ≡ Body size → size ≤ spec.body_limit }
 {
     match first_value(fields, b"content-length") {
         None => Need::Body(0),
@@ -222,7 +221,8 @@ fn need_by(fields: &[Field]) -> Need
 
 /// What the fields of a head say of the body.
 pub(crate) fn need_of(fields: &[Field]) -> Need
-    ensures { result ≡ spec.need_of fields.now }
+    ensures need { result ≡ spec.need_of fields.now }
+    ensures small { (size : ℕ) → result ≡ Body size → size ≤ spec.body_limit }
 {
     if first_value(fields, b"transfer-encoding").is_some() {
         return Need::Refused(501);

@@ -12,7 +12,7 @@ use crate::fields::{Need, need_of};
 use crate::head::{HEAD_LIMIT, Start, has_feed, start_of};
 use crate::request::{Head, Request, head_of, request_of};
 use ixp_io::Source;
-use ixp_lists::Items;
+use ixp_num_tables::Items;
 use std::alloc::{AllocError, AllocFailed, Global};
 
 /// What comes next on a link.

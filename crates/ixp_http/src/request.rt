@@ -9,7 +9,7 @@ ghost use Rattle.ixp_http.specs.Messages as spec;
 use crate::fields::{Field, any_has_item};
 use httparse::Status;
 use httparse::spans::{EMPTY_HEADER_SPAN, HeaderSpan, RequestSpans, parse_request};
-use ixp_lists::Items;
+use ixp_num_tables::Items;
 use std::alloc::{AllocError, Global};
 
 /// The greatest number of fields of a request.

@@ -11,7 +11,7 @@ ghost use Rattle.ixp_io.specs.Told.{Told, WhereTold};
 ghost use Rattle.ixp_io.specs.Tables.{Table, name_bytes, name_cmp, changed, next_after, row_entry, RowsInOrder};
 
 use crate::Failed;
-use ixp_lists::Items;
+use ixp_num_tables::Items;
 use std::alloc::{AllocError, AllocFailed, Global};
 use std::cmp::Ordering;
 

@@ -8,7 +8,7 @@ ghost use Rattle.ixp_io.specs.Faults.{Rose};
 ghost use Rattle.ixp_io.specs.Plans.{fails_next, after_call};
 
 use crate::{Change, KeepFault, Keeper, Plan, Row, RowName};
-use ixp_lists::Items;
+use ixp_num_tables::Items;
 use std::alloc::{AllocError, Global};
 use std::collections::BTreeMap;
 use std::ops::Bound;

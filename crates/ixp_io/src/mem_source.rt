@@ -2,7 +2,7 @@
 ghost use Rattle.std.specs.Prelude.{◌≡◌, ◌<◌, ◌≤◌, Some, length, drop};
 
 use crate::{Failed, Plan, Source, Stream};
-use ixp_lists::Items;
+use ixp_num_tables::Items;
 
 /// A source that gives bytes from memory.
 #[derive(Debug, Drop)]

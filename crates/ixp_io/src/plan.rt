@@ -5,7 +5,7 @@ ghost use Rattle.ixp_io.specs.Faults.{Rose, last_count};
 ghost use Rattle.ixp_io.specs.Plans.{fails_next, after_call};
 
 use crate::Failed;
-use ixp_lists::Items;
+use ixp_num_tables::Items;
 use std::alloc::{AllocError, Global};
 
 /// Which calls of an object in memory are to fail, how many calls there were, and how many of them failed. Both

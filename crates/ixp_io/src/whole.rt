@@ -4,7 +4,7 @@ ghost use Rattle.ixp_io.specs.Faults.{Rose};
 ghost use Rattle.ixp_io.specs.Told.{Told, Moves, MovesUpTo, IsDone, Takes, TakesPart};
 
 use crate::{Failed, Sink, Source};
-use ixp_lists::Items;
+use ixp_num_tables::Items;
 use std::alloc::{AllocError, AllocFailed, Global};
 
 /// How many bytes one read of [`read_whole`] asks for at most.

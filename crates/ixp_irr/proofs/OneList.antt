@@ -2,9 +2,9 @@
 use Rattle.std.proofs.Common.{◌≡◌, ℕ, zero, suc, List, [], ◌∷◌, ◌⊎◌, inl, inr, refl, sym, ap, ◌∙◌, subst, arith}
 use Rattle.std.specs.declared.cmp.Ordering.TheVariants.{Less}
 use Rattle.std.specs.List.{Contains, AllByRecursion}
-use Rattle.ixp_tables.specs.Tables.{order, Ascends}
-use Rattle.ixp_tables.proofs.Orders.{chained, order_same}
-use Rattle.ixp_sorted.specs.Sorted.{IsInOrder}
+use Rattle.ixp_num_tables.specs.Tables.{order, Ascends}
+use Rattle.ixp_num_tables.proofs.Orders.{chained, order_same}
+use Rattle.ixp_num_sorted.specs.Sorted.{IsInOrder}
 
 module _ {A : Type 0} (key : A → List ℕ) where
   first_in : (x : A) (xs : List A) → Contains (x ∷ xs) x

@@ -3,7 +3,7 @@ use Rattle.std.specs.Prelude.{◌≡◌, ◌==◌, ◌+◌, ◌<◌, ◌≤◌, 
 use Rattle.std.specs.Global.{Vec}
 use Rattle.std.specs.List.{filter}
 use Rattle.std.specs.Str.Lines.{lines}
-use Rattle.ixp_sorted.specs.Sorted.{IsInOrder}
+use Rattle.ixp_num_sorted.specs.Sorted.{IsInOrder}
 use Rattle.ixp_irr.specs.declared.fault.ListFault.{ListFault}
 use Rattle.ixp_irr.specs.declared.fault.ListFault.TheVariants as fault
 use Rattle.ixp_irr.specs.declared.fault.Misfit.{Misfit}

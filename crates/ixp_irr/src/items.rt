@@ -6,7 +6,7 @@ ghost use Rattle.ixp_irr.specs.Items.{IsPatternText, IsAsnText, IsRangeText, Say
 use crate::asns::{asn_of, range_of};
 use crate::fault::Misfit;
 use ixp_num::{Asn, Family, Pattern, Prefix, read_pattern, read_prefix};
-use ixp_sorted::Keyed;
+use ixp_num_sorted::Keyed;
 
 /// A kind of lists.
 pub(crate) trait Reads {

@@ -4,7 +4,7 @@ ghost use Rattle.ixp_num.specs.declared.asn.Asn.{Asn};
 ghost use Rattle.ixp_num.specs.declared.family.Family.{Family};
 ghost use Rattle.ixp_num.specs.declared.pattern.Pattern.{Pattern};
 ghost use Rattle.ixp_num.specs.declared.prefix.Prefix.{Prefix};
-ghost use Rattle.ixp_sorted.specs.Keys.{prefix_key, pattern_key, asn_key, range_key};
+ghost use Rattle.ixp_num_sorted.specs.Keys.{prefix_key, pattern_key, asn_key, range_key};
 ghost use Rattle.ixp_irr.specs.Items.{IsPatternText, IsAsnText, IsRangeText, Says, SaysPrefixOf};
 ghost use Rattle.ixp_irr.specs.Lists.{ListAnswer};
 ghost use Rattle.ixp_irr.specs.declared.fault.ListFault.{ListFault};

@@ -1,7 +1,7 @@
 //! Lists, line by line.
 ghost use Rattle.std.specs.Prelude.{◌≡◌, ◌≤◌, ◌<◌};
 ghost use Rattle.std.specs.Str.Lines.{lines};
-ghost use Rattle.ixp_sorted.specs.Keys.{prefix_key, pattern_key, asn_key, range_key};
+ghost use Rattle.ixp_num_sorted.specs.Keys.{prefix_key, pattern_key, asn_key, range_key};
 ghost use Rattle.ixp_irr.specs.Items.{IsPatternText, IsAsnText, IsRangeText, Says, SaysPrefixOf};
 ghost use Rattle.ixp_irr.specs.Lists.{LinesAnswer, ListAnswer};
 
@@ -9,7 +9,7 @@ use crate::fault::{ListFault, Misfit};
 use crate::items::{Asns, Patterns, Prefixes, Ranges, Reads};
 use crate::lines::{counts, first_line};
 use ixp_num::{Asn, Family, Pattern, Prefix};
-use ixp_sorted::Sorted;
+use ixp_num_sorted::Sorted;
 use std::alloc::Global;
 
 /// The most distinct items of a list.

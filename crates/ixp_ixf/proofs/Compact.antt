@@ -4,8 +4,8 @@ use Rattle.std.proofs.lemmas.List.{append_assoc}
 use Rattle.json.specs.Print.{quoted}
 use Rattle.serde_json.specs.Data.{Data, boolean, string, object, Members, no_members, member}
 use Rattle.serde_json.specs.Written.{compact_text, items_text, members_text}
-use Rattle.ixp_text.specs.Joined.{more_joined}
-use Rattle.ixp_json.specs.Members.{number_member, text_member}
+use Rattle.ixp_num_tables.specs.Joined.{more_joined}
+use Rattle.ixp_api_json.specs.Members.{number_member, text_member}
 use Rattle.ixp_num.specs.declared.prefix.Prefix.{Prefix}
 use Rattle.ixp_num.specs.Printing.{addr_text}
 use Rattle.ixp_registry.specs.declared.members.Member.{Member}

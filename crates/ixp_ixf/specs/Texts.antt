@@ -2,8 +2,8 @@
 -- `proofs/Compact`.
 use Rattle.std.specs.Prelude.{ℕ, List, [], ◌++◌, Bool, true, false, Option, Some, None, codes}
 use Rattle.json.specs.Print.{quoted}
-use Rattle.ixp_text.specs.Joined.{joined}
-use Rattle.ixp_json.specs.Members.{number_member, text_member}
+use Rattle.ixp_num_tables.specs.Joined.{joined}
+use Rattle.ixp_api_json.specs.Members.{number_member, text_member}
 use Rattle.ixp_num.specs.declared.prefix.Prefix.{Prefix}
 use Rattle.ixp_num.specs.Printing.{value_text, addr_text}
 use Rattle.ixp_registry.specs.declared.members.Member.{Member}

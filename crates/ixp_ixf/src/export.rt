@@ -7,9 +7,9 @@ use crate::fabric::put_exchange;
 use crate::lists::{put_name, put_shown_member};
 use crate::members::{Wiring, connected};
 use crate::moment::moment_text;
-use ixp_json::put_text_member;
+use ixp_api_json::put_text_member;
+use ixp_num_tables::{put, put_whole};
 use ixp_registry::Registry;
-use ixp_text::{put, put_whole};
 use std::alloc::{AllocError, Global};
 
 #[tactic(auto, unfolding(crate::specs::Texts::single_member))]

@@ -3,10 +3,10 @@ ghost use Rattle.std.specs.Prelude.{◌≡◌, ◌++◌, OnOk, IfOk};
 ghost use Rattle.ixp_ixf.specs.Texts as spec;
 
 use crate::lists::{put_list_member, put_name};
-use ixp_json::{put_number_member, put_text_member};
+use ixp_api_json::{put_number_member, put_text_member};
 use ixp_num::{Addr, Prefix, print_addr};
+use ixp_num_tables::{Writes, put};
 use ixp_registry::{Registry, Switch, Vlan};
-use ixp_text::{Writes, put};
 use std::alloc::{AllocError, Global};
 
 // The text of the network's first address.

@@ -1,11 +1,11 @@
 //! Lists and members of objects (RFC 8259 sections 4 and 5).
 ghost use Rattle.std.specs.Prelude.{◌≡◌, ◌++◌, ℕ, List, OnOk, codes};
-ghost use Rattle.ixp_text.specs.Joined.{joined};
+ghost use Rattle.ixp_num_tables.specs.Joined.{joined};
 ghost use Rattle.ixp_ixf.specs.Rows.{shown};
 ghost use Rattle.ixp_ixf.specs.Texts.{name_text, list_text, list_member, flag_member};
 
-use ixp_json::put_quoted;
-use ixp_text::{Writes, put, put_joined};
+use ixp_api_json::put_quoted;
+use ixp_num_tables::{Writes, put, put_joined};
 use std::alloc::AllocError;
 
 /// Adds a name behind a mark, and its colon. Where memory runs out, a first part of it may be there; likewise below.

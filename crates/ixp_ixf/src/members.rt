@@ -7,10 +7,10 @@ ghost use Rattle.ixp_ixf.specs.Export as tree;
 
 use crate::index::{Index, Owned, put_owned_member};
 use crate::lists::{Shows, put_flag_member, put_name};
-use ixp_json::{put_number_member, put_text_member};
+use ixp_api_json::{put_number_member, put_text_member};
 use ixp_num::print_addr;
+use ixp_num_tables::put;
 use ixp_registry::{IfAddr, Interface, Member, Port, Registry, Status};
-use ixp_text::put;
 use std::alloc::{AllocError, Global};
 use std::marker::Model;
 

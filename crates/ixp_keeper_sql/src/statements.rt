@@ -4,7 +4,7 @@
 //! Each call of the connection stands in a function without a clause of its own: a proof that carries what several of
 //! them say of a database takes minutes.
 use ixp_io::{Change, Row, RowName};
-use ixp_lists::Items;
+use ixp_num_tables::Items;
 use sqlite::{Alter, Connection, Error, ErrorCode, Statement, Transaction, params};
 
 /// The table. The schema of a database holds this very text.

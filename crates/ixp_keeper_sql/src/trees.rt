@@ -6,7 +6,7 @@
 //!
 //! Each call of the store stands in a function without a clause of its own, as in `statements.rt`.
 use ixp_io::{Change, Row, RowName};
-use ixp_lists::Items;
+use ixp_num_tables::Items;
 use sqlite::{Alter, Connection};
 use sqlite_trees::error::StoreError;
 use sqlite_trees::store::{Direction, Shape, Store};

@@ -1,5 +1,6 @@
 pub mod CaseView
 pub mod DeadEnds
+pub mod Grouping
 pub mod ListDeadEnds
 pub mod LongLists
 pub mod NumberedNames
@@ -12,7 +13,7 @@ pub mod RouteItems
 pub mod RouteListTexts
 pub mod RouteLists
 pub mod RouteStops
-pub mod Sequences
 pub mod SameNames
+pub mod Sequences
 pub mod TableNames
 pub mod Weights

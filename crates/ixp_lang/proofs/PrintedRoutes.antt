@@ -6,7 +6,7 @@ use Rattle.ixp_num.specs.Forms.{IsDecimal}
 use Rattle.ixp_num.specs.Printing.{addr_text, prefix_text}
 use Rattle.ixp_num.proofs.PrintedTexts.{decimal_spelt}
 use Rattle.ixp_num.proofs.PrintedAddresses.{addr_printed, prefix_printed}
-use Rattle.ixp_text.specs.Joined.{more_joined}
+use Rattle.ixp_num_tables.specs.Joined.{more_joined}
 use Rattle.ixp_lang.specs.declared.route.Route.{Route}
 use Rattle.ixp_lang.specs.Texts.{list_text, asn_text, pair_text, triple_text, route_text}
 use Rattle.ixp_lang.specs.RouteTexts.{IsAsnText, IsPairText, IsTripleText, IsMoreText, IsListText, IsRouteText, AsnFits, PairFits, TripleFits, IsBounded}

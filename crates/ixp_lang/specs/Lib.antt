@@ -9,5 +9,6 @@ pub mod Sequence
 pub mod Steering
 pub mod Texts
 pub mod Trees
+pub mod Values
 pub mod Views
 pub mod Walks

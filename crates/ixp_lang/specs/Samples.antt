@@ -20,8 +20,8 @@ abbrev pub truth_value : Bool → ExprTree
 truth_value b = literal (value.Bool b)
 
 -- `if e then s;`
-abbrev pub when : ExprTree → StmtTree → StmtTree
-when e s = if_then e (stmts (s ∷ [])) (stmts [])
+abbrev pub without_else : ExprTree → StmtTree → StmtTree
+without_else e s = if_then e (stmts (s ∷ [])) (stmts [])
 
 -- 10.0.0.1
 abbrev pub neighbour : Addr
@@ -38,15 +38,15 @@ environment = record { from = neighbour; roas = [] }
 abbrev pub tests_pair : ItemTree
 tests_pair =
     function_item (codes "g") ((ty.Int, codes "p") ∷ [])
-    (stmts (when (comparison op.In (pair (int 0) (named (codes "p"))) (attribute attr.Pairs)) accept ∷ []))
+    (stmts (without_else (comparison op.In (pair (int 0) (named (codes "p"))) (attribute attr.Pairs)) accept ∷ []))
 
 -- `function g(bool b) { if b then return true; }`
 abbrev pub returns_sometimes : ItemTree
-returns_sometimes = function_item (codes "g") ((ty.Bool, codes "b") ∷ []) (stmts (when (named (codes "b")) (return_value (truth_value true)) ∷ []))
+returns_sometimes = function_item (codes "g") ((ty.Bool, codes "b") ∷ []) (stmts (without_else (named (codes "b")) (return_value (truth_value true)) ∷ []))
 
 -- `filter f { if g(false) then accept; reject; }`
 abbrev pub asks_false : ItemTree
-asks_false = filter_item (codes "f") (stmts (when (call (codes "g") (exprs (truth_value false ∷ []))) accept ∷ reject ∷ []))
+asks_false = filter_item (codes "f") (stmts (without_else (call (codes "g") (exprs (truth_value false ∷ []))) accept ∷ reject ∷ []))
 
 -- `function h(int p) { accept; return p; }`
 abbrev pub accepts_first : ItemTree
@@ -58,7 +58,7 @@ calls_h = filter_item (codes "f") (stmts (call_statement (codes "h") (exprs (int
 
 -- `filter f { if false then accept; }`
 abbrev pub never_ends : ItemTree
-never_ends = filter_item (codes "f") (stmts (when (truth_value false) accept ∷ []))
+never_ends = filter_item (codes "f") (stmts (without_else (truth_value false) accept ∷ []))
 
 -- a route to the network from that neighbour with these communities
 abbrev pub route_with : List (ℕ × ℕ) → List (ℕ × ℕ × ℕ) → Route

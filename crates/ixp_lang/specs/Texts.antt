@@ -2,7 +2,7 @@
 use Rattle.std.specs.Prelude.{ℕ, Bool, true, false, ◌&&◌, ◌==◌, List, [], ◌∷◌, ◌++◌, Option, Some, None, codes, decimal, if◌then◌else◌}
 use Rattle.ixp_num.specs.declared.asn.Asn.{Asn}
 use Rattle.ixp_num.specs.Printing.{addr_text, prefix_text}
-use Rattle.ixp_text.specs.Joined.{more_joined}
+use Rattle.ixp_num_tables.specs.Joined.{more_joined}
 use Rattle.ixp_lang.specs.declared.route.Route.{Route}
 use Rattle.ixp_lang.specs.declared.fate.Fate.{Fate}
 use Rattle.ixp_lang.specs.declared.communities.TheConstants.{REFUSED}

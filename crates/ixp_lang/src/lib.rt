@@ -2,12 +2,14 @@
 //!
 //! The language is a profile of BIRD 2's (User's Guide, chapters "Configuration" and "Filters"). A tree has one meaning,
 //! defined in `specs/Meaning.antt` for filters and in `specs/Walks.antt` for a route's way through a whole
-//! configuration; reader, printer, evaluator and generation all speak of the same trees.
+//! configuration; reader, printer, evaluator and generation all speak of the same trees. [`Groups`] are values by the names
+//! of tables or sessions, in the order in which they were added.
 #![tactic(auto)]
 
 pub mod communities;
 mod expr;
 mod fate;
+mod groups;
 mod item;
 pub mod laws;
 mod names;
@@ -20,6 +22,7 @@ mod value;
 
 pub use expr::{Attr, Expr, Op};
 pub use fate::Fate;
+pub use groups::Groups;
 pub use item::{Bgp, Config, Item, Kind, Pipe, Ty, Use};
 pub use names::numbered;
 pub use reading::{RouteFault, read_route};

@@ -3,7 +3,7 @@ ghost use Rattle.std.specs.Prelude.{◌++◌, ◌≤◌, ◌≡◌, ◌^◌, ◌
 ghost use Rattle.ixp_num.specs.Names.{is_name};
 
 use ixp_num::Name;
-use ixp_text::put_number;
+use ixp_num_tables::put_number;
 use std::alloc::{AllocError, Global};
 
 /// The name that begins with `word` and ends with the number in decimal.

@@ -6,7 +6,7 @@ ghost use Rattle.ixp_lang.specs.Texts.{list_text, asn_text, pair_text, triple_te
 use crate::communities::REFUSED;
 use crate::{Fate, Route};
 use ixp_num::{Asn, Name, print_addr, print_prefix};
-use ixp_text::{Writes, put, put_joined, put_number, put_whole};
+use ixp_num_tables::{Writes, put, put_joined, put_number, put_whole};
 use std::alloc::AllocError;
 
 struct AsnText;

@@ -1,14 +1,14 @@
 -- What is kept of an owner, changed where it stands.
 use Rattle.std.proofs.Common.{◌≡◌, ℕ, ◌<◌, Bool, true, false, List, [], ◌∷◌, length, get_or, set, nat_le, Option, Some, None, Result, Ok, Err, OnOk, OnErr, refl, sym, ap, ◌∙◌, subst, if◌then◌else◌}
-use Rattle.ixp_tables.specs.Tables.{Ascends, find, if_there, place, put}
-use Rattle.ixp_tables.proofs.Orders.{order_equal}
-use Rattle.ixp_tables.proofs.Places.{find_here, put_here}
-use Rattle.ixp_tables.proofs.TableLaws.{Ascends-put, find-key}
+use Rattle.ixp_num_tables.specs.Tables.{Ascends, find, if_there, place, put}
+use Rattle.ixp_num_tables.proofs.Orders.{order_equal}
+use Rattle.ixp_num_tables.proofs.Places.{find_here, put_here}
+use Rattle.ixp_num_tables.proofs.TableLaws.{Ascends-put, find-key}
 use Rattle.ixp_registry.specs.declared.members.Owner.{Owner}
 use Rattle.ixp_registry.specs.Words.{owner_numbers}
-use Rattle.ixp_steps.specs.declared.kept.KeptNumber.{KeptNumber}
-use Rattle.ixp_steps.specs.declared.kept.KeptOwner.{KeptOwner}
-use Rattle.ixp_steps.specs.Kept.{kept_key, kept_owner_key, kept_of, without_least, noted, noted_for}
+use Rattle.ixp_machine_steps.specs.declared.kept.KeptNumber.{KeptNumber}
+use Rattle.ixp_machine_steps.specs.declared.kept.KeptOwner.{KeptOwner}
+use Rattle.ixp_machine_steps.specs.Kept.{kept_key, kept_owner_key, kept_of, without_least, noted, noted_for}
 
 least_owner : (o : KeptOwner) (ks : List KeptNumber) → kept_owner_key (without_least o ks) ≡ kept_owner_key o
 least_owner o [] = refl

@@ -1,3 +1,4 @@
-pub mod OwnQuestions
-pub mod Making
+mod Families
 pub mod InPlace
+pub mod Making
+pub mod OwnQuestions

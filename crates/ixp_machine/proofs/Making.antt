@@ -1,24 +1,24 @@
 -- An accepted request is made.
 use Rattle.std.proofs.Common.{◌≡◌, true, [], ◌∷◌, Some, None, refl, sym, ap, ◌∙◌}
-use Rattle.ixp_tables.specs.Tables.{find, if_there}
+use Rattle.ixp_num_tables.specs.Tables.{find, if_there}
 use Rattle.ixp_registry.specs.Alphabets.{is_handle}
 use Rattle.ixp_registry.specs.declared.members.Owner.{Owner}
 use Rattle.ixp_registry.specs.declared.refusal.Refusal.TheVariants.{NoKey, BadText}
 use Rattle.ixp_registry.specs.declared.refusal.TextField.TheVariants.{Handle}
 use Rattle.ixp_registry.specs.declared.registry.Registry.{Registry}
 use Rattle.ixp_members.specs.Owners.{owner_of}
-use Rattle.ixp_edits.specs.declared.edit.Edit.{Edit}
-use Rattle.ixp_edits.specs.declared.edit.Edit.TheVariants.{AddRouter}
-use Rattle.ixp_edits.specs.Edits.{refusal}
-use Rattle.ixp_edits.specs.Routers.{new_router, add_router_tests}
+use Rattle.ixp_machine_edits.specs.declared.edit.Edit.{Edit}
+use Rattle.ixp_machine_edits.specs.declared.edit.Edit.TheVariants.{AddRouter}
+use Rattle.ixp_machine_edits.specs.Edits.{refusal}
+use Rattle.ixp_machine_edits.specs.Routers.{new_router, add_router_tests}
 use Rattle.ixp_registry.proofs.HandleNames.{handle_is_name}
-use Rattle.ixp_edits.proofs.Passing.{no_refusal, holds}
-use Rattle.ixp_effects.specs.Names.{has_name}
-use Rattle.ixp_steps.specs.declared.state.Entry.{Entry}
-use Rattle.ixp_steps.specs.declared.state.State.{State}
-use Rattle.ixp_steps.specs.Kept.{kept_key, kept_of}
-use Rattle.ixp_steps.specs.Steps.{Accepted, Refused, verdict, verdict_of}
-use Rattle.ixp_steps.proofs.Accepting.{accepted_parts}
+use Rattle.ixp_machine_edits.proofs.Passing.{no_refusal, holds}
+use Rattle.ixp_machine_effects.specs.Names.{has_name}
+use Rattle.ixp_machine_steps.specs.declared.state.Entry.{Entry}
+use Rattle.ixp_machine_steps.specs.declared.state.State.{State}
+use Rattle.ixp_machine_steps.specs.Kept.{kept_key, kept_of}
+use Rattle.ixp_machine_steps.specs.Steps.{Accepted, Refused, verdict, verdict_of}
+use Rattle.ixp_machine_steps.proofs.Accepting.{accepted_parts}
 
 -- the handle of a new router is a name, where the edit isn't refused
 pub named : (r : Registry) (e : Edit) → refusal r e ≡ None → has_name e ≡ true

@@ -3,7 +3,7 @@ use Rattle.std.proofs.Common.{◌≡◌, ℕ, List, [], ◌∷◌, Bool, true, f
 use Rattle.std.proofs.lemmas.Bool.{eqb-true}
 use Rattle.serde_json.specs.Data.{array, item, no_items, object, member, no_members, string}
 use Rattle.serde_json.specs.Written.{compact_text}
-use Rattle.ixp_tables.specs.Tables.{find, if_there}
+use Rattle.ixp_num_tables.specs.Tables.{find, if_there}
 use Rattle.ixp_registry.specs.declared.kind.Kind.TheVariants.{Members}
 use Rattle.ixp_registry.specs.declared.members.Member.{Member}
 use Rattle.ixp_registry.specs.declared.members.Owner.{Owner}
@@ -19,10 +19,10 @@ use Rattle.ixp_ixf.specs.Export.{exchange_tree, members_tree, list_of}
 use Rattle.ixp_ixf.specs.Moments.{moment_text}
 use Rattle.ixp_ixf.specs.Views.{ixf_text_of}
 use Rattle.ixp_members.specs.Owners.{owner_of}
-use Rattle.ixp_edits.specs.Tests.{unless_there}
-use Rattle.ixp_steps.specs.declared.state.State.{State}
-use Rattle.ixp_steps.specs.Rights.{has_right}
-use Rattle.ixp_steps.specs.Views.{View, view}
+use Rattle.ixp_machine_edits.specs.Tests.{unless_there}
+use Rattle.ixp_machine_steps.specs.declared.state.State.{State}
+use Rattle.ixp_machine_steps.specs.Rights.{has_right}
+use Rattle.ixp_machine_steps.specs.Views.{View, view}
 use Rattle.ixp_machine.specs.declared.question.Answer.{Answer}
 use Rattle.ixp_machine.specs.declared.question.Answer.TheVariants as answer
 use Rattle.ixp_machine.specs.declared.question.Query.{Query}

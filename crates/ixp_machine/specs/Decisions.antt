@@ -1,16 +1,16 @@
 -- What is answered to a request, by what is decided of it.
 use Rattle.std.specs.Prelude.{◌≡◌, ℕ, [], ◌∷◌, nat_lt, Option, Some, None, if◌then◌else◌}
-use Rattle.ixp_tables.specs.Tables.{find, if_there}
+use Rattle.ixp_num_tables.specs.Tables.{find, if_there}
 use Rattle.ixp_registry.specs.declared.members.Owner.{Owner}
 use Rattle.ixp_registry.specs.declared.refusal.Refusal.TheVariants.{KeyReused}
 use Rattle.ixp_registry.specs.declared.refusal.RowKey.{RowKey}
 use Rattle.ixp_registry.specs.declared.refusal.RowKey.TheVariants as key
-use Rattle.ixp_steps.specs.declared.state.State.{State}
-use Rattle.ixp_steps.specs.declared.subject.Subject.{Subject}
-use Rattle.ixp_steps.specs.declared.subject.Subject.TheVariants.{Number, Pair, Handle, Public}
-use Rattle.ixp_steps.specs.Kept.{kept_key, kept_of}
-use Rattle.ixp_steps.specs.Steps.{Verdict, Accepted, Repeated, Reused, Refused}
-use Rattle.ixp_steps.specs.Subjects.{public_word}
+use Rattle.ixp_machine_steps.specs.declared.state.State.{State}
+use Rattle.ixp_machine_steps.specs.declared.subject.Subject.{Subject}
+use Rattle.ixp_machine_steps.specs.declared.subject.Subject.TheVariants.{Number, Pair, Handle, Public}
+use Rattle.ixp_machine_steps.specs.Kept.{kept_key, kept_of}
+use Rattle.ixp_machine_steps.specs.Steps.{Verdict, Accepted, Repeated, Reused, Refused}
+use Rattle.ixp_machine_steps.specs.Subjects.{public_word}
 use Rattle.ixp_machine.specs.declared.decision.Decision.{Decision}
 use Rattle.ixp_machine.specs.declared.decision.Decision.TheVariants as decision
 

@@ -1,9 +1,9 @@
 -- What is kept of an owner's requests, while an edit is made. Nobody needs to believe this: it serves proofs.
 use Rattle.std.specs.Prelude.{length, nat_le, if◌then◌else◌}
-use Rattle.ixp_tables.specs.Tables.{put}
-use Rattle.ixp_steps.specs.declared.kept.KeptNumber.{KeptNumber}
-use Rattle.ixp_steps.specs.declared.kept.KeptOwner.{KeptOwner}
-use Rattle.ixp_steps.specs.Kept.{kept_key, without_least}
+use Rattle.ixp_num_tables.specs.Tables.{put}
+use Rattle.ixp_machine_steps.specs.declared.kept.KeptNumber.{KeptNumber}
+use Rattle.ixp_machine_steps.specs.declared.kept.KeptOwner.{KeptOwner}
+use Rattle.ixp_machine_steps.specs.Kept.{kept_key, without_least}
 
 -- with one number more, which may be one too many
 abbrev pub with_number : KeptNumber → KeptOwner → KeptOwner

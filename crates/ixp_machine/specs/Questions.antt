@@ -1,6 +1,6 @@
 -- What a question is answered.
 use Rattle.std.specs.Prelude.{◌≡◌, ℕ, List, [], ◌∷◌, ◌==◌, Option, Some, None, filter, if◌then◌else◌}
-use Rattle.ixp_tables.specs.Tables.{find, if_there}
+use Rattle.ixp_num_tables.specs.Tables.{find, if_there}
 use Rattle.ixp_registry.specs.declared.kind.Kind.TheVariants.{Members, Vlans}
 use Rattle.ixp_registry.specs.declared.members.Member.{Member}
 use Rattle.ixp_registry.specs.declared.refusal.Refusal.{Refusal}
@@ -13,8 +13,8 @@ use Rattle.ixp_registry.specs.Keys.{member_key, vlan_key, rules_key}
 use Rattle.ixp_ixf.specs.Views.{ixf_text_of}
 use Rattle.ixp_members.specs.Owners.{owner_of}
 use Rattle.ixp_plan.specs.Uses.{IsReport}
-use Rattle.ixp_edits.specs.Tests.{unless_there}
-use Rattle.ixp_steps.specs.Rights.{has_right}
+use Rattle.ixp_machine_edits.specs.Tests.{unless_there}
+use Rattle.ixp_machine_steps.specs.Rights.{has_right}
 use Rattle.ixp_machine.specs.declared.question.Answer.{Answer}
 use Rattle.ixp_machine.specs.declared.question.Answer.TheVariants as answer
 use Rattle.ixp_machine.specs.declared.question.AskFault.{AskFault}

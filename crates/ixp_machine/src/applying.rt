@@ -1,12 +1,12 @@
 //! Accepted requests are made.
 ghost use Rattle.std.specs.Prelude.{◌≡◌, ◌<◌, ◌-◌, ◌^◌, IfOk, OnOk, OnErr};
-ghost use Rattle.ixp_steps.specs.States.{ValidState};
-ghost use Rattle.ixp_steps.specs.Steps.{Accepted, verdict, step};
+ghost use Rattle.ixp_machine_steps.specs.States.{ValidState};
+ghost use Rattle.ixp_machine_steps.specs.Steps.{Accepted, verdict, step};
 
 use crate::decision::Reply;
 use crate::preparing::{carry_out, prepare};
 use ixp_io::{Change, KeepFault, Keeper, Row, RowName};
-use ixp_steps::{Entry, State};
+use ixp_machine_steps::{Entry, State};
 use std::alloc::{AllocError, Global};
 
 /// Stores nothing, and never fails.

@@ -1,11 +1,11 @@
 //! What a question is answered.
 ghost use Rattle.std.specs.Prelude.{◌≡◌, ◌==◌, [], ◌∷◌, None, true, IfOk, IfErr, IsOk, filter};
 ghost use Rattle.std.specs.Option.{is_some};
-ghost use Rattle.ixp_tables.specs.Tables.{find, if_there};
+ghost use Rattle.ixp_num_tables.specs.Tables.{find, if_there};
 ghost use Rattle.ixp_registry.specs.Keys.{rules_key, member_key, vlan_key};
 ghost use Rattle.ixp_registry.specs.declared.kind.Kind.TheVariants as kind;
 ghost use Rattle.ixp_registry.specs.declared.refusal.RowKey.TheVariants as key;
-ghost use Rattle.ixp_edits.specs.Tests.{unless_there};
+ghost use Rattle.ixp_machine_edits.specs.Tests.{unless_there};
 ghost use Rattle.ixp_machine.specs.Questions.{right_asked, unless_known, refusal_without, ask_refusal, IsAnswer, IsFault};
 
 use crate::question::{Answer, AskFault, Query};
@@ -13,10 +13,11 @@ use crate::rights::has_right;
 use ixp_ixf::ixf_text;
 use ixp_members::rights;
 use ixp_num::{Family, Items};
-use ixp_places::{has_member, has_vlan};
+use ixp_num_tables::{Copied, Table};
 use ixp_plan::use_report;
-use ixp_registry::{Contact, Kind, MemberRule, Refusal, Registry, Right, RowKey, RuleList};
-use ixp_tables::{Copied, Table};
+use ixp_registry::{
+    Contact, Kind, MemberRule, Refusal, Registry, Right, RowKey, RuleList, has_member, has_vlan,
+};
 use std::alloc::{AllocError, Global};
 
 fn right_asked(query: Query) -> Option<Right>

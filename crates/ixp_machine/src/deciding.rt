@@ -1,7 +1,7 @@
 //! What is decided of a request.
 ghost use Rattle.std.specs.Prelude.{◌≡◌, IfOk};
-ghost use Rattle.ixp_steps.specs.States.{ValidState};
-ghost use Rattle.ixp_steps.specs.Steps.{kept_says, verdict, verdict_of};
+ghost use Rattle.ixp_machine_steps.specs.States.{ValidState};
+ghost use Rattle.ixp_machine_steps.specs.Steps.{kept_says, verdict, verdict_of};
 ghost use Rattle.ixp_machine.specs.Decisions.{Says};
 
 use crate::decision::{Decision, Reply};
@@ -9,10 +9,10 @@ use crate::kept::{floor_of, kept_number};
 use crate::kinds::{kind_of, same_kind};
 use crate::rights::{has_right, right_of};
 use crate::subjects::{is_about, key_of};
+use ixp_machine_refusals::refusal;
+use ixp_machine_steps::{Entry, KeptNumber, State};
 use ixp_members::rights;
-use ixp_refusals::refusal;
 use ixp_registry::{Owner, Refusal};
-use ixp_steps::{Entry, KeptNumber, State};
 use std::alloc::{AllocError, Global};
 
 /// Of a request whose number is kept.

@@ -1,17 +1,17 @@
 //! Numbers of requests are kept, and their edits made.
 ghost use Rattle.std.specs.Prelude.{◌≡◌, ◌≤◌, ◌<◌, ◌^◌, [], ◌∷◌, length, None, Ok, OnOk, OnErr, IfSome, IfNone};
-ghost use Rattle.ixp_effects.specs.Changes.{with_change};
-ghost use Rattle.ixp_effects.specs.Saving.{Saves};
+ghost use Rattle.ixp_machine_effects.specs.Changes.{with_change};
+ghost use Rattle.ixp_machine_effects.specs.Saving.{Saves};
 ghost use Rattle.ixp_machine.specs.Keeping.{trimmed};
 ghost use Rattle.ixp_registry.specs.Words.{owner_numbers};
-ghost use Rattle.ixp_steps.specs.Kept.{kept_key, kept_of, kept_owner_key, noted, noted_for};
-ghost use Rattle.ixp_tables.specs.Tables.{Ascends, find, place};
+ghost use Rattle.ixp_machine_steps.specs.Kept.{kept_key, kept_of, kept_owner_key, noted, noted_for};
+ghost use Rattle.ixp_num_tables.specs.Tables.{Ascends, find, place};
 
-use ixp_effects::{RegistryChange, make};
 use ixp_io::{Change, KeepFault, Keeper};
+use ixp_machine_effects::{RegistryChange, make};
+use ixp_machine_steps::{KeptNumber, KeptOwner};
+use ixp_num_tables::{Row, Table};
 use ixp_registry::{Owner, Registry};
-use ixp_steps::{KeptNumber, KeptOwner};
-use ixp_tables::{Row, Table};
 use std::alloc::Global;
 use std::cmp::Ordering;
 use std::mem;

@@ -1,12 +1,12 @@
 //! What is kept of requests.
 ghost use Rattle.std.specs.Prelude.{◌≡◌, [], ◌∷◌, option_map};
-ghost use Rattle.ixp_tables.specs.Tables.{find};
-ghost use Rattle.ixp_steps.specs.Kept.{kept_key, kept_of};
+ghost use Rattle.ixp_num_tables.specs.Tables.{find};
+ghost use Rattle.ixp_machine_steps.specs.Kept.{kept_key, kept_of};
 ghost use Rattle.ixp_machine.specs.Decisions.{place_of};
 
+use ixp_machine_steps::{KeptNumber, KeptOwner, State};
+use ixp_num_tables::Table;
 use ixp_registry::Owner;
-use ixp_steps::{KeptNumber, KeptOwner, State};
-use ixp_tables::Table;
 
 /// What is kept of the owner's request with the number.
 pub(crate) fn kept_number<'a>(

@@ -1,8 +1,8 @@
 //! The kinds of edits.
 ghost use Rattle.std.specs.Prelude.{◌≡◌};
-ghost use Rattle.ixp_steps.specs.Subjects.{kind_of, kind_place, same_kind};
+ghost use Rattle.ixp_machine_steps.specs.Subjects.{kind_of, kind_place, same_kind};
 
-use ixp_edits::Edit;
+use ixp_machine_edits::Edit;
 use ixp_registry::EditKind;
 
 pub(crate) fn kind_of(edit: &Edit) -> EditKind

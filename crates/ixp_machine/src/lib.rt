@@ -1,9 +1,10 @@
 //! The machine of edits: what is decided of a request, the state after one that is accepted, after how many accepted ones
 //! one stands, and what questions are answered.
 //!
-//! `specs/Steps.antt` of ixp_steps says what is decided of a request and which state comes after it, `specs/Questions.antt` here
-//! what a question is answered. [`apply`] changes a state in place. Where requests are stored, [`prepare`] and [`carry_out`] do so, with
-//! the store's batch between them: it is stored and the state changed, or neither.
+//! `specs/Steps.antt` of `ixp_machine_steps` says what is decided of a request and which state comes after it,
+//! `specs/Questions.antt` here what a question is answered. [`apply`] changes a state in place. Where requests are stored,
+//! [`prepare`] and [`carry_out`] do so, with the store's batch between them: it is stored and the state changed, or neither.
+//! [`request`] decides requests to a valid state one after the other, makes each that is accepted, and leaves a valid state.
 #![tactic(auto)]
 
 mod applying;
@@ -13,17 +14,22 @@ mod decision;
 mod keeping;
 mod kept;
 mod kinds;
+mod lawful;
 mod laws;
 mod preparing;
 mod question;
 mod rights;
 mod subjects;
+mod turn;
+mod widths;
 
 pub use applying::apply;
 pub use asking::ask;
 pub use deciding::decide;
 pub use decision::{Decision, Reply};
 pub use kept::place_of;
+pub use lawful::read_edit;
 pub use laws::members_ask_of_their_own;
 pub use preparing::{Prepared, carry_out, prepare};
 pub use question::{Answer, AskFault, Query};
+pub use turn::request;

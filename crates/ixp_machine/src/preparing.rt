@@ -1,21 +1,21 @@
 //! Requests that are accepted, ready to be made.
 ghost use Rattle.std.specs.Prelude.{◌≡◌, ◌≤◌, ◌<◌, ◌-◌, ◌^◌, IfOk, OnOk, OnErr, true};
-ghost use Rattle.ixp_effects.specs.Names.{has_name};
-ghost use Rattle.ixp_effects.specs.Saving.{Saves};
+ghost use Rattle.ixp_machine_effects.specs.Names.{has_name};
+ghost use Rattle.ixp_machine_effects.specs.Saving.{Saves};
 ghost use Rattle.ixp_machine.specs.Prepared as spec;
-ghost use Rattle.ixp_steps.specs.States.{ValidState};
-ghost use Rattle.ixp_steps.specs.Steps.{Accepted, verdict, kept_entry, step};
+ghost use Rattle.ixp_machine_steps.specs.States.{ValidState};
+ghost use Rattle.ixp_machine_steps.specs.Steps.{Accepted, verdict, kept_entry, step};
 
 use crate::decision::Reply;
 use crate::keeping::carry;
 use crate::kinds::kind_of;
 use crate::subjects::subject_of;
-use ixp_counts::{prefixes_after, weight_after};
-use ixp_effects::{RegistryChange, change_of};
 use ixp_io::{Change, KeepFault, Keeper};
+use ixp_machine_effects::{RegistryChange, change_of};
+use ixp_machine_refusals::{prefixes_after, weight_after};
+use ixp_machine_steps::{Entry, KeptNumber, State};
 use ixp_members::rights;
 use ixp_registry::Owner;
-use ixp_steps::{Entry, KeptNumber, State};
 use std::alloc::{AllocError, Global};
 
 /// What becomes of the state by a request that is accepted.

@@ -1,8 +1,8 @@
 //! Who may ask for which edit.
 ghost use Rattle.std.specs.Prelude.{◌≡◌};
-ghost use Rattle.ixp_steps.specs.Rights.{own_member, right_of, has_right};
+ghost use Rattle.ixp_machine_steps.specs.Rights.{own_member, right_of, has_right};
 
-use ixp_edits::Edit;
+use ixp_machine_edits::Edit;
 use ixp_registry::{Owner, Right};
 
 fn own_member(edit: &Edit) -> Option<u32>

@@ -1,15 +1,15 @@
 //! What edits are about.
 ghost use Rattle.std.specs.Prelude.{◌≡◌, true, IfOk};
-ghost use Rattle.ixp_effects.specs.Names.{has_name};
+ghost use Rattle.ixp_machine_effects.specs.Names.{has_name};
 ghost use Rattle.ixp_num.specs.AddressForms.{version_of};
-ghost use Rattle.ixp_steps.specs.declared.subject.Subject.TheVariants as form;
-ghost use Rattle.ixp_steps.specs.Subjects.{subject_of, same_subject, public_place, public_kind};
+ghost use Rattle.ixp_machine_steps.specs.declared.subject.Subject.TheVariants as form;
+ghost use Rattle.ixp_machine_steps.specs.Subjects.{subject_of, same_subject, public_place, public_kind};
 ghost use Rattle.ixp_machine.specs.Decisions.{Names};
 
-use ixp_edits::{Edit, PublicList};
+use ixp_machine_edits::{Edit, PublicList};
+use ixp_machine_steps::{PublicKind, Subject};
 use ixp_num::{Family, Name};
 use ixp_registry::{Handle, RowKey};
-use ixp_steps::{PublicKind, Subject};
 use std::alloc::{AllocError, Global};
 
 fn version_of(family: Family) -> u32

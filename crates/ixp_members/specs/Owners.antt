@@ -2,7 +2,7 @@
 use Rattle.std.specs.Prelude.{ℕ, List, Option, option_map, find}
 use Rattle.ixp_registry.specs.declared.members.Owner.{Owner}
 use Rattle.ixp_registry.specs.declared.registry.Registry.{Registry}
-use Rattle.ixp_tables.specs.Tables.{same}
+use Rattle.ixp_num_tables.specs.Tables.{same}
 
 -- the owner of the API key that has the secret, the first one by number; a valid registry has no other
 abbrev pub owner_of : Registry → List ℕ → Option Owner

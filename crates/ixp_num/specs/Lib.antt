@@ -1,5 +1,6 @@
 pub mod AddressForms
 pub mod Answers
+pub mod Causes
 pub mod Families
 pub mod Forms
 pub mod Names

@@ -3,7 +3,7 @@ ghost use Rattle.std.specs.Prelude.{◌≡◌, ◌↔◌, ◌+◌, ◌≤◌, �
 ghost use Rattle.std.specs.List.{list_all};
 ghost use Rattle.ixp_num.specs.Names.{is_name, is_name_byte};
 
-use ixp_lists::Items;
+use ixp_num_tables::Items;
 use std::alloc::{AllocError, Global};
 use std::marker::Model;
 

@@ -15,7 +15,7 @@ use Rattle.ixp_num.specs.declared.family.Family.{Family}
 use Rattle.ixp_num.specs.declared.family.Family.TheVariants.{V4, V6}
 use Rattle.ixp_num.specs.declared.pattern.Pattern.{Pattern}
 use Rattle.ixp_num.specs.declared.prefix.Prefix.{Prefix}
-use Rattle.ixp_sorted.specs.Keys.{pattern_key}
+use Rattle.ixp_num_sorted.specs.Keys.{pattern_key}
 use Rattle.ixp_pfxset.specs.BlockList.{pattern_order, put_in, in_order}
 use Rattle.ixp_pfxset.proofs.Covering.{one_prefix}
 use Rattle.ixp_pfxset.proofs.Members.{first_in, later_in, in_cases, none_in}

@@ -4,9 +4,9 @@ use Rattle.std.specs.List.{Contains}
 use Rattle.std.specs.List.Sorted.{IsStrictlySortedBy}
 use Rattle.ixp_num.specs.declared.pattern.Pattern.{Pattern}
 use Rattle.ixp_num.specs.declared.prefix.Prefix.{Prefix}
-use Rattle.ixp_tables.specs.Tables.{Ascends}
-use Rattle.ixp_sorted.specs.Keys.{pattern_key}
-use Rattle.ixp_sorted.specs.Sorted.{IsInOrder}
+use Rattle.ixp_num_tables.specs.Tables.{Ascends}
+use Rattle.ixp_num_sorted.specs.Keys.{pattern_key}
+use Rattle.ixp_num_sorted.specs.Sorted.{IsInOrder}
 use Rattle.ixp_pfxset.specs.Blocks.{IsBlock}
 use Rattle.ixp_pfxset.specs.BlockList.{pattern_order, blocks}
 use Rattle.ixp_pfxset.specs.declared.mode.Mode.{Mode}

@@ -18,9 +18,9 @@ use Rattle.ixp_num.specs.declared.family.Family.TheVariants.{V4, V6}
 use Rattle.ixp_num.specs.declared.prefix.Prefix.{Prefix}
 use Rattle.ixp_num.proofs.FirstBits.{inside}
 use Rattle.ixp_num.specs.contracts.prefix_order.PrefixOrd.TheImpl as prefix_ord
-use Rattle.ixp_sorted.specs.Keys.{prefix_key}
-use Rattle.ixp_sorted.specs.Told.{prefix_ordered}
-use Rattle.ixp_tables.specs.Tables.{order}
+use Rattle.ixp_num_sorted.specs.Keys.{prefix_key}
+use Rattle.ixp_num_sorted.specs.Told.{prefix_ordered}
+use Rattle.ixp_num_tables.specs.Tables.{order}
 use Rattle.ixp_pfxset.specs.Plain.{is_under, is_within}
 use Rattle.ixp_pfxset.proofs.Covering.{covers_says, covers_from, covers_chain, covers_equal}
 use Rattle.ixp_pfxset.proofs.Parting.{covered_value}

@@ -10,8 +10,8 @@ use Rattle.ixp_num.specs.Prefixes.{first_bits}
 use Rattle.ixp_num.specs.declared.family.Family.{Family}
 use Rattle.ixp_num.specs.declared.pattern.Pattern.{Pattern}
 use Rattle.ixp_num.specs.declared.prefix.Prefix.{Prefix}
-use Rattle.ixp_tables.specs.Tables.{order}
-use Rattle.ixp_sorted.specs.Keys.{pattern_key}
+use Rattle.ixp_num_tables.specs.Tables.{order}
+use Rattle.ixp_num_sorted.specs.Keys.{pattern_key}
 use Rattle.ixp_pfxset.specs.Blocks.{is_allowed, upper_bound}
 use Rattle.ixp_pfxset.specs.declared.mode.Mode.{Mode}
 use Rattle.ixp_pfxset.specs.declared.mode.Mode.TheVariants.{Exact, More}

@@ -2,11 +2,11 @@
 ghost use Rattle.std.specs.Prelude.{◌≡◌, Bool, List};
 ghost use Rattle.std.specs.List.{filter, list_any};
 ghost use Rattle.std.specs.List.Sorted.{IsSorted};
-ghost use Rattle.ixp_sorted.specs.Keys.{pattern_key};
-ghost use Rattle.ixp_sorted.specs.Sorted.{IsInOrder};
+ghost use Rattle.ixp_num_sorted.specs.Keys.{pattern_key};
+ghost use Rattle.ixp_num_sorted.specs.Sorted.{IsInOrder};
 
 use ixp_num::Pattern;
-use ixp_sorted::Sorted;
+use ixp_num_sorted::Sorted;
 
 /// The patterns in order, each once.
 pub(crate) fn in_order(patterns: Vec<Pattern>) -> Vec<Pattern>

@@ -17,11 +17,11 @@ use Rattle.ixp_registry.specs.Keys.{interface_key}
 use Rattle.ixp_registry.specs.Lookups.{has_addr}
 use Rattle.ixp_num.specs.Prefixes.{same_addr}
 use Rattle.ixp_registry.specs.Places.{times}
-use Rattle.ixp_tables.specs.Tables.{same}
+use Rattle.ixp_num_tables.specs.Tables.{same}
 use Rattle.ixp_registry.specs.Registries.{bare, address_rows, addresses_of}
 use Rattle.ixp_registry.specs.Words.{addr_numbers}
 use Rattle.ixp_registry.specs.Valid.{IsIn}
-use Rattle.ixp_tables.proofs.Counts.{same_is}
+use Rattle.ixp_num_tables.proofs.Counts.{same_is}
 use Rattle.ixp_plan.specs.Setting.{addressed}
 use Rattle.ixp_plan.proofs.Takings.{by_interfaces}
 use Rattle.ixp_plan.proofs.Times.{times_both, never}

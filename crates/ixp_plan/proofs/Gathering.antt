@@ -11,9 +11,9 @@ use Rattle.ixp_num.specs.declared.prefix.Prefix.{Prefix}
 use Rattle.ixp_num.specs.AddressForms.{version_of}
 use Rattle.ixp_num.specs.Families.{same_family}
 use Rattle.ixp_num.specs.Prefixes.{contains, first_bits, same_addr}
-use Rattle.ixp_tables.specs.Tables.{order, put}
-use Rattle.ixp_tables.proofs.Orders.{order_same, head_same, tail_same}
-use Rattle.ixp_tables.proofs.TableLaws.{find-put-same-key, find-put-other}
+use Rattle.ixp_num_tables.specs.Tables.{order, put}
+use Rattle.ixp_num_tables.proofs.Orders.{order_same, head_same, tail_same}
+use Rattle.ixp_num_tables.proofs.TableLaws.{find-put-same-key, find-put-other}
 use Rattle.ixp_registry.specs.Words.{addr_numbers}
 use Rattle.ixp_plan.specs.declared.uses.UsedAddr.{UsedAddr}
 use Rattle.ixp_plan.specs.Uses.{used_key, is_in}

@@ -9,9 +9,9 @@ use Rattle.ixp_num.specs.declared.family.Family.{Family}
 use Rattle.ixp_num.specs.declared.family.Family.TheVariants.{V4, V6}
 use Rattle.ixp_num.specs.declared.addr.Addr.{Addr}
 use Rattle.ixp_num.specs.Families.{same_family}
-use Rattle.ixp_tables.specs.Tables.{order, Ascends, find, put, if_there}
-use Rattle.ixp_tables.proofs.Orders.{head_same, all_weaker}
-use Rattle.ixp_tables.proofs.TableLaws.{find-key}
+use Rattle.ixp_num_tables.specs.Tables.{order, Ascends, find, put, if_there}
+use Rattle.ixp_num_tables.proofs.Orders.{head_same, all_weaker}
+use Rattle.ixp_num_tables.proofs.TableLaws.{find-key}
 use Rattle.ixp_registry.specs.declared.kind.Kind.TheVariants.{Interfaces}
 use Rattle.ixp_registry.specs.declared.network.IfAddr.{IfAddr}
 use Rattle.ixp_registry.specs.declared.network.Interface.{Interface}
@@ -31,9 +31,9 @@ use Rattle.ixp_registry.specs.Registries.{bare, addresses_of, rows_of}
 use Rattle.ixp_registry.specs.Rules.{is_assigned, may_be_blackhole, blackholes_meet, rules, rule_6, rule_7, rule_15, addresses_are_hosts, routers_are_hosts, secrets_differ, addresses_differ, blackholes_lie_apart, routers_have_blackholes}
 use Rattle.ixp_registry.specs.Words.{addr_numbers}
 use Rattle.ixp_registry.specs.Valid.{IsIn, Valid, ValidInterface}
-use Rattle.ixp_validity.proofs.Bare.{find_bare}
-use Rattle.ixp_validity.proofs.Sentences.{unbroken}
-use Rattle.ixp_validity.proofs.ToRules.{all_kept}
+use Rattle.ixp_registry_laws.proofs.Bare.{find_bare}
+use Rattle.ixp_registry_laws.proofs.Sentences.{unbroken}
+use Rattle.ixp_registry_laws.proofs.ToRules.{all_kept}
 use Rattle.ixp_plan.specs.Holders.{answers_at, uses}
 use Rattle.ixp_plan.specs.Checks.{other_interface, router_with, unless_taken, fits_family, checked, address_check}
 use Rattle.ixp_plan.specs.Setting.{addressed, with_address, KeepsAddressRules}

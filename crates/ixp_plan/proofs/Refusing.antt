@@ -11,9 +11,9 @@ use Rattle.ixp_num.specs.declared.family.Family.TheVariants.{V4, V6}
 use Rattle.ixp_num.specs.declared.addr.Addr.{Addr}
 use Rattle.ixp_num.specs.declared.prefix.Prefix.{Prefix}
 use Rattle.ixp_num.specs.Families.{same_family}
-use Rattle.ixp_tables.specs.Tables.{order, Ascends, find, put, if_there, same}
-use Rattle.ixp_tables.proofs.Orders.{head_same}
-use Rattle.ixp_tables.proofs.TableLaws.{find-key}
+use Rattle.ixp_num_tables.specs.Tables.{order, Ascends, find, put, if_there, same}
+use Rattle.ixp_num_tables.proofs.Orders.{head_same}
+use Rattle.ixp_num_tables.proofs.TableLaws.{find-key}
 use Rattle.ixp_registry.specs.declared.kind.Kind.TheVariants.{Interfaces}
 use Rattle.ixp_registry.specs.declared.network.IfAddr.{IfAddr}
 use Rattle.ixp_registry.specs.declared.network.Interface.{Interface}
@@ -30,8 +30,8 @@ use Rattle.ixp_registry.specs.Places.{times}
 use Rattle.ixp_registry.specs.Registries.{bare, address_rows, addresses_of, rows_of}
 use Rattle.ixp_registry.specs.Rules.{is_assigned, may_be_blackhole, rule_6, rule_7, rule_15, addresses_are_hosts, routers_are_hosts, secrets_differ, addresses_differ, blackholes_lie_apart, routers_have_blackholes}
 use Rattle.ixp_registry.specs.Words.{addr_numbers}
-use Rattle.ixp_validity.proofs.Bare.{find_bare}
-use Rattle.ixp_tables.proofs.Counts.{same_itself}
+use Rattle.ixp_registry_laws.proofs.Bare.{find_bare}
+use Rattle.ixp_num_tables.proofs.Counts.{same_itself}
 use Rattle.ixp_registry.specs.Valid.{Valid}
 use Rattle.ixp_plan.specs.Holders.{answers_at, uses}
 use Rattle.ixp_plan.specs.Free.{IsFree}

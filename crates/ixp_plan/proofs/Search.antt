@@ -7,7 +7,7 @@ use Rattle.ixp_num.specs.declared.addr.Addr.{Addr}
 use Rattle.ixp_num.specs.declared.prefix.Prefix.{Prefix}
 use Rattle.ixp_num.specs.Families.{bits_of}
 use Rattle.ixp_num.specs.Prefixes.{contains}
-use Rattle.ixp_tables.specs.Tables.{find, if_there}
+use Rattle.ixp_num_tables.specs.Tables.{find, if_there}
 use Rattle.ixp_registry.specs.declared.network.Vlan.{Vlan}
 use Rattle.ixp_registry.specs.declared.registry.Registry.{Registry}
 use Rattle.ixp_registry.specs.Keys.{vlan_key}

@@ -6,9 +6,9 @@ use Rattle.std.specs.declared.cmp.Ordering.TheVariants.{Less, Equal, Greater}
 use Rattle.std.specs.Ordering.{match_ordering}
 use Rattle.std.proofs.lemmas.Bool.{eqb-true, or_parts}
 use Rattle.ixp_num.specs.declared.addr.Addr.{Addr}
-use Rattle.ixp_tables.specs.Tables.{order, Ascends, find, put}
-use Rattle.ixp_tables.proofs.Orders.{order_same, as_equal_right}
-use Rattle.ixp_tables.proofs.Places.{above_equal, above_greater, find_above}
+use Rattle.ixp_num_tables.specs.Tables.{order, Ascends, find, put}
+use Rattle.ixp_num_tables.proofs.Orders.{order_same, as_equal_right}
+use Rattle.ixp_num_tables.proofs.Places.{above_equal, above_greater, find_above}
 use Rattle.ixp_registry.specs.declared.network.Interface.{Interface}
 use Rattle.ixp_registry.specs.Keys.{interface_key}
 use Rattle.ixp_registry.specs.Lookups.{has_addr}

@@ -10,9 +10,9 @@ use Rattle.ixp_num.specs.AddressForms.{version_of}
 use Rattle.ixp_num.specs.Families.{same_family}
 use Rattle.ixp_num.specs.Prefixes.{same_addr}
 use Rattle.ixp_registry.specs.Places.{times, first_beyond_from}
-use Rattle.ixp_tables.specs.Tables.{same}
+use Rattle.ixp_num_tables.specs.Tables.{same}
 use Rattle.ixp_registry.specs.Words.{addr_numbers}
-use Rattle.ixp_tables.proofs.Counts.{same_is, same_itself}
+use Rattle.ixp_num_tables.proofs.Counts.{same_is, same_itself}
 
 -- addresses are the same where their numbers are
 pub numbers_same : (a b : Addr) → same (addr_numbers a) (addr_numbers b) ≡ same_addr a b

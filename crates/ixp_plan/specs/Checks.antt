@@ -4,7 +4,7 @@ use Rattle.std.specs.Option.{is_some}
 use Rattle.ixp_num.specs.declared.family.Family.{Family}
 use Rattle.ixp_num.specs.declared.addr.Addr.{Addr}
 use Rattle.ixp_num.specs.Families.{same_family}
-use Rattle.ixp_tables.specs.Tables.{find as row_of, if_there}
+use Rattle.ixp_num_tables.specs.Tables.{find as row_of, if_there}
 use Rattle.ixp_registry.specs.declared.kind.Kind.TheVariants.{Interfaces, Routers}
 use Rattle.ixp_registry.specs.declared.network.Interface.{Interface}
 use Rattle.ixp_registry.specs.declared.router.Router.{Router}

@@ -2,7 +2,7 @@
 use Rattle.std.specs.Prelude.{◌≡◌, ℕ, [], ◌∷◌, Some, None}
 use Rattle.ixp_num.specs.declared.family.Family.{Family}
 use Rattle.ixp_num.specs.declared.family.Family.TheVariants.{V4, V6}
-use Rattle.ixp_tables.specs.Tables.{find, put, if_there}
+use Rattle.ixp_num_tables.specs.Tables.{find, put, if_there}
 use Rattle.ixp_registry.specs.declared.network.IfAddr.{IfAddr}
 use Rattle.ixp_registry.specs.declared.network.Interface.{Interface}
 use Rattle.ixp_registry.specs.declared.registry.Registry.{Registry}

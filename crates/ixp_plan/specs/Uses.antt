@@ -5,7 +5,7 @@ use Rattle.ixp_num.specs.declared.family.Family.{Family}
 use Rattle.ixp_num.specs.declared.addr.Addr.{Addr}
 use Rattle.ixp_num.specs.Prefixes.{contains}
 use Rattle.ixp_num.specs.Printing.{addr_text}
-use Rattle.ixp_tables.specs.Tables.{Ascends, find as row_of, if_there}
+use Rattle.ixp_num_tables.specs.Tables.{Ascends, find as row_of, if_there}
 use Rattle.ixp_registry.specs.declared.network.Interface.{Interface}
 use Rattle.ixp_registry.specs.declared.router.Router.{Router}
 use Rattle.ixp_registry.specs.declared.registry.Registry.{Registry}

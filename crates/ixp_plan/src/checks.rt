@@ -4,8 +4,9 @@ ghost use Rattle.ixp_plan.specs.Checks.{other_interface, router_with, unless_tak
 
 use crate::holders::uses;
 use ixp_num::{Addr, Family};
-use ixp_places::{has_addr, is_host_in, prefix_in};
-use ixp_registry::{Handle, Interface, Kind, Refusal, Registry, Router, RowKey};
+use ixp_registry::{
+    Handle, Interface, Kind, Refusal, Registry, Router, RowKey, has_addr, is_host_in, prefix_in,
+};
 
 fn other_interface<'a>(registry: &'a Registry, interface: u32, addr: &Addr) -> Option<&'a Interface>
     ensures { option_map (λ i. i.now) result ≡ other_interface registry.entry.now interface addr.now }

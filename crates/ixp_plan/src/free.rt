@@ -8,8 +8,7 @@ ghost use Rattle.ixp_plan.specs.Holders.{is_taken};
 
 use crate::holders::is_taken;
 use ixp_num::{Addr, Family, Prefix};
-use ixp_places::{is_host_in, prefix_in};
-use ixp_registry::Registry;
+use ixp_registry::{Registry, is_host_in, prefix_in};
 
 /// The first address of the prefix.
 fn first_in(prefix: &Prefix) -> Addr

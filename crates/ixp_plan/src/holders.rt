@@ -6,8 +6,7 @@ ghost use Rattle.ixp_registry.specs.Registries.{rows_of};
 ghost use Rattle.ixp_plan.specs.Holders.{answers_at, uses, is_taken};
 
 use ixp_num::{Addr, same_addr};
-use ixp_places::{has_addr, has_blackhole};
-use ixp_registry::{Interface, Registry, Router};
+use ixp_registry::{Interface, Registry, Router, has_addr, has_blackhole};
 
 /// Whether the address is the router's own.
 pub(crate) fn answers_at(router: &Router, addr: &Addr) -> bool

@@ -3,7 +3,7 @@ ghost use Rattle.std.specs.Prelude.{◌≡◌, ℕ, [], ◌∷◌, true, Some, O
 ghost use Rattle.std.specs.Option.{is_some};
 ghost use Rattle.ixp_num.specs.declared.family.Family.{Family};
 ghost use Rattle.ixp_num.specs.declared.addr.Addr.{Addr};
-ghost use Rattle.ixp_tables.specs.Tables.{find};
+ghost use Rattle.ixp_num_tables.specs.Tables.{find};
 ghost use Rattle.ixp_registry.specs.declared.network.IfAddr.{IfAddr};
 ghost use Rattle.ixp_registry.specs.declared.network.Interface.{Interface};
 ghost use Rattle.ixp_registry.specs.declared.registry.Registry.{Registry};

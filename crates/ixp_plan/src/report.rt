@@ -8,9 +8,8 @@ use crate::first_free;
 use crate::holders::answers_at;
 use crate::uses::{UsedAddr, used_addresses};
 use ixp_num::{Addr, Family, print_addr};
-use ixp_places::{has_addr, has_blackhole};
-use ixp_registry::{Interface, Registry, Router};
-use ixp_text::{put, put_number, put_whole};
+use ixp_num_tables::{put, put_number, put_whole};
+use ixp_registry::{Interface, Registry, Router, has_addr, has_blackhole};
 use std::alloc::{AllocError, Global};
 
 fn put_interface(interface: &Interface, out: &mut Vec<u8>) -> Result<(), AllocError>

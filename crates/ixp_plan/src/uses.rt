@@ -8,9 +8,8 @@ ghost use Rattle.ixp_plan.specs.Holders.{uses, is_taken};
 ghost use Rattle.ixp_plan.specs.Uses.{is_in, is_used};
 
 use ixp_num::{Addr, Family, Prefix};
-use ixp_places::prefix_in;
-use ixp_registry::{IfAddr, Interface, Registry, Router};
-use ixp_tables::{Row, Table};
+use ixp_num_tables::{Row, Table};
+use ixp_registry::{IfAddr, Interface, Registry, Router, prefix_in};
 use std::alloc::{AllocError, Global};
 use std::cmp::Ordering;
 

@@ -7,7 +7,7 @@ use Rattle.ixp_lang.specs.Steering.{sends, prepends}
 use Rattle.ixp_registry.specs.declared.rules.Action.{Action}
 use Rattle.ixp_registry.specs.declared.rules.Action.TheVariants.{AsIs, Prepend, Stop}
 use Rattle.ixp_registry.specs.declared.router.Router.{Router}
-use Rattle.ixp_tables.specs.Tables.{if_there}
+use Rattle.ixp_num_tables.specs.Tables.{if_there}
 use Rattle.ixp_registry.specs.Sessions.{Session, asked, receives}
 use Rattle.ixp_lang.specs.declared.communities.TheConstants.{KEEP_FROM, SEND_TO, PREPEND_ONCE, PREPEND_TWICE, PREPEND_THRICE, ORIGIN_STATE, FINDING, REFUSED}
 use Rattle.ixp_policy.specs.Blackholes.{is_blackhole}

@@ -1,6 +1,6 @@
 -- What becomes of a route that a session of a route server brings (RFC 7947).
 use Rattle.std.specs.Prelude.{ℕ, Bool, ◌==◌, not, List, [], ◌++◌, map, filter, codes, decimal, Option, Some, None, is_none, option_map, if◌then◌else◌}
-use Rattle.ixp_tables.specs.Tables.{find, if_there}
+use Rattle.ixp_num_tables.specs.Tables.{find, if_there}
 use Rattle.ixp_lang.specs.declared.route.Route.{Route}
 use Rattle.ixp_lang.specs.declared.fate.Fate.{Fate}
 use Rattle.ixp_registry.specs.declared.network.Interface.{Interface}

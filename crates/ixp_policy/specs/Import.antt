@@ -15,7 +15,7 @@ use Rattle.ixp_registry.specs.declared.network.IfAddr.{IfAddr}
 use Rattle.ixp_registry.specs.declared.network.Interface.{Interface}
 use Rattle.ixp_registry.specs.declared.registry.Registry.{Registry}
 use Rattle.ixp_registry.specs.declared.router.Router.{Router}
-use Rattle.ixp_tables.specs.Tables.{if_there}
+use Rattle.ixp_num_tables.specs.Tables.{if_there}
 use Rattle.ixp_registry.specs.Sessions.{Session, address_of, is_beside}
 use Rattle.ixp_policy.specs.declared.line.Line.{Line}
 use Rattle.ixp_policy.specs.declared.line.Reason.{Reason}

@@ -5,7 +5,7 @@ use Rattle.ixp_num.specs.declared.roa.Validity.TheVariants.{Valid, Unknown}
 use Rattle.ixp_lang.specs.declared.route.Route.{Route}
 use Rattle.ixp_registry.specs.declared.registry.Registry.{Registry}
 use Rattle.ixp_registry.specs.declared.router.Router.{Router}
-use Rattle.ixp_tables.specs.Tables.{if_there}
+use Rattle.ixp_num_tables.specs.Tables.{if_there}
 use Rattle.ixp_registry.specs.Sessions.{Session}
 use Rattle.ixp_policy.specs.declared.line.Line.{Line}
 use Rattle.ixp_policy.specs.Blackholes.{is_blackhole}

@@ -1,7 +1,7 @@
 //! What a receiver gets of a route.
 ghost use Rattle.std.specs.Prelude.{◌≡◌, ◌++◌, ◌==◌, IfOk, filter, not, replicate};
 ghost use Rattle.ixp_policy.specs.Export.{hop_of, is_for_server, is_of_server, lets_in, received, sent_route, server_actions, steered, times_of, wish};
-ghost use Rattle.ixp_tables.specs.Tables.{if_there};
+ghost use Rattle.ixp_num_tables.specs.Tables.{if_there};
 ghost use Rattle.ixp_registry.specs.Sessions.{asked};
 ghost use Rattle.std.specs.List.{list_any};
 ghost use Rattle.ixp_policy.specs.Views.{session_of};

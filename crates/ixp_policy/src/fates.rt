@@ -1,6 +1,6 @@
 //! The fate of a route.
 ghost use Rattle.std.specs.Prelude.{◌≡◌, ◌&&◌, IfOk, None, option_map};
-ghost use Rattle.ixp_tables.specs.Tables.{if_there};
+ghost use Rattle.ixp_num_tables.specs.Tables.{if_there};
 ghost use Rattle.ixp_registry.specs.Sessions.{is_session};
 ghost use Rattle.ixp_policy.specs.Export.{received, wish};
 ghost use Rattle.ixp_policy.specs.Fates.{ask, fate, fate_of, is_other, number, sent_at, sent_to_others};
@@ -9,11 +9,11 @@ ghost use Rattle.ixp_policy.specs.Views.{session_of};
 
 use crate::export::{received, wish};
 use crate::findings::tagged;
-use crate::session_rows::{SessionRows, is_session, session, session_at};
+use crate::session_rows::{SessionRows, session, session_at};
 use crate::table::{refusal, refusal_number};
 use ixp_lang::{Fate, Route, numbered};
 use ixp_num::{Asn, Items, Name};
-use ixp_registry::{Interface, Registry, Router};
+use ixp_registry::{Interface, Registry, Router, is_session};
 use std::alloc::{AllocError, Global};
 
 fn received_at(

@@ -17,4 +17,4 @@ mod table;
 
 pub use fates::{ask_plain, fate_plain, number_plain};
 pub use line::Reason;
-pub use session_rows::{SessionRows, address_of, session, session_at};
+pub use session_rows::{SessionRows, session, session_at};

@@ -7,11 +7,11 @@ ghost use Rattle.ixp_policy.specs.Import.{brought_triples, has_address, bogon_as
 ghost use Rattle.ixp_policy.specs.Views.{session_of};
 
 use crate::blackholes::is_blackhole;
-use crate::session_rows::{SessionRows, address_of};
+use crate::session_rows::SessionRows;
 use ixp_lang::Route;
 use ixp_lang::communities::{FINDING, ORIGIN_STATE, REFUSED};
 use ixp_num::{Addr, Asn, Pattern, Prefix, same_addr};
-use ixp_registry::{IfAddr, Interface, Registry, Router};
+use ixp_registry::{IfAddr, Interface, Registry, Router, address_of};
 
 /// The most numbers of a path.
 const LONGEST_PATH: usize = 64;

@@ -1,12 +1,13 @@
 //! The sessions of a router.
 ghost use Rattle.std.specs.Prelude.{◌≡◌, false, option_map};
-ghost use Rattle.ixp_tables.specs.Tables.{if_there};
+ghost use Rattle.ixp_num_tables.specs.Tables.{if_there};
 ghost use Rattle.ixp_registry.specs.Sessions.{address_of, is_session, origins_in, prefixes_in, rules_of, session, session_at};
 ghost use Rattle.ixp_policy.specs.Views.{session_of};
 
 use ixp_num::{Asn, Family, Prefix};
-use ixp_places::is_member_connected;
-use ixp_registry::{IfAddr, Interface, Member, MemberRule, Registry, Router};
+use ixp_registry::{
+    IfAddr, Interface, Member, MemberRule, Registry, Router, address_of, is_session,
+};
 
 /// The rows of a session.
 #[derive(Clone, Copy)]
@@ -17,34 +18,6 @@ pub struct SessionRows<'a> {
     pub prefixes: &'a [Prefix],
     pub origins: &'a [Asn],
     pub rules: &'a [MemberRule],
-}
-
-/// The interface's address of the family.
-pub fn address_of(family: Family, interface: &Interface) -> Option<&IfAddr>
-    ensures { option_map (λ a. a.now) result ≡ address_of family interface.entry.now }
-{
-    match family {
-        Family::V4 => interface.v4.as_ref(),
-        Family::V6 => interface.v6.as_ref(),
-    }
-}
-
-fn has_server(family: Family, interface: &Interface) -> bool
-    ensures { result ≡ if_there (address_of family interface.now) false (λ a. a.rs) }
-{
-    match address_of(family, interface) {
-        Some(address) => address.rs,
-        None => false,
-    }
-}
-
-/// Whether the interface has a session with the router.
-pub(crate) fn is_session(registry: &Registry, router: &Router, interface: &Interface) -> bool
-    ensures { result ≡ is_session registry.now router.now interface.now }
-{
-    interface.vlan == router.vlan
-        && has_server(router.family, interface)
-        && is_member_connected(&registry.members, interface.member)
 }
 
 fn prefixes_in(registry: &Registry, member: u32, family: Family) -> &[Prefix]

@@ -7,7 +7,7 @@ use Rattle.ixp_num.specs.declared.family.Family.TheVariants.{V4, V6}
 use Rattle.ixp_num.specs.declared.roa.Validity.{Validity}
 use Rattle.ixp_num.specs.declared.roa.Validity.TheVariants.{Valid, Invalid, Unknown}
 use Rattle.ixp_num.specs.Printing.{addr_text, prefix_text, pattern_text}
-use Rattle.ixp_text.specs.Joined.{joined}
+use Rattle.ixp_num_tables.specs.Joined.{joined}
 use Rattle.ixp_lang.specs.declared.value.Value.{Value}
 use Rattle.ixp_lang.specs.declared.value.Value.TheVariants as value
 use Rattle.ixp_lang.specs.declared.value.SetLit.{SetLit}

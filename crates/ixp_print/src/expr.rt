@@ -8,7 +8,7 @@ use crate::list::{AddrText, PairText, PatternText, RangeText, TripleText};
 use crate::word::{attr_word, bool_word, op_word, state_word};
 use ixp_lang::{Expr, SetLit, Value};
 use ixp_num::{Name, print_addr, print_prefix};
-use ixp_text::{Writes, put, put_joined, put_number};
+use ixp_num_tables::{Writes, put, put_joined, put_number};
 use std::alloc::AllocError;
 
 fn put_set_items(out: &mut Vec<u8>, set: &SetLit) -> Result<(), AllocError>

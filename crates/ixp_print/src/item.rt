@@ -4,7 +4,7 @@ ghost use Rattle.std.specs.Option.{option_map};
 ghost use Rattle.ixp_num.specs.Printing.{addr_text};
 ghost use Rattle.ixp_lang.specs.Trees.{stmts};
 ghost use Rattle.ixp_lang.specs.Views.{expr_view, stmts_view, item_view, config_view};
-ghost use Rattle.ixp_text.specs.Joined.{joined};
+ghost use Rattle.ixp_num_tables.specs.Joined.{joined};
 ghost use Rattle.ixp_print.specs.Texts.{line, body_text, param_text, head_line, nameless_head, use_text, pipe_text, channel_text, local_text, client_text, password_text, limit_text, bgp_channel_text, bgp_text, device_text, kind_text, stmts_text, expr_text, item_text, config_text};
 
 use crate::expr::put_expr;
@@ -13,7 +13,7 @@ use crate::stmt::{put_line, put_stmts};
 use crate::word::kind_word;
 use ixp_lang::{Bgp, Config, Expr, Item, Kind, Pipe, Stmt, Ty, Use};
 use ixp_num::{Addr, Family, Items, Name, print_addr};
-use ixp_text::{put, put_joined, put_number, put_whole};
+use ixp_num_tables::{put, put_joined, put_number, put_whole};
 use std::alloc::{AllocError, Global};
 
 /// Writes a line of a name between two texts.

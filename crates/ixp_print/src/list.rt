@@ -6,7 +6,7 @@ ghost use Rattle.ixp_print.specs.Texts.{range_text, part_text, pair_text, triple
 use crate::word::{state_word, ty_word};
 use ixp_lang::{Label, Ty};
 use ixp_num::{Addr, Name, Pattern, print_addr, print_pattern};
-use ixp_text::{Writes, put, put_number};
+use ixp_num_tables::{Writes, put, put_number};
 use std::alloc::AllocError;
 
 /// A range, `a..b` or `a`.

@@ -2,14 +2,14 @@
 ghost use Rattle.std.specs.Prelude.{◌≡◌, ◌++◌, [], ◌∷◌, List, codes, IfOk, OnOk};
 ghost use Rattle.ixp_lang.specs.Trees.{exprs, stmts, set_next_hop, prepend, add_pair, delete_pairs, add_triple, delete_triples};
 ghost use Rattle.ixp_lang.specs.Views.{expr_view, exprs_view, stmt_view, stmts_view, arms_view};
-ghost use Rattle.ixp_text.specs.Joined.{joined};
+ghost use Rattle.ixp_num_tables.specs.Joined.{joined};
 ghost use Rattle.ixp_print.specs.Texts.{line, deeper, else_line, no_stmts, label_text, expr_text, exprs_text, stmt_text, stmts_text, cases_text};
 
 use crate::expr::{put_args, put_expr};
 use crate::list::LabelText;
 use ixp_lang::{Expr, Label, Stmt};
 use ixp_num::{Items, Name};
-use ixp_text::{put, put_joined};
+use ixp_num_tables::{put, put_joined};
 use std::alloc::{AllocError, Global};
 
 /// Writes a line.

@@ -3,11 +3,11 @@ use Rattle.std.proofs.Common.{◌≡◌, ◌∙◌, ℕ, List, [], Result, Ok, E
 use Rattle.ixp_lang.specs.Trees.{ItemTree}
 use Rattle.ixp_lang.specs.declared.item.Config.{Config}
 use Rattle.ixp_lang.specs.Views.{config_view}
-use Rattle.ixp_tokens.specs.declared.fault.Cause.{Cause}
-use Rattle.ixp_tokens.specs.Grammars.{Took}
-use Rattle.ixp_tokens.specs.Tokens.{placed_kinds}
-use Rattle.ixp_tokens.specs.Reading.{Read, read}
-use Rattle.ixp_tokens.proofs.TokenLaws.{one_tokens}
+use Rattle.ixp_lang_tokens.specs.declared.fault.Cause.{Cause}
+use Rattle.ixp_lang_tokens.specs.Grammars.{Took}
+use Rattle.ixp_lang_tokens.specs.Tokens.{placed_kinds}
+use Rattle.ixp_lang_tokens.specs.Reading.{Read, read}
+use Rattle.ixp_lang_tokens.proofs.TokenLaws.{one_tokens}
 use Rattle.ixp_read.specs.declared.fault.ReadFault.{ReadFault}
 use Rattle.ixp_read.specs.declared.fault.ReadFault.TheVariants.{Byte, Number, Unexpected, UnknownName, NameTwice, MixedLogic, WrongType, TooDeep, OutOfProfile, NoMemory}
 use Rattle.ixp_read.specs.Items.{config_form}

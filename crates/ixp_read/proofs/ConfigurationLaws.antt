@@ -1,16 +1,16 @@
 -- What is a configuration is read, and in one way.
 use Rattle.std.proofs.Common.{◌≡◌, ℕ, zero, suc, inl, inr, false, List, [], ◌∷◌, Ok, sym, subst}
 use Rattle.ixp_lang.specs.Trees.{ItemTree}
-use Rattle.ixp_tokens.specs.declared.token.Kind.{Kind}
-use Rattle.ixp_tokens.specs.Grammars.{done, Rounds, Took}
-use Rattle.ixp_tokens.specs.Reading.{read}
-use Rattle.ixp_tokens.proofs.Parted.{Extends, Parted}
-use Rattle.ixp_tokens.proofs.Clear.{IsSeen}
-use Rattle.ixp_tokens.proofs.ClearLooks.{it_goes, clear_parted}
-use Rattle.ixp_tokens.proofs.Fines.{goes_no_end_by}
-use Rattle.ixp_tokens.proofs.Laws.{sound, complete, one_reading}
+use Rattle.ixp_lang_tokens.specs.declared.token.Kind.{Kind}
+use Rattle.ixp_lang_tokens.specs.Grammars.{done, Rounds, Took}
+use Rattle.ixp_lang_tokens.specs.Reading.{read}
+use Rattle.ixp_lang_tokens.proofs.Parted.{Extends, Parted}
+use Rattle.ixp_lang_tokens.proofs.Clear.{IsSeen}
+use Rattle.ixp_lang_tokens.proofs.ClearLooks.{it_goes, clear_parted}
+use Rattle.ixp_lang_tokens.proofs.Fines.{goes_no_end_by}
+use Rattle.ixp_lang_tokens.proofs.Laws.{sound, complete, one_reading}
 use Rattle.ixp_read.specs.Items.{Begun, is_more, config_round, config_form}
-use Rattle.ixp_exprs.proofs.Sure.{behind_else}
+use Rattle.ixp_lang_exprs.proofs.Sure.{behind_else}
 use Rattle.ixp_read.proofs.SureItems.{config_clear}
 
 config_parted : Parted config_form

@@ -2,22 +2,22 @@
 -- begins so.
 use Rattle.std.proofs.Common.{◌≡◌, ℕ, ◌+◌, ◌<◌, ◌⊎◌, inl, inr, Bool, false, List, [], length, Err, arith, refl, sym, ◌∙◌, subst}
 use Rattle.ixp_lang.specs.Trees.{ItemTree}
-use Rattle.ixp_tokens.specs.declared.fault.Cause.{Cause}
-use Rattle.ixp_tokens.specs.declared.fault.Cause.TheVariants.{Deep}
-use Rattle.ixp_tokens.specs.declared.token.Kind.{Kind}
-use Rattle.ixp_tokens.specs.Grammars.{Grammar, Took}
-use Rattle.ixp_tokens.specs.Reading.{read}
-use Rattle.ixp_tokens.specs.Syntax.{spot, Scan, scan, stopped, refused, IsFineText, StopsAt}
-use Rattle.ixp_tokens.proofs.Clear.{IsSeen, ClearBy}
-use Rattle.ixp_tokens.proofs.Seen.{first_alone}
-use Rattle.ixp_tokens.proofs.Scans.{Agrees, agrees}
-use Rattle.ixp_tokens.proofs.StopLaws.{no_more_behind, not_text}
-use Rattle.ixp_tokens.proofs.Quiet.{Steady, quiet_of}
-use Rattle.ixp_tokens.proofs.Lawful.{took_lawful, lawful_took, refused_at}
-use Rattle.ixp_tokens.proofs.Viable.{Supplied, Goes, goes, Viable, viable}
-use Rattle.ixp_exprs.specs.Names.{Names}
-use Rattle.ixp_exprs.specs.Declarations.{Declares}
-use Rattle.ixp_exprs.proofs.Sure.{behind_else}
+use Rattle.ixp_lang_tokens.specs.declared.fault.Cause.{Cause}
+use Rattle.ixp_lang_tokens.specs.declared.fault.Cause.TheVariants.{Deep}
+use Rattle.ixp_lang_tokens.specs.declared.token.Kind.{Kind}
+use Rattle.ixp_lang_tokens.specs.Grammars.{Grammar, Took}
+use Rattle.ixp_lang_tokens.specs.Reading.{read}
+use Rattle.ixp_lang_tokens.specs.Syntax.{spot, Scan, scan, stopped, refused, IsFineText, StopsAt}
+use Rattle.ixp_lang_tokens.proofs.Clear.{IsSeen, ClearBy}
+use Rattle.ixp_lang_tokens.proofs.Seen.{first_alone}
+use Rattle.ixp_lang_tokens.proofs.Scans.{Agrees, agrees}
+use Rattle.ixp_lang_tokens.proofs.StopLaws.{no_more_behind, not_text}
+use Rattle.ixp_lang_tokens.proofs.Quiet.{Steady, quiet_of}
+use Rattle.ixp_lang_tokens.proofs.Lawful.{took_lawful, lawful_took, refused_at}
+use Rattle.ixp_lang_tokens.proofs.Viable.{Supplied, Goes, goes, Viable, viable}
+use Rattle.ixp_lang_exprs.specs.Names.{Names}
+use Rattle.ixp_lang_exprs.specs.Declarations.{Declares}
+use Rattle.ixp_lang_exprs.proofs.Sure.{behind_else}
 use Rattle.ixp_read.specs.Functions.{levels_inside}
 use Rattle.ixp_read.specs.Items.{define_levels, Levels, all_levels, item_within, declaration_form, table_or, item_form, config_form}
 use Rattle.ixp_read.specs.Stops.{config_with, IsLawful, IsRefused, NoneGoesOn}

@@ -1,10 +1,10 @@
 -- The steps of the reader of a function's head.
 use Rattle.std.proofs.Common.{◌≡◌, ◌∙◌, ℕ, List, Ok, sym, ap}
-use Rattle.ixp_tokens.specs.declared.token.Kind.{Kind}
-use Rattle.ixp_tokens.specs.Reading.{Read, read, ◌>>=◌}
-use Rattle.ixp_exprs.specs.declared.env.Declared.TheVariants.{Begun}
-use Rattle.ixp_exprs.specs.Names.{Names}
-use Rattle.ixp_exprs.specs.Declarations.{standing, free_name}
+use Rattle.ixp_lang_tokens.specs.declared.token.Kind.{Kind}
+use Rattle.ixp_lang_tokens.specs.Reading.{Read, read, ◌>>=◌}
+use Rattle.ixp_lang_exprs.specs.declared.env.Declared.TheVariants.{Begun}
+use Rattle.ixp_lang_exprs.specs.Names.{Names}
+use Rattle.ixp_lang_exprs.specs.Declarations.{standing, free_name}
 use Rattle.ixp_read.specs.Functions.{Params, params_form, Head, head_with, head_form}
 
 abbrev pub headed : List ℕ → Params × List Kind → Read Head

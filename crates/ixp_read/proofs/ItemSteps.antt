@@ -1,14 +1,14 @@
 -- The steps of the reader of items: which alternative the first keyword decides for.
 use Rattle.std.proofs.Common.{◌≡◌, ◌∙◌, ℕ, List, length, Some, None, codes, sym, ap}
 use Rattle.ixp_lang.specs.declared.item.Kind.TheVariants.{Ipv4, Ipv6, Roa4, Roa6}
-use Rattle.ixp_tokens.specs.declared.token.Kind.{Kind}
-use Rattle.ixp_tokens.specs.Grammars.{Grammar, sequence, choice}
-use Rattle.ixp_tokens.specs.Reading.{read, ◌>>=◌}
-use Rattle.ixp_tokens.specs.Pieces.{the_word, is_word, behind}
-use Rattle.ixp_exprs.specs.Names.{Names}
-use Rattle.ixp_exprs.specs.Declarations.{Declares}
-use Rattle.ixp_protocols.specs.Protocols.{protocol_end}
-use Rattle.ixp_protocols.proofs.Words.{word_next, other_next}
+use Rattle.ixp_lang_tokens.specs.declared.token.Kind.{Kind}
+use Rattle.ixp_lang_tokens.specs.Grammars.{Grammar, sequence, choice}
+use Rattle.ixp_lang_tokens.specs.Reading.{read, ◌>>=◌}
+use Rattle.ixp_lang_tokens.specs.Pieces.{the_word, is_word, behind}
+use Rattle.ixp_lang_exprs.specs.Names.{Names}
+use Rattle.ixp_lang_exprs.specs.Declarations.{Declares}
+use Rattle.ixp_lang_protocols.specs.Protocols.{protocol_end}
+use Rattle.ixp_lang_protocols.proofs.Words.{word_next, other_next}
 use Rattle.ixp_read.specs.Functions.{function_form, filter_form}
 use Rattle.ixp_read.specs.Items.{router_id_end, table_end, define_end, declaration_form, table_or, item_form}
 

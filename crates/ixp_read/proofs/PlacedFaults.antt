@@ -1,10 +1,10 @@
 -- The token that stands at a place, by its kind.
 use Rattle.std.proofs.Common.{◌≡◌, ◌∙◌, ℕ, zero, suc, List, [], ◌∷◌, length, map, Option, Some, None, option_map, slice_get, Bor, refl, sym, ap}
 use Rattle.std.proofs.lemmas.List.{length-map}
-use Rattle.ixp_tokens.specs.declared.token.Kind.{Kind}
-use Rattle.ixp_tokens.specs.declared.token.Token.{Token}
-use Rattle.ixp_tokens.specs.Reading.{kinds}
-use Rattle.ixp_tokens.specs.Tokens.{Placed, placed_kinds}
+use Rattle.ixp_lang_tokens.specs.declared.token.Kind.{Kind}
+use Rattle.ixp_lang_tokens.specs.declared.token.Token.{Token}
+use Rattle.ixp_lang_tokens.specs.Reading.{kinds}
+use Rattle.ixp_lang_tokens.specs.Tokens.{Placed, placed_kinds}
 
 mapped_at : {X Y : Type 0} (f : X → Y) (xs : List X) (i : ℕ) → slice_get (map f xs) i ≡ option_map f (slice_get xs i)
 mapped_at f [] i = refl

@@ -6,16 +6,16 @@ use Rattle.ixp_lang.specs.Trees.{ItemTree}
 use Rattle.ixp_lang.specs.Views.{item_view}
 use Rattle.ixp_lang.specs.declared.item.Item.{Item}
 use Rattle.ixp_lang.specs.declared.item.Kind.TheVariants.{Ipv4, Ipv6, Roa4, Roa6}
-use Rattle.ixp_tokens.specs.declared.fault.Cause.{Cause}
-use Rattle.ixp_tokens.specs.declared.fault.Cause.TheVariants.{Unexpected}
-use Rattle.ixp_tokens.specs.declared.token.Kind.{Kind}
-use Rattle.ixp_tokens.specs.declared.token.Token.{Token}
-use Rattle.ixp_tokens.specs.Grammars.{Grammar, Step, onward, done, gives, sequence, choice, unless}
-use Rattle.ixp_tokens.specs.Reading.{Read, read, kinds, begins, taken, ◌>>=◌}
-use Rattle.ixp_tokens.specs.Pieces.{the_word, is_word, if_so}
-use Rattle.ixp_exprs.specs.Names.{Names}
-use Rattle.ixp_exprs.specs.Declarations.{Declares}
-use Rattle.ixp_protocols.specs.Protocols.{protocol_end}
+use Rattle.ixp_lang_tokens.specs.declared.fault.Cause.{Cause}
+use Rattle.ixp_lang_tokens.specs.declared.fault.Cause.TheVariants.{Unexpected}
+use Rattle.ixp_lang_tokens.specs.declared.token.Kind.{Kind}
+use Rattle.ixp_lang_tokens.specs.declared.token.Token.{Token}
+use Rattle.ixp_lang_tokens.specs.Grammars.{Grammar, Step, onward, done, gives, sequence, choice, unless}
+use Rattle.ixp_lang_tokens.specs.Reading.{Read, read, kinds, begins, taken, ◌>>=◌}
+use Rattle.ixp_lang_tokens.specs.Pieces.{the_word, is_word, if_so}
+use Rattle.ixp_lang_exprs.specs.Names.{Names}
+use Rattle.ixp_lang_exprs.specs.Declarations.{Declares}
+use Rattle.ixp_lang_protocols.specs.Protocols.{protocol_end}
 use Rattle.ixp_read.specs.Functions.{function_form, filter_form}
 use Rattle.ixp_read.specs.Items.{router_id_end, table_end, define_end, declaration_form, table_or, item_form, Begun, with_item, is_more, one_item, config_round}
 use Rattle.ixp_read.specs.Views.{begun_of}

@@ -3,24 +3,24 @@ use Rattle.std.proofs.Common.{ℕ, List, codes, length, None, refl}
 use Rattle.ixp_lang.specs.Trees.{ItemTree}
 use Rattle.ixp_lang.specs.declared.item.Kind.{Kind}
 use Rattle.ixp_lang.specs.declared.item.Kind.TheVariants.{Ipv4, Ipv6, Roa4, Roa6}
-use Rattle.ixp_tokens.specs.declared.fault.Cause.TheVariants.{Unexpected}
-use Rattle.ixp_tokens.specs.declared.token.Mark.TheVariants as mark
-use Rattle.ixp_tokens.specs.Grammars.{Grammar, gives, sequence, choice, unless, Step, onward, done}
-use Rattle.ixp_tokens.specs.Pieces.{the_mark, the_word}
-use Rattle.ixp_tokens.proofs.Clear.{IsSeen, IsOfFirst}
-use Rattle.ixp_tokens.proofs.Looks.{token_look}
-use Rattle.ixp_tokens.proofs.Seen.{first_alone}
-use Rattle.ixp_tokens.proofs.Alike.{BeginsAlike, sequence_alike, choice_alike, test_alike, checks_alike}
-use Rattle.ixp_tokens.proofs.Quiet.{Steady, steady, here_steady, rounds_steady}
-use Rattle.ixp_exprs.specs.Names.{Names}
-use Rattle.ixp_exprs.specs.Declarations.{Declares, free_name}
-use Rattle.ixp_exprs.specs.declared.context.Scope.TheVariants as scope
-use Rattle.ixp_exprs.proofs.Sure.{Sure, behind_else, clear_free_name}
-use Rattle.ixp_stmts.proofs.QuietStatements.{body_steady}
+use Rattle.ixp_lang_tokens.specs.declared.fault.Cause.TheVariants.{Unexpected}
+use Rattle.ixp_lang_tokens.specs.declared.token.Mark.TheVariants as mark
+use Rattle.ixp_lang_tokens.specs.Grammars.{Grammar, gives, sequence, choice, unless, Step, onward, done}
+use Rattle.ixp_lang_tokens.specs.Pieces.{the_mark, the_word}
+use Rattle.ixp_lang_tokens.proofs.Clear.{IsSeen, IsOfFirst}
+use Rattle.ixp_lang_tokens.proofs.Looks.{token_look}
+use Rattle.ixp_lang_tokens.proofs.Seen.{first_alone}
+use Rattle.ixp_lang_tokens.proofs.Alike.{BeginsAlike, sequence_alike, choice_alike, test_alike, checks_alike}
+use Rattle.ixp_lang_tokens.proofs.Quiet.{Steady, steady, here_steady, rounds_steady}
+use Rattle.ixp_lang_exprs.specs.Names.{Names}
+use Rattle.ixp_lang_exprs.specs.Declarations.{Declares, free_name}
+use Rattle.ixp_lang_exprs.specs.declared.context.Scope.TheVariants as scope
+use Rattle.ixp_lang_exprs.proofs.Sure.{Sure, behind_else, clear_free_name}
+use Rattle.ixp_lang_stmts.proofs.QuietStatements.{body_steady}
 use Rattle.ixp_read.specs.Functions.{written_form, as_written, frame_in, head_form, body_within, function_within, filter_within}
 use Rattle.ixp_read.specs.Items.{router_id_end, table_end, define_within, Levels, all_levels, declaration_form, table_or, declaration_within, table_before, item_within, item_form, Begun, with_item, is_more, item_then, round_of, config_of, config_form}
-use Rattle.ixp_protocols.specs.Protocols.{protocol_end}
-use Rattle.ixp_protocols.proofs.SureProtocols.{first_protocol_end}
+use Rattle.ixp_lang_protocols.specs.Protocols.{protocol_end}
+use Rattle.ixp_lang_protocols.proofs.SureProtocols.{first_protocol_end}
 use Rattle.ixp_read.proofs.SureFunctions.{first_written, first_head}
 use Rattle.ixp_read.proofs.SureItems.{item_starts, first_router_id, first_table, first_define, sure_item, clear_config}
 

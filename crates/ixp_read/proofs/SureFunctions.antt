@@ -1,22 +1,22 @@
 -- What is known of the grammar of functions and filters.
 use Rattle.std.proofs.Common.{◌≡◌, ℕ, true, false, List, [], ◌∷◌, codes, None, refl}
 use Rattle.std.specs.Option.{is_some}
-use Rattle.ixp_tokens.specs.declared.token.Kind.TheVariants as kind
-use Rattle.ixp_tokens.specs.declared.token.Mark.TheVariants as mark
-use Rattle.ixp_tokens.specs.Pieces.{same_word}
-use Rattle.ixp_tokens.proofs.Fronts.{Front, marked, keyword, name, one_of}
-use Rattle.ixp_tokens.proofs.Looks.{Look, full_look, token_look}
-use Rattle.ixp_tokens.proofs.ClearLooks.{clear_gives, clear_takes, clear_mark, clear_name, clear_sequence, clear_then, clear_choice, clear_checks, clear_here}
-use Rattle.ixp_tokens.proofs.Known.{some_if}
-use Rattle.ixp_exprs.specs.declared.context.Scope.TheVariants as scope
-use Rattle.ixp_exprs.specs.Names.{Names}
-use Rattle.ixp_exprs.specs.Expressions.{word_in}
-use Rattle.ixp_exprs.proofs.ClearLists.{clear_only, clear_ended}
-use Rattle.ixp_exprs.proofs.KnownTokens.{word_front}
-use Rattle.ixp_exprs.proofs.Sure.{Sure, First, sure_of, clear_word, clear_free_name}
+use Rattle.ixp_lang_tokens.specs.declared.token.Kind.TheVariants as kind
+use Rattle.ixp_lang_tokens.specs.declared.token.Mark.TheVariants as mark
+use Rattle.ixp_lang_tokens.specs.Pieces.{same_word}
+use Rattle.ixp_lang_tokens.proofs.Fronts.{Front, marked, keyword, name, one_of}
+use Rattle.ixp_lang_tokens.proofs.Looks.{Look, full_look, token_look}
+use Rattle.ixp_lang_tokens.proofs.ClearLooks.{clear_gives, clear_takes, clear_mark, clear_name, clear_sequence, clear_then, clear_choice, clear_checks, clear_here}
+use Rattle.ixp_lang_tokens.proofs.Known.{some_if}
+use Rattle.ixp_lang_exprs.specs.declared.context.Scope.TheVariants as scope
+use Rattle.ixp_lang_exprs.specs.Names.{Names}
+use Rattle.ixp_lang_exprs.specs.Expressions.{word_in}
+use Rattle.ixp_lang_exprs.proofs.ClearLists.{clear_only, clear_ended}
+use Rattle.ixp_lang_exprs.proofs.KnownTokens.{word_front}
+use Rattle.ixp_lang_exprs.proofs.Sure.{Sure, First, sure_of, clear_word, clear_free_name}
 use Rattle.ixp_read.specs.Functions.{type_in, has_sets, type_form, Params, no_params, param_form, params_form, written_form, as_written, head_form, frame_in, body_within, function_within, filter_within}
-use Rattle.ixp_stmts.proofs.Several.{clear_joined}
-use Rattle.ixp_stmts.proofs.SureStatements.{sure_body}
+use Rattle.ixp_lang_stmts.proofs.Several.{clear_joined}
+use Rattle.ixp_lang_stmts.proofs.SureStatements.{sure_body}
 
 -- Types.
 

@@ -3,23 +3,23 @@ use Rattle.std.proofs.Common.{inl, inr, ◌≡◌, ℕ, true, List, [], ◌∷�
 use Rattle.std.specs.Option.{is_some}
 use Rattle.ixp_lang.specs.declared.item.Kind.{Kind}
 use Rattle.ixp_lang.specs.declared.item.Kind.TheVariants.{Ipv4, Ipv6, Roa4, Roa6}
-use Rattle.ixp_tokens.specs.declared.token.Kind.{Kind as Token}
-use Rattle.ixp_tokens.specs.declared.token.Kind.TheVariants as token
-use Rattle.ixp_tokens.specs.declared.token.Mark.TheVariants as mark
-use Rattle.ixp_tokens.specs.Grammars.{Grammar, onward}
-use Rattle.ixp_tokens.proofs.Clear.{MayEmpty, GoesOn, IsSeen, ClearBy}
-use Rattle.ixp_tokens.proofs.Fronts.{name, Front, keyword, addr, one_of, starts_never}
-use Rattle.ixp_tokens.proofs.Looks.{token_look}
-use Rattle.ixp_tokens.proofs.ClearLooks.{clear_gives, clear_takes, clear_mark, clear_sequence, clear_then, clear_choice, clear_checks, clear_here, clear_wider}
-use Rattle.ixp_exprs.specs.Names.{Names}
-use Rattle.ixp_exprs.specs.Operands.{anything}
-use Rattle.ixp_exprs.specs.Declarations.{Declares}
-use Rattle.ixp_exprs.proofs.ClearLists.{clear_ended}
-use Rattle.ixp_exprs.proofs.Sure.{behind_else, Sure, First, sure_of, clear_word, clear_free_name}
-use Rattle.ixp_exprs.proofs.KnownExpressions.{operand_starts, clear_expression_text}
+use Rattle.ixp_lang_tokens.specs.declared.token.Kind.{Kind as Token}
+use Rattle.ixp_lang_tokens.specs.declared.token.Kind.TheVariants as token
+use Rattle.ixp_lang_tokens.specs.declared.token.Mark.TheVariants as mark
+use Rattle.ixp_lang_tokens.specs.Grammars.{Grammar, onward}
+use Rattle.ixp_lang_tokens.proofs.Clear.{MayEmpty, GoesOn, IsSeen, ClearBy}
+use Rattle.ixp_lang_tokens.proofs.Fronts.{name, Front, keyword, addr, one_of, starts_never}
+use Rattle.ixp_lang_tokens.proofs.Looks.{token_look}
+use Rattle.ixp_lang_tokens.proofs.ClearLooks.{clear_gives, clear_takes, clear_mark, clear_sequence, clear_then, clear_choice, clear_checks, clear_here, clear_wider}
+use Rattle.ixp_lang_exprs.specs.Names.{Names}
+use Rattle.ixp_lang_exprs.specs.Operands.{anything}
+use Rattle.ixp_lang_exprs.specs.Declarations.{Declares}
+use Rattle.ixp_lang_exprs.proofs.ClearLists.{clear_ended}
+use Rattle.ixp_lang_exprs.proofs.Sure.{behind_else, Sure, First, sure_of, clear_word, clear_free_name}
+use Rattle.ixp_lang_exprs.proofs.KnownExpressions.{operand_starts, clear_expression_text}
 use Rattle.ixp_read.specs.Items.{v4_addr_in, router_id_end, table_end, define_place, value_within, define_within, Levels, all_levels, item_within, declaration_form, table_or, item_form, Begun, is_more, item_then, round_of, config_of, config_form}
 use Rattle.ixp_read.proofs.SureFunctions.{sure_function, sure_filter}
-use Rattle.ixp_protocols.proofs.SureProtocols.{first_protocol_end}
+use Rattle.ixp_lang_protocols.proofs.SureProtocols.{first_protocol_end}
 
 pub v4_front : (k : Token) → is_some (v4_addr_in k) ≡ true → one_of (addr ∷ []) k ≡ true
 v4_front (token.Addr a) e = refl

@@ -7,36 +7,36 @@ use Rattle.ixp_lang.specs.Trees.{StmtTree, ItemTree}
 use Rattle.ixp_lang.specs.declared.item.Kind.{Kind}
 use Rattle.ixp_lang.specs.declared.item.Kind.TheVariants.{Ipv4, Ipv6, Roa4, Roa6}
 use Rattle.ixp_lang.specs.declared.item.Ty.TheVariants as ty
-use Rattle.ixp_tokens.specs.declared.fault.Cause.{Cause}
-use Rattle.ixp_tokens.specs.declared.token.Kind.{Kind as Token}
-use Rattle.ixp_tokens.specs.declared.token.Kind.TheVariants as token
-use Rattle.ixp_tokens.specs.declared.token.Mark.TheVariants as mark
-use Rattle.ixp_tokens.specs.Grammars.{Grammar, gives, sequence, choice, rounds, checks, unless, Step, onward, done}
-use Rattle.ixp_tokens.specs.Pieces.{the_mark, the_word}
-use Rattle.ixp_tokens.specs.Syntax.{spot, Fine}
-use Rattle.ixp_tokens.proofs.Fronts.{marked, keyword, name, addr}
-use Rattle.ixp_tokens.proofs.Looks.{Look, full_look, token_look}
-use Rattle.ixp_tokens.proofs.ClearLooks.{clear_takes}
-use Rattle.ixp_tokens.proofs.Viable.{HasText, CanEnd, Supplied, supplied_gives, supplied_choice, supplied_rounds, supplied_unless, supplied_here}
-use Rattle.ixp_tokens.proofs.Whole.{Whole, part_of, text_free, can_end, can_follow, whole_gives, whole_takes, whole_then, whole_sequence, whole_right, whole_choice, whole_checks, whole_here}
-use Rattle.ixp_tokens.proofs.Exchanges.{Exchanges, whatever, clearly_exchanges, choice_exchanges, here_exchanges, ends_all, supplied_and_gives, supplied_and_checks, text_then}
-use Rattle.ixp_exprs.specs.Names.{Names}
-use Rattle.ixp_exprs.specs.Declarations.{Declares, free_name}
-use Rattle.ixp_exprs.specs.Sets.{unless_so}
-use Rattle.ixp_exprs.specs.Operands.{anything, misfit_at}
-use Rattle.ixp_exprs.specs.Expressions.{word_in}
-use Rattle.ixp_exprs.specs.declared.types.ValueType.{ValueType}
-use Rattle.ixp_exprs.specs.declared.context.Scope.TheVariants as scope
-use Rattle.ixp_exprs.proofs.KnownTokens.{word_front}
-use Rattle.ixp_exprs.proofs.KnownExpressions.{operand_starts}
-use Rattle.ixp_exprs.proofs.WholeLists.{part_only, whole_mark, whole_word, whole_name, whole_ended}
-use Rattle.ixp_exprs.proofs.WholeExpressions.{whole_expression_text}
-use Rattle.ixp_stmts.specs.Statements.{Frame, Said, body_form}
-use Rattle.ixp_stmts.proofs.Several.{clear_joined}
-use Rattle.ixp_stmts.proofs.ExchangeStatements.{free_first, before_gives, before_checks}
-use Rattle.ixp_stmts.proofs.SuppliedStatements.{supply_first, text_first, body_supplied, body_exchanges, body_has_text}
-use Rattle.ixp_protocols.specs.Protocols.{protocol_end}
-use Rattle.ixp_protocols.proofs.WholeProtocols.{whole_free_name, whole_protocol_end}
+use Rattle.ixp_lang_tokens.specs.declared.fault.Cause.{Cause}
+use Rattle.ixp_lang_tokens.specs.declared.token.Kind.{Kind as Token}
+use Rattle.ixp_lang_tokens.specs.declared.token.Kind.TheVariants as token
+use Rattle.ixp_lang_tokens.specs.declared.token.Mark.TheVariants as mark
+use Rattle.ixp_lang_tokens.specs.Grammars.{Grammar, gives, sequence, choice, rounds, checks, unless, Step, onward, done}
+use Rattle.ixp_lang_tokens.specs.Pieces.{the_mark, the_word}
+use Rattle.ixp_lang_tokens.specs.Syntax.{spot, Fine}
+use Rattle.ixp_lang_tokens.proofs.Fronts.{marked, keyword, name, addr}
+use Rattle.ixp_lang_tokens.proofs.Looks.{Look, full_look, token_look}
+use Rattle.ixp_lang_tokens.proofs.ClearLooks.{clear_takes}
+use Rattle.ixp_lang_tokens.proofs.Viable.{HasText, CanEnd, Supplied, supplied_gives, supplied_choice, supplied_rounds, supplied_unless, supplied_here}
+use Rattle.ixp_lang_tokens.proofs.Whole.{Whole, part_of, text_free, can_end, can_follow, whole_gives, whole_takes, whole_then, whole_sequence, whole_right, whole_choice, whole_checks, whole_here}
+use Rattle.ixp_lang_tokens.proofs.Exchanges.{Exchanges, whatever, clearly_exchanges, choice_exchanges, here_exchanges, ends_all, supplied_and_gives, supplied_and_checks, text_then}
+use Rattle.ixp_lang_exprs.specs.Names.{Names}
+use Rattle.ixp_lang_exprs.specs.Declarations.{Declares, free_name}
+use Rattle.ixp_lang_exprs.specs.Sets.{unless_so}
+use Rattle.ixp_lang_exprs.specs.Operands.{anything, misfit_at}
+use Rattle.ixp_lang_exprs.specs.Expressions.{word_in}
+use Rattle.ixp_lang_exprs.specs.declared.types.ValueType.{ValueType}
+use Rattle.ixp_lang_exprs.specs.declared.context.Scope.TheVariants as scope
+use Rattle.ixp_lang_exprs.proofs.KnownTokens.{word_front}
+use Rattle.ixp_lang_exprs.proofs.KnownExpressions.{operand_starts}
+use Rattle.ixp_lang_exprs.proofs.WholeLists.{part_only, whole_mark, whole_word, whole_name, whole_ended}
+use Rattle.ixp_lang_exprs.proofs.WholeExpressions.{whole_expression_text}
+use Rattle.ixp_lang_stmts.specs.Statements.{Frame, Said, body_form}
+use Rattle.ixp_lang_stmts.proofs.Several.{clear_joined}
+use Rattle.ixp_lang_stmts.proofs.ExchangeStatements.{free_first, before_gives, before_checks}
+use Rattle.ixp_lang_stmts.proofs.SuppliedStatements.{supply_first, text_first, body_supplied, body_exchanges, body_has_text}
+use Rattle.ixp_lang_protocols.specs.Protocols.{protocol_end}
+use Rattle.ixp_lang_protocols.proofs.WholeProtocols.{whole_free_name, whole_protocol_end}
 use Rattle.ixp_read.specs.Functions.{type_in, has_sets, type_form, Params, no_params, param_form, param_round, params_form, written_form, as_written, head_form, Body, body_with, frame_in, body_within, Head, function_with, function_within, filter_with, filter_within}
 use Rattle.ixp_read.specs.Items.{v4_addr_in, router_id_end, table_end, define_place, value_within, define_within, Levels, declaration_within, table_before, item_within, Begun, with_item, is_more, item_then, round_of, config_of}
 use Rattle.ixp_read.proofs.SureFunctions.{types, type_front, type_look, first_param}

@@ -3,16 +3,16 @@ use Rattle.std.specs.Prelude.{◌≡◌, ℕ, Bool, true, false, ◌-◌, List, 
 use Rattle.ixp_lang.specs.Trees.{ItemTree}
 use Rattle.ixp_lang.specs.Views.{config_view}
 use Rattle.ixp_lang.specs.declared.item.Config.{Config}
-use Rattle.ixp_tokens.specs.declared.fault.Cause.{Cause}
-use Rattle.ixp_tokens.specs.declared.fault.Cause.TheVariants as cause
-use Rattle.ixp_tokens.specs.declared.token.Kind.{Kind}
-use Rattle.ixp_tokens.specs.declared.token.Kind.TheVariants as kind
-use Rattle.ixp_tokens.specs.declared.token.Mark.{Mark}
-use Rattle.ixp_tokens.specs.declared.token.Mark.TheVariants as mark
-use Rattle.ixp_tokens.specs.Words.{is_foreign_word}
-use Rattle.ixp_tokens.specs.Tokens.{Placed, placed_kinds, Tokens, HasTokens}
-use Rattle.ixp_tokens.specs.Grammars.{Took}
-use Rattle.ixp_tokens.specs.Reading.{read}
+use Rattle.ixp_lang_tokens.specs.declared.fault.Cause.{Cause}
+use Rattle.ixp_lang_tokens.specs.declared.fault.Cause.TheVariants as cause
+use Rattle.ixp_lang_tokens.specs.declared.token.Kind.{Kind}
+use Rattle.ixp_lang_tokens.specs.declared.token.Kind.TheVariants as kind
+use Rattle.ixp_lang_tokens.specs.declared.token.Mark.{Mark}
+use Rattle.ixp_lang_tokens.specs.declared.token.Mark.TheVariants as mark
+use Rattle.ixp_lang_tokens.specs.Words.{is_foreign_word}
+use Rattle.ixp_lang_tokens.specs.Tokens.{Placed, placed_kinds, Tokens, HasTokens}
+use Rattle.ixp_lang_tokens.specs.Grammars.{Took}
+use Rattle.ixp_lang_tokens.specs.Reading.{read}
 use Rattle.ixp_read.specs.declared.fault.ReadFault.{ReadFault}
 use Rattle.ixp_read.specs.declared.fault.ReadFault.TheVariants.{Byte, Number, Unexpected, UnknownName, NameTwice, MixedLogic, WrongType, TooDeep, OutOfProfile, NoMemory}
 use Rattle.ixp_read.specs.Items.{config_form}

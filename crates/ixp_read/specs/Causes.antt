@@ -1,8 +1,8 @@
 -- How a fault of a filter text is told.
 use Rattle.std.specs.Prelude.{Option, Some, None}
-use Rattle.ixp_causes.specs.declared.Cause.{Cause}
-use Rattle.ixp_causes.specs.declared.Code.TheVariants.{L1, L2, L3, L4, L5, L6, L7, L8, L9}
-use Rattle.ixp_causes.specs.declared.Place.TheVariants as place
+use Rattle.ixp_num.specs.declared.cause.Cause.{Cause}
+use Rattle.ixp_num.specs.declared.cause.Code.TheVariants.{L1, L2, L3, L4, L5, L6, L7, L8, L9}
+use Rattle.ixp_num.specs.declared.cause.Place.TheVariants as place
 use Rattle.ixp_read.specs.declared.fault.ReadFault.{ReadFault}
 use Rattle.ixp_read.specs.declared.fault.ReadFault.TheVariants.{Byte, Number, Unexpected, UnknownName, NameTwice, MixedLogic, WrongType, TooDeep, OutOfProfile, NoMemory}
 

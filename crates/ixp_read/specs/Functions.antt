@@ -4,22 +4,22 @@ use Rattle.std.specs.Option.{is_some}
 use Rattle.ixp_lang.specs.Trees.{StmtTree, stmts, function_item, filter_item}
 use Rattle.ixp_lang.specs.declared.item.Ty.{Ty}
 use Rattle.ixp_lang.specs.declared.item.Ty.TheVariants as ty
-use Rattle.ixp_tokens.specs.declared.fault.Cause.TheVariants.{Twice}
-use Rattle.ixp_tokens.specs.declared.token.Mark.TheVariants.{Semicolon, Open, Close, BlockOpen, Arrow}
-use Rattle.ixp_tokens.specs.Grammars.{Step, Grammar, gives, takes, sequence, choice, rounds, checks, here, onward, done}
-use Rattle.ixp_tokens.specs.Pieces.{the_mark, the_word, same_word, a_name}
-use Rattle.ixp_exprs.specs.declared.types.ValueType.{ValueType}
-use Rattle.ixp_exprs.specs.declared.env.Signature.{Signature}
-use Rattle.ixp_exprs.specs.declared.env.Declared.TheVariants.{Function, Filter, Begun, Parameter}
-use Rattle.ixp_exprs.specs.declared.context.Scope.TheVariants as scope
-use Rattle.ixp_exprs.specs.Types.{type_of}
-use Rattle.ixp_exprs.specs.Names.{Names}
-use Rattle.ixp_exprs.specs.Declarations.{Declares, standing, is_free_in, free_name}
-use Rattle.ixp_exprs.specs.Lists.{only, ended}
-use Rattle.ixp_exprs.specs.Sets.{unless_so}
-use Rattle.ixp_exprs.specs.Operands.{misfit_at}
-use Rattle.ixp_exprs.specs.Expressions.{word_in}
-use Rattle.ixp_stmts.specs.Statements.{Frame, Returned, Said, body_form}
+use Rattle.ixp_lang_tokens.specs.declared.fault.Cause.TheVariants.{Twice}
+use Rattle.ixp_lang_tokens.specs.declared.token.Mark.TheVariants.{Semicolon, Open, Close, BlockOpen, Arrow}
+use Rattle.ixp_lang_tokens.specs.Grammars.{Step, Grammar, gives, takes, sequence, choice, rounds, checks, here, onward, done}
+use Rattle.ixp_lang_tokens.specs.Pieces.{the_mark, the_word, same_word, a_name}
+use Rattle.ixp_lang_exprs.specs.declared.types.ValueType.{ValueType}
+use Rattle.ixp_lang_exprs.specs.declared.env.Signature.{Signature}
+use Rattle.ixp_lang_exprs.specs.declared.env.Declared.TheVariants.{Function, Filter, Begun, Parameter}
+use Rattle.ixp_lang_exprs.specs.declared.context.Scope.TheVariants as scope
+use Rattle.ixp_lang_exprs.specs.Types.{type_of}
+use Rattle.ixp_lang_exprs.specs.Names.{Names}
+use Rattle.ixp_lang_exprs.specs.Declarations.{Declares, standing, is_free_in, free_name}
+use Rattle.ixp_lang_exprs.specs.Lists.{only, ended}
+use Rattle.ixp_lang_exprs.specs.Sets.{unless_so}
+use Rattle.ixp_lang_exprs.specs.Operands.{misfit_at}
+use Rattle.ixp_lang_exprs.specs.Expressions.{word_in}
+use Rattle.ixp_lang_stmts.specs.Statements.{Frame, Returned, Said, body_form}
 
 -- Types as they are written.
 

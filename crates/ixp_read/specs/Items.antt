@@ -6,21 +6,21 @@ use Rattle.ixp_num.specs.declared.family.Family.TheVariants.{V4, V6}
 use Rattle.ixp_lang.specs.Trees.{ItemTree, router_id_item, table_item, define_item}
 use Rattle.ixp_lang.specs.declared.item.Kind.{Kind}
 use Rattle.ixp_lang.specs.declared.item.Kind.TheVariants.{Ipv4, Ipv6, Roa4, Roa6}
-use Rattle.ixp_tokens.specs.declared.token.Kind.{Kind as Token}
-use Rattle.ixp_tokens.specs.declared.token.Kind.TheVariants as token
-use Rattle.ixp_tokens.specs.declared.token.Mark.TheVariants.{Semicolon, Equal}
-use Rattle.ixp_tokens.specs.Grammars.{Step, Grammar, gives, takes, sequence, choice, rounds, checks, unless, here, onward, done}
-use Rattle.ixp_tokens.specs.Pieces.{the_mark, the_word}
-use Rattle.ixp_exprs.specs.declared.env.Declared.TheVariants as declared
-use Rattle.ixp_exprs.specs.declared.env.Table.{Table}
-use Rattle.ixp_exprs.specs.declared.context.Scope.TheVariants as scope
-use Rattle.ixp_exprs.specs.Names.{Names, defined_number}
-use Rattle.ixp_exprs.specs.Lists.{ended}
-use Rattle.ixp_exprs.specs.Operands.{Operand, anything, settled}
-use Rattle.ixp_exprs.specs.Expressions.{Place, expression_form}
-use Rattle.ixp_exprs.specs.Declarations.{nothing_declared, Declares, standing, free_name}
+use Rattle.ixp_lang_tokens.specs.declared.token.Kind.{Kind as Token}
+use Rattle.ixp_lang_tokens.specs.declared.token.Kind.TheVariants as token
+use Rattle.ixp_lang_tokens.specs.declared.token.Mark.TheVariants.{Semicolon, Equal}
+use Rattle.ixp_lang_tokens.specs.Grammars.{Step, Grammar, gives, takes, sequence, choice, rounds, checks, unless, here, onward, done}
+use Rattle.ixp_lang_tokens.specs.Pieces.{the_mark, the_word}
+use Rattle.ixp_lang_exprs.specs.declared.env.Declared.TheVariants as declared
+use Rattle.ixp_lang_exprs.specs.declared.env.Table.{Table}
+use Rattle.ixp_lang_exprs.specs.declared.context.Scope.TheVariants as scope
+use Rattle.ixp_lang_exprs.specs.Names.{Names, defined_number}
+use Rattle.ixp_lang_exprs.specs.Lists.{ended}
+use Rattle.ixp_lang_exprs.specs.Operands.{Operand, anything, settled}
+use Rattle.ixp_lang_exprs.specs.Expressions.{Place, expression_form}
+use Rattle.ixp_lang_exprs.specs.Declarations.{nothing_declared, Declares, standing, free_name}
 use Rattle.ixp_read.specs.Functions.{levels_inside, function_within, filter_within}
-use Rattle.ixp_protocols.specs.Protocols.{protocol_end}
+use Rattle.ixp_lang_protocols.specs.Protocols.{protocol_end}
 
 abbrev pub if_v4 : Family → Addr → Option Addr
 if_v4 V4 addr = Some addr

@@ -1,11 +1,11 @@
 -- Where no configuration goes on: as far as syntax tells, or for what is checked of names, types, ranges and levels.
 use Rattle.std.specs.Prelude.{◌≡◌, ℕ, ◌+◌, ◌<◌, List, length}
 use Rattle.ixp_lang.specs.Trees.{ItemTree}
-use Rattle.ixp_tokens.specs.declared.fault.Cause.{Cause}
-use Rattle.ixp_tokens.specs.declared.fault.Cause.TheVariants.{Deep}
-use Rattle.ixp_tokens.specs.declared.token.Kind.{Kind}
-use Rattle.ixp_tokens.specs.Grammars.{Grammar}
-use Rattle.ixp_tokens.specs.Syntax.{IsFineText, IsLawfulText, StopsAt, RefusedAt}
+use Rattle.ixp_lang_tokens.specs.declared.fault.Cause.{Cause}
+use Rattle.ixp_lang_tokens.specs.declared.fault.Cause.TheVariants.{Deep}
+use Rattle.ixp_lang_tokens.specs.declared.token.Kind.{Kind}
+use Rattle.ixp_lang_tokens.specs.Grammars.{Grammar}
+use Rattle.ixp_lang_tokens.specs.Syntax.{IsFineText, IsLawfulText, StopsAt, RefusedAt}
 use Rattle.ixp_read.specs.Functions.{levels_inside}
 use Rattle.ixp_read.specs.Items.{define_levels, item_within, config_of, config_form}
 

@@ -3,8 +3,8 @@ use Rattle.std.specs.Prelude.{Bool, true, false, List, map}
 use Rattle.ixp_lang.specs.Trees.{ItemTree}
 use Rattle.ixp_lang.specs.Views.{stmts_view, item_view}
 use Rattle.ixp_lang.specs.declared.item.Item.{Item}
-use Rattle.ixp_tokens.specs.Grammars.{Step, onward, done}
-use Rattle.ixp_exprs.specs.Names.{Names}
+use Rattle.ixp_lang_tokens.specs.Grammars.{Step, onward, done}
+use Rattle.ixp_lang_exprs.specs.Names.{Names}
 use Rattle.ixp_read.specs.Functions as grammar
 use Rattle.ixp_read.specs.Items.{Begun}
 use Rattle.ixp_read.specs.declared.params.Params.{Params}

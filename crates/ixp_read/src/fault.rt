@@ -1,5 +1,5 @@
 //! Why a text isn't read.
-use ixp_causes::{Cause, Code, Place};
+use ixp_num::{Cause, Code, Place};
 
 /// Why bytes are no filter text. Each place is that of a token's first byte, counted from 0; where the text ends
 /// too early, it is the text's length.

@@ -1,18 +1,18 @@
 //! Functions and filters.
 ghost use Rattle.std.specs.Prelude.{◌≡◌, ◌<◌, ◌≤◌, length, IfOk};
 ghost use Rattle.ixp_lang.specs.Views.{item_view};
-ghost use Rattle.ixp_tokens.specs.Reading.{read, kinds, Gives};
-ghost use Rattle.ixp_exprs.specs.Names.{names_of};
+ghost use Rattle.ixp_lang_tokens.specs.Reading.{read, kinds, Gives};
+ghost use Rattle.ixp_lang_exprs.specs.Names.{names_of};
 ghost use Rattle.ixp_read.specs.Functions.{written_form, head_form, body_within, function_within, filter_within};
 ghost use Rattle.ixp_read.specs.Views.{head_of, body_of};
 
 use crate::params::{Params, params_at};
 use crate::ty::type_at;
-use ixp_exprs::{Declared, Env, Scope, Signature, ValueType, type_of};
 use ixp_lang::{Item, Stmt};
+use ixp_lang_exprs::{Declared, Env, Scope, Signature, ValueType, type_of};
+use ixp_lang_stmts::{Frame, Returned, block_end};
+use ixp_lang_tokens::{Cause, Fault, Mark, Token, after_mark, mark_at};
 use ixp_num::Name;
-use ixp_stmts::{Frame, Returned, block_end};
-use ixp_tokens::{Cause, Fault, Mark, Token, after_mark, mark_at};
 use std::alloc::Global;
 
 /// A function's head.

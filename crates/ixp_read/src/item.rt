@@ -1,22 +1,24 @@
 //! Items, and the whole text.
 ghost use Rattle.std.specs.Prelude.{◌≡◌, ◌<◌, [], length, map, IfOk, IsTrue, IsFalse};
 ghost use Rattle.ixp_lang.specs.Views.{item_view};
-ghost use Rattle.ixp_tokens.specs.Grammars.{takes};
-ghost use Rattle.ixp_tokens.specs.Reading.{read, kinds, Gives};
-ghost use Rattle.ixp_exprs.specs.Names.{Names, names_of};
-ghost use Rattle.ixp_exprs.specs.Operands.{operand_of};
+ghost use Rattle.ixp_lang_tokens.specs.Grammars.{takes};
+ghost use Rattle.ixp_lang_tokens.specs.Reading.{read, kinds, Gives};
+ghost use Rattle.ixp_lang_exprs.specs.Names.{Names, names_of};
+ghost use Rattle.ixp_lang_exprs.specs.Operands.{operand_of};
 ghost use Rattle.ixp_read.specs.Items.{v4_addr_in, is_roa, router_id_end, table_end, defined_value, define_end, declaration_form, table_or, item_form, config_round, config_form};
 ghost use Rattle.ixp_read.specs.Views.{begun_of, round_says};
 
 use crate::function::{filter_at, function_at};
-use ixp_exprs::{
+use ixp_lang::{Item, Kind};
+use ixp_lang_exprs::{
     Context, Declared, Env, Expected, Scope, Table, Typed, Wanted, defined_number, expression,
     settled,
 };
-use ixp_lang::{Item, Kind};
+use ixp_lang_protocols::protocol_at;
+use ixp_lang_tokens::{
+    Fault, Kind as TokenKind, Mark, Token, after_word, mark_at, unexpected, word_at,
+};
 use ixp_num::{Addr, Family};
-use ixp_protocols::protocol_at;
-use ixp_tokens::{Fault, Kind as TokenKind, Mark, Token, after_word, mark_at, unexpected, word_at};
 use std::alloc::Global;
 
 /// The greatest number of levels in one another.

@@ -2,10 +2,10 @@
 ghost use Rattle.std.specs.Prelude.{◌≡◌, ◌⊎◌, ℕ, List, [], length, Result, Ok, Err};
 ghost use Rattle.ixp_lang.specs.Trees.{ItemTree};
 ghost use Rattle.ixp_lang.specs.declared.item.Config.{Config};
-ghost use Rattle.ixp_tokens.specs.declared.fault.Cause.{Cause};
-ghost use Rattle.ixp_tokens.specs.declared.token.Kind.{Kind};
-ghost use Rattle.ixp_tokens.specs.Grammars.{Took};
-ghost use Rattle.ixp_tokens.specs.Reading.{read};
+ghost use Rattle.ixp_lang_tokens.specs.declared.fault.Cause.{Cause};
+ghost use Rattle.ixp_lang_tokens.specs.declared.token.Kind.{Kind};
+ghost use Rattle.ixp_lang_tokens.specs.Grammars.{Took};
+ghost use Rattle.ixp_lang_tokens.specs.Reading.{read};
 ghost use Rattle.ixp_read.specs.declared.fault.ReadFault.{ReadFault};
 ghost use Rattle.ixp_read.specs.declared.fault.ReadFault.TheVariants.{NoMemory};
 ghost use Rattle.ixp_read.specs.Answers.{ConfigAnswer, IsTold, SameAnswer, SpellsText};

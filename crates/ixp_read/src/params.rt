@@ -1,17 +1,17 @@
 //! Parameters of functions.
 ghost use Rattle.std.specs.Prelude.{◌≡◌, ◌<◌, [], length, IfOk};
-ghost use Rattle.ixp_tokens.specs.Grammars.{rounds};
-ghost use Rattle.ixp_tokens.specs.Reading.{read, kinds, Gives};
-ghost use Rattle.ixp_exprs.specs.Groups.{closing};
-ghost use Rattle.ixp_exprs.specs.Names.{names_of};
+ghost use Rattle.ixp_lang_tokens.specs.Grammars.{rounds};
+ghost use Rattle.ixp_lang_tokens.specs.Reading.{read, kinds, Gives};
+ghost use Rattle.ixp_lang_exprs.specs.Groups.{closing};
+ghost use Rattle.ixp_lang_exprs.specs.Names.{names_of};
 ghost use Rattle.ixp_read.specs.Functions.{no_params, param_form, param_round, params_form};
 ghost use Rattle.ixp_read.specs.Views.{params_of};
 
 use crate::ty::type_at;
-use ixp_exprs::{Declared, Env, ValueType, own_name_at, type_of};
 use ixp_lang::Ty;
+use ixp_lang_exprs::{Declared, Env, ValueType, own_name_at, type_of};
+use ixp_lang_tokens::{Cause, Fault, Mark, Token, after_mark, mark_at};
 use ixp_num::{Items, Name};
-use ixp_tokens::{Cause, Fault, Mark, Token, after_mark, mark_at};
 use std::alloc::Global;
 
 /// The parameters of a function.

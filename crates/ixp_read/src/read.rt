@@ -1,15 +1,15 @@
 //! The whole text.
 ghost use Rattle.std.specs.Prelude.{◌≡◌, List, option_map, slice_get, if◌then◌else◌};
-ghost use Rattle.ixp_tokens.specs.Reading.{kinds};
-ghost use Rattle.ixp_tokens.specs.Tokens.{Placed, placed_kinds, Tokens, HasTokens};
-ghost use Rattle.ixp_tokens.specs.declared.fault.Cause.TheVariants.{Unexpected as IsUnexpected};
+ghost use Rattle.ixp_lang_tokens.specs.Reading.{kinds};
+ghost use Rattle.ixp_lang_tokens.specs.Tokens.{Placed, placed_kinds, Tokens, HasTokens};
+ghost use Rattle.ixp_lang_tokens.specs.declared.fault.Cause.TheVariants.{Unexpected as IsUnexpected};
 ghost use Rattle.ixp_read.specs.declared.fault.ReadFault.TheVariants.{Unexpected, OutOfProfile};
 ghost use Rattle.ixp_read.specs.Answers.{is_foreign_mark, refused, named, byte_of, fault_at, ConfigAnswer};
 
 use crate::ReadFault;
 use crate::item::items_at;
 use ixp_lang::Config;
-use ixp_tokens::{Cause, Fault, Kind, Mark, Token, is_foreign, left_at, tokens_of};
+use ixp_lang_tokens::{Cause, Fault, Kind, Mark, Token, is_foreign, left_at, tokens_of};
 use std::alloc::Global;
 
 /// Whether the profile leaves the mark out.

@@ -1,11 +1,11 @@
 //! Types as they are written.
 ghost use Rattle.std.specs.Prelude.{◌≡◌, ◌<◌, length, IfOk};
-ghost use Rattle.ixp_tokens.specs.Reading.{read, kinds, Gives};
-ghost use Rattle.ixp_exprs.specs.Expressions.{word_in};
+ghost use Rattle.ixp_lang_tokens.specs.Reading.{read, kinds, Gives};
+ghost use Rattle.ixp_lang_exprs.specs.Expressions.{word_in};
 ghost use Rattle.ixp_read.specs.Functions.{type_in, set_of, has_sets, type_form};
 
 use ixp_lang::Ty;
-use ixp_tokens::{Fault, Kind, Token, after_word, unexpected};
+use ixp_lang_tokens::{Fault, Kind, Token, after_word, unexpected};
 
 /// The type that the keyword is.
 fn word_type(word: &[u8]) -> Option<Ty>

@@ -8,6 +8,8 @@ pub mod Places
 pub mod Registries
 pub mod Rules
 pub mod Sessions
+pub mod Sizes
+pub mod Told
 pub mod Valid
 pub mod Weight
 pub mod Widths

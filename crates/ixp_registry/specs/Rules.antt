@@ -7,8 +7,8 @@ use Rattle.ixp_num.specs.declared.family.Family.{Family}
 use Rattle.ixp_num.specs.declared.family.Family.TheVariants.{V4, V6}
 use Rattle.ixp_num.specs.declared.addr.Addr.{Addr}
 use Rattle.ixp_num.specs.Families.{same_family}
-use Rattle.ixp_tables.specs.Tables.{find, if_there}
-use Rattle.ixp_tables.specs.Sums.{total}
+use Rattle.ixp_num_tables.specs.Tables.{find, if_there}
+use Rattle.ixp_num_tables.specs.Sums.{total}
 use Rattle.ixp_registry.specs.declared.network.AddressRow.{AddressRow}
 use Rattle.ixp_registry.specs.declared.router.Router.{Router}
 use Rattle.ixp_registry.specs.declared.rules.MemberRule.{MemberRule}

@@ -1,6 +1,6 @@
 -- The sessions of a route server, and what members' rules say.
 use Rattle.std.specs.Prelude.{ℕ, Bool, List, [], ◌∷◌, ◌&&◌, ◌==◌, not, true, false, Option, Some, None, if◌then◌else◌, filter, flat_map}
-use Rattle.ixp_tables.specs.Tables.{find, if_there, put}
+use Rattle.ixp_num_tables.specs.Tables.{find, if_there, put}
 use Rattle.ixp_num.specs.AddressForms.{version_of}
 use Rattle.ixp_num.specs.declared.family.Family.{Family}
 use Rattle.ixp_num.specs.declared.family.Family.TheVariants.{V4, V6}

@@ -1,14 +1,14 @@
 -- Which registries are valid, table by table: the order of its rows, what each row keeps alone, what it says by the rows that it
 -- names, and limits. This is what there is to believe of a valid registry. That it is so exactly where no row breaks a
--- rule (Rules) is a law of ixp_validity.
+-- rule (Rules) is a law of ixp_registry_laws.
 use Rattle.std.specs.Prelude.{◌≡◌, ◌≢◌, ℕ, suc, ◌≤◌, ◌+◌, ⊤, List, [], ◌∷◌, length, Option, Some, None, true, false, not, nat_le, ◌&&◌, ◌||◌, ◌==◌}
 use Rattle.std.specs.List.{AllByRecursion, list_any, list_all}
 use Rattle.ixp_num.specs.declared.family.Family.{Family}
 use Rattle.ixp_num.specs.declared.family.Family.TheVariants.{V4, V6}
 use Rattle.ixp_num.specs.Families.{same_family}
-use Rattle.ixp_tables.specs.Tables.{Ascends, if_there, same}
-use Rattle.ixp_tables.specs.Sums.{total, count, one_if, Often, Pairs}
-use Rattle.ixp_sorted.specs.Keys.{prefix_key, pattern_key, range_key, asn_key, roa_key}
+use Rattle.ixp_num_tables.specs.Tables.{Ascends, if_there, same}
+use Rattle.ixp_num_tables.specs.Sums.{total, count, one_if, Often, Pairs}
+use Rattle.ixp_num_sorted.specs.Keys.{prefix_key, pattern_key, range_key, asn_key, roa_key}
 use Rattle.ixp_registry.specs.declared.site.Site.{Site}
 use Rattle.ixp_registry.specs.declared.members.Member.{Member}
 use Rattle.ixp_registry.specs.declared.members.Contact.{Contact}

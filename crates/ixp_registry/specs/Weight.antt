@@ -4,12 +4,13 @@ use Rattle.std.specs.Prelude.{ℕ, List, [], ◌∷◌, length, ◌+◌, ◌*◌
 use Rattle.ixp_num.specs.AddressForms.{version_of}
 use Rattle.ixp_num.specs.declared.family.Family.{Family}
 use Rattle.ixp_num.specs.Families.{same_family}
-use Rattle.ixp_tables.specs.Tables.{find, if_there}
-use Rattle.ixp_tables.specs.Sums.{total}
+use Rattle.ixp_num_tables.specs.Tables.{find, if_there}
+use Rattle.ixp_num_tables.specs.Sums.{total}
 use Rattle.ixp_registry.specs.declared.lists.IrrList.{IrrList}
 use Rattle.ixp_registry.specs.declared.members.Member.{Member}
 use Rattle.ixp_registry.specs.declared.network.IfAddr.{IfAddr}
 use Rattle.ixp_registry.specs.declared.network.Interface.{Interface}
+use Rattle.ixp_registry.specs.declared.registry.Registry.{Registry}
 use Rattle.ixp_registry.specs.declared.router.Router.{Router}
 use Rattle.ixp_registry.specs.Keys.{irr_key}
 use Rattle.ixp_registry.specs.Lookups.{is_member_connected}
@@ -37,3 +38,6 @@ interface_weight ms qs ls i =
 
 abbrev pub weight : List Member → List Interface → List Router → List IrrList → ℕ
 weight ms is qs ls = total (interface_weight ms qs ls) is
+
+abbrev pub weight_of : Registry → ℕ
+weight_of r = weight r.members r.interfaces r.routers r.irr

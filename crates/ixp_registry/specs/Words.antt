@@ -11,7 +11,7 @@ use Rattle.ixp_num.specs.declared.pattern.Pattern.{Pattern}
 use Rattle.ixp_num.specs.declared.roa.Roa.{Roa}
 use Rattle.ixp_num.specs.declared.asn.Asn.{Asn}
 use Rattle.ixp_num.specs.Families.{bits_of, same_family}
-use Rattle.ixp_tables.specs.Tables.{if_there}
+use Rattle.ixp_num_tables.specs.Tables.{if_there}
 use Rattle.ixp_registry.specs.declared.members.Owner.{Owner}
 use Rattle.ixp_registry.specs.declared.members.Owner.TheVariants.{Staff, Member as Of}
 use Rattle.ixp_registry.specs.declared.router.Router.{Router}

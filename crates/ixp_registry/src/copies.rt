@@ -5,7 +5,7 @@ use crate::{
     ApiKey, Contact, IfAddr, Interface, IrrList, Member, OriginList, Port, PublicLists, Registry,
     Router, RuleList, Site, Switch, Vlan,
 };
-use ixp_tables::Copied;
+use ixp_num_tables::Copied;
 use std::alloc::{AllocError, Global};
 
 impl Copied for Member {

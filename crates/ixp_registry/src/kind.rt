@@ -24,6 +24,27 @@ pub enum Kind {
     Roas,
 }
 
+/// The kinds of rows, in the order of their lines.
+pub const KINDS: [Kind; 17] = [
+    Kind::Sites,
+    Kind::Members,
+    Kind::Contacts,
+    Kind::Keys,
+    Kind::Switches,
+    Kind::Ports,
+    Kind::Vlans,
+    Kind::Interfaces,
+    Kind::Addresses,
+    Kind::Routers,
+    Kind::Prefixes,
+    Kind::Origins,
+    Kind::Rules,
+    Kind::Bogons,
+    Kind::BogonAs,
+    Kind::Transit,
+    Kind::Roas,
+];
+
 impl Kind {
     /// The word that is printed, with which the lines of the kind begin in a dump.
     pub fn word(self) -> &'static str

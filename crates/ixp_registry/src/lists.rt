@@ -1,12 +1,12 @@
 //! The lists that filters are made of.
 ghost use Rattle.std.specs.Prelude.{[], ◌∷◌};
 ghost use Rattle.ixp_registry.specs.Keys.{irr_key, origins_key, member_prefix_key, member_origin_key};
-ghost use Rattle.ixp_sorted.specs.Keys.{prefix_key};
+ghost use Rattle.ixp_num_sorted.specs.Keys.{prefix_key};
 ghost use Rattle.ixp_num.specs.AddressForms.{version_of};
 
 use ixp_num::{Asn, Family, Items, Pattern, Prefix, Roa};
-use ixp_sorted::Sorted;
-use ixp_tables::Row;
+use ixp_num_sorted::Sorted;
+use ixp_num_tables::Row;
 use std::cmp::Ordering;
 
 /// The prefixes that a member may announce in a family, ascending.

@@ -3,7 +3,7 @@ ghost use Rattle.std.specs.Prelude.{[], ◌∷◌};
 ghost use Rattle.ixp_registry.specs.Keys.{member_key, contact_key, api_key_key};
 
 use ixp_num::{Asn, Items};
-use ixp_tables::Row;
+use ixp_num_tables::Row;
 use std::cmp::Ordering;
 
 /// How far a member is in its life at the exchange. Only a connected one has sessions; one that has left has

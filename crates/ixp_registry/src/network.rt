@@ -4,7 +4,7 @@ ghost use Rattle.ixp_registry.specs.Keys.{switch_key, port_key, vlan_key, interf
 ghost use Rattle.ixp_num.specs.AddressForms.{version_of};
 
 use ixp_num::{Addr, Family, Items, Prefix};
-use ixp_tables::Row;
+use ixp_num_tables::Row;
 use std::cmp::Ordering;
 
 /// A switch of the peering fabric.
@@ -128,6 +128,23 @@ impl Row for Interface {
 
     fn order(&self, other: &Interface) -> Ordering {
         self.number.cmp(&other.number)
+    }
+}
+
+impl Interface {
+    ghost use Rattle.std.specs.Prelude.{◌≡◌};
+    ghost use Rattle.ixp_registry.specs.Registries.{bare};
+
+    /// The interface without its addresses.
+    pub fn bare(&self) -> InterfaceRow
+        ensures { result ≡ bare self.now }
+    {
+        InterfaceRow {
+            number: self.number,
+            member: self.member,
+            port: self.port,
+            vlan: self.vlan,
+        }
     }
 }
 

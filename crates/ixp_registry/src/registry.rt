@@ -3,7 +3,7 @@ use crate::{
     ApiKey, Contact, Interface, IrrList, Member, OriginList, Port, PublicLists, Router, RuleList,
     Site, Switch, Vlan,
 };
-use ixp_tables::Table;
+use ixp_num_tables::Table;
 
 /// All that the exchange has on record. `specs/Valid.antt` says which registries are valid.
 #[derive(Drop)]

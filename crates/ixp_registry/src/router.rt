@@ -2,7 +2,7 @@
 ghost use Rattle.ixp_registry.specs.Keys.{router_key};
 
 use ixp_num::{Addr, Asn, Family, Name};
-use ixp_tables::Row;
+use ixp_num_tables::Row;
 use std::cmp::Ordering;
 
 /// A route server of one family in a VLAN (RFC 7947).

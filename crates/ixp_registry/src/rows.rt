@@ -3,7 +3,7 @@ use crate::{
     AddressRow, ApiKey, Contact, InterfaceRow, Member, MemberOrigin, MemberPrefix, MemberRule,
     Port, PublicLists, Router, Site, Switch, Vlan,
 };
-use ixp_tables::Table;
+use ixp_num_tables::Table;
 
 /// The rows of a registry, one kind after the other, in the order of their lines in a dump. Addresses and list
 /// items are rows of their own here, so that one may name an interface or a member that isn't there.

@@ -3,7 +3,7 @@ ghost use Rattle.std.specs.Prelude.{[], ◌∷◌};
 ghost use Rattle.ixp_registry.specs.Keys.{rules_key, rule_key};
 
 use ixp_num::{Asn, Items, Prefix};
-use ixp_tables::Row;
+use ixp_num_tables::Row;
 use std::cmp::Ordering;
 
 /// Which routes a rule is about: those that the member announces, or those that it gets.
@@ -13,6 +13,21 @@ pub enum Way {
     Receive,
 }
 
+impl Way {
+    ghost use Rattle.std.specs.Prelude.{◌≡◌};
+    ghost use Rattle.ixp_registry.specs.Sessions.{is_advertise};
+
+    /// Whether the rule is about what the member announces.
+    pub fn is_advertise(self) -> bool
+        ensures { result ≡ is_advertise self }
+    {
+        match self {
+            Way::Advertise => true,
+            Way::Receive => false,
+        }
+    }
+}
+
 /// What a rule does with a route. A rule of the way `Receive` has no prepends.
 #[derive(Clone, Copy, Debug, PartialEq, Eq)]
 pub enum Action {
@@ -20,6 +35,21 @@ pub enum Action {
     /// The member's AS number is put in front so many times more, 1 to 3.
     Prepend(u8),
     Stop,
+}
+
+impl Action {
+    ghost use Rattle.std.specs.Prelude.{◌≡◌};
+    ghost use Rattle.ixp_registry.specs.Sessions.{is_stop};
+
+    /// Whether the route isn't sent.
+    pub fn is_stop(self) -> bool
+        ensures { result ≡ is_stop self }
+    {
+        match self {
+            Action::Stop => true,
+            Action::AsIs | Action::Prepend(_) => false,
+        }
+    }
 }
 
 /// A rule of a member, at its place in the member's list.

@@ -14,8 +14,8 @@ use Rattle.ixp_num.specs.declared.family.Family.TheVariants.{V4, V6}
 use Rattle.ixp_num.specs.declared.prefix.Prefix.{Prefix}
 use Rattle.ixp_num.specs.declared.roa.Roa.{Roa}
 use Rattle.ixp_num.proofs.FirstBits.{inside, whole}
-use Rattle.ixp_sorted.specs.Keys.{roa_key}
-use Rattle.ixp_tables.specs.Tables.{order}
+use Rattle.ixp_num_sorted.specs.Keys.{roa_key}
+use Rattle.ixp_num_tables.specs.Tables.{order}
 use Rattle.ixp_roa.specs.Climbs.{begins_upto, is_upto}
 
 -- families

@@ -11,10 +11,10 @@ use Rattle.std.proofs.lemmas.List.{get_or-map, length-map, drop_more}
 use Rattle.std.proofs.lemmas.List.Sorted.{ranks_by, sorted_far, Contains-permutation, IsPermutation-map}
 use Rattle.ixp_num.specs.declared.roa.Roa.{Roa}
 use Rattle.ixp_num.specs.contracts.roa.RoaOrd.TheImpl as roa_ord
-use Rattle.ixp_sorted.specs.Keys.{roa_key}
-use Rattle.ixp_sorted.specs.Told.{roa_ordered, roa_one}
-use Rattle.ixp_tables.specs.Tables.{order}
-use Rattle.ixp_tables.proofs.Orders.{as_equal, chained, order_same, turned}
+use Rattle.ixp_num_sorted.specs.Keys.{roa_key}
+use Rattle.ixp_num_sorted.specs.Told.{roa_ordered, roa_one}
+use Rattle.ixp_num_tables.specs.Tables.{order}
+use Rattle.ixp_num_tables.proofs.Orders.{as_equal, chained, order_same, turned}
 use Rattle.ixp_roa.specs.Climbs.{AreInOrder}
 use Rattle.ixp_roa.specs.Compacts.{roa_of}
 use Rattle.ixp_roa.specs.declared.compact.CompactRoa.{CompactRoa}

@@ -9,8 +9,8 @@ use Rattle.ixp_num.specs.declared.prefix.Prefix.{Prefix}
 use Rattle.ixp_num.specs.declared.roa.Roa.{Roa}
 use Rattle.ixp_num.specs.Families.{same_family}
 use Rattle.ixp_num.specs.Prefixes.{covers}
-use Rattle.ixp_sorted.specs.Keys.{roa_key}
-use Rattle.ixp_tables.specs.Tables.{order}
+use Rattle.ixp_num_sorted.specs.Keys.{roa_key}
+use Rattle.ixp_num_tables.specs.Tables.{order}
 
 -- the test of `is_matched`: the ROA covers the prefix, is long enough, and has the origin, which isn't AS 0
 abbrev pub is_match : Roa → Prefix → ℕ → Bool

@@ -10,8 +10,8 @@ use Rattle.ixp_num.specs.declared.roa.Roa.{Roa}
 use Rattle.ixp_num.specs.Families.{bits_of}
 use Rattle.ixp_num.specs.Forms.{IsDecimal}
 use Rattle.ixp_num.specs.Answers.{AsnAnswer, PrefixAnswer}
-use Rattle.ixp_sorted.specs.Keys.{roa_key}
-use Rattle.ixp_sorted.specs.Sorted.{IsInOrder}
+use Rattle.ixp_num_sorted.specs.Keys.{roa_key}
+use Rattle.ixp_num_sorted.specs.Sorted.{IsInOrder}
 use Rattle.ixp_roa.specs.declared.fault.Misfit.{Misfit}
 use Rattle.ixp_roa.specs.declared.fault.Misfit.TheVariants as misfit
 use Rattle.ixp_roa.specs.declared.fault.RoaFault.{RoaFault}

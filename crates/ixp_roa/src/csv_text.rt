@@ -7,7 +7,7 @@ use crate::csv_rows::roa_in;
 use crate::fault::{Misfit, RoaFault};
 use csv::{ByteRecord, ReaderBuilder};
 use ixp_num::Roa;
-use ixp_sorted::Sorted;
+use ixp_num_sorted::Sorted;
 use std::alloc::Global;
 
 /// The ROA of a row.

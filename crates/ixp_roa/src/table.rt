@@ -9,7 +9,7 @@ use crate::fault::RoaFault;
 use crate::index::Index;
 use crate::ordered::OrderedRoas;
 use ixp_num::{Asn, Prefix, Roa, Validity};
-use ixp_sorted::Sorted;
+use ixp_num_sorted::Sorted;
 use std::alloc::{AllocError, Global};
 use std::marker::Model;
 

@@ -4,16 +4,16 @@ use Rattle.std.specs.List.{AllByRecursion, list_any}
 use Rattle.std.specs.Option.{is_some, option_map_or}
 use Rattle.std.specs.declared.cmp.Ordering.TheVariants.{Equal, Greater}
 use Rattle.std.proofs.lemmas.Bool.{and_parts, or_parts, eqb-true, eq-eqb}
-use Rattle.ixp_tables.specs.Tables.{order}
+use Rattle.ixp_num_tables.specs.Tables.{order}
 use Rattle.ixp_registry.specs.declared.rows.Rows.{Rows}
 use Rattle.ixp_registry.specs.declared.kind.Kind.{Kind}
 use Rattle.ixp_registry.specs.declared.kind.Kind.TheVariants.{Sites, Members, Contacts, Keys, Switches, Ports, Vlans, Interfaces, Addresses, Routers, Prefixes, Origins, Rules, Bogons, BogonAs, Transit, Roas}
-use Rattle.ixp_lines.specs.declared.version.Version.{Version}
-use Rattle.ixp_lines.specs.declared.version.Version.TheVariants.{One, Two}
+use Rattle.ixp_rows_lines.specs.declared.version.Version.{Version}
+use Rattle.ixp_rows_lines.specs.declared.version.Version.TheVariants.{One, Two}
 use Rattle.ixp_registry.specs.declared.router.Router.{Router}
-use Rattle.ixp_lines.specs.Fields.{Field}
-use Rattle.ixp_lines.specs.Lines.{Line, place_of, IsOfVersion, field_key, key_length, key_of, site_line, member_line, contact_line, key_line, switch_line, port_line, vlan_line, interface_line, address_line, router_line, prefix_line, origin_line, rule_line, bogon_line, bogon_as_line, transit_line, roa_line}
-use Rattle.ixp_lines.proofs.Spelling.{none_some}
+use Rattle.ixp_rows_lines.specs.Fields.{Field}
+use Rattle.ixp_rows_lines.specs.Lines.{Line, place_of, IsOfVersion, field_key, key_length, key_of, site_line, member_line, contact_line, key_line, switch_line, port_line, vlan_line, interface_line, address_line, router_line, prefix_line, origin_line, rule_line, bogon_line, bogon_as_line, transit_line, roa_line}
+use Rattle.ixp_rows_lines.proofs.Spelling.{none_some}
 use Rattle.ixp_rows.specs.declared.misread.Misread.{Misread}
 use Rattle.ixp_rows.specs.declared.misread.Misread.TheVariants.{Bad, Order, Twice, NoMemory}
 use Rattle.ixp_rows.specs.Reading.{◌>>=◌, Fails, begun, needed, unless, line_at, lists_at, rows_at, head_text, after_text, end_text, ended_with, ended, is_line_of, is_line, stray, total, dump_at, line_with_left, fault_of, owner_kinds, network_kinds, steering_kinds, public_kinds}

@@ -8,7 +8,7 @@ use Rattle.ixp_num.specs.declared.family.Family.{Family}
 use Rattle.ixp_num.specs.declared.family.Family.TheVariants.{V4, V6}
 use Rattle.ixp_num.specs.declared.asn.Asn.{Asn}
 use Rattle.ixp_num.specs.declared.prefix.Prefix.{Prefix}
-use Rattle.ixp_tables.specs.Tables.{order, Ascends}
+use Rattle.ixp_num_tables.specs.Tables.{order, Ascends}
 use Rattle.ixp_registry.specs.declared.network.IfAddr.{IfAddr}
 use Rattle.ixp_registry.specs.declared.network.Interface.{Interface}
 use Rattle.ixp_registry.specs.declared.network.AddressRow.{AddressRow}
@@ -17,13 +17,13 @@ use Rattle.ixp_registry.specs.declared.lists.OriginList.{OriginList}
 use Rattle.ixp_registry.specs.declared.lists.MemberPrefix.{MemberPrefix}
 use Rattle.ixp_registry.specs.declared.lists.MemberOrigin.{MemberOrigin}
 use Rattle.ixp_registry.specs.Keys.{address_key, interface_row_key, interface_key, irr_key, origins_key, member_prefix_key, member_origin_key, rules_key, rule_key}
-use Rattle.ixp_sorted.specs.Keys.{prefix_key, asn_key}
+use Rattle.ixp_num_sorted.specs.Keys.{prefix_key, asn_key}
 use Rattle.ixp_registry.specs.declared.rules.MemberRule.{MemberRule}
 use Rattle.ixp_registry.specs.declared.rules.RuleList.{RuleList}
 use Rattle.ixp_registry.specs.Registries.{bare, addresses_of, address_rows, prefixes_of, origins_of, rules_in}
 use Rattle.ixp_registry.specs.Valid.{IsIn, ArePlaced, ValidRuleList}
-use Rattle.ixp_validity.specs.WellFormed.{IsPrefixList, IsOriginList}
-use Rattle.ixp_tables.proofs.FirstNumbers.{key_up, same_first, less_first}
+use Rattle.ixp_registry_laws.specs.WellFormed.{IsPrefixList, IsOriginList}
+use Rattle.ixp_num_tables.proofs.FirstNumbers.{key_up, same_first, less_first}
 use Rattle.ixp_rows.proofs.Gathered.{all_joined}
 
 never_less : {X : Type 0} → order [] [] ≡ Less → X

@@ -2,19 +2,19 @@
 use Rattle.std.proofs.Common.{◌≡◌, ℕ, suc, Bool, true, false, List, [], ◌∷◌, ◌++◌, length, take, drop, append_assoc, append-nil, Option, Some, None, Result, Ok, Err, refl, sym, ap, ◌∙◌, if◌then◌else◌}
 use Rattle.ixp_registry.specs.declared.router.Router.{Router}
 use Rattle.ixp_registry.specs.declared.rows.Rows.{Rows}
-use Rattle.ixp_tables.specs.Tables.{same}
+use Rattle.ixp_num_tables.specs.Tables.{same}
 use Rattle.ixp_registry.specs.declared.kind.Kind.{Kind}
 use Rattle.ixp_registry.specs.declared.kind.Kind.TheVariants.{Sites, Members, Contacts, Keys, Switches, Ports, Vlans, Interfaces, Addresses, Routers, Prefixes, Origins, Rules, Bogons, BogonAs, Transit, Roas}
-use Rattle.ixp_lines.specs.declared.version.Version.{Version}
-use Rattle.ixp_lines.specs.declared.version.Version.TheVariants.{One, Two}
-use Rattle.ixp_lines.specs.Fields.{Field}
-use Rattle.ixp_lines.specs.Lines.{Line, text_of, line_text, site_line, member_line, contact_line, key_line, switch_line, port_line, vlan_line, interface_line, address_line, router_line, prefix_line, origin_line, rule_line, bogon_line, bogon_as_line, transit_line, roa_line}
+use Rattle.ixp_rows_lines.specs.declared.version.Version.{Version}
+use Rattle.ixp_rows_lines.specs.declared.version.Version.TheVariants.{One, Two}
+use Rattle.ixp_rows_lines.specs.Fields.{Field}
+use Rattle.ixp_rows_lines.specs.Lines.{Line, text_of, line_text, site_line, member_line, contact_line, key_line, switch_line, port_line, vlan_line, interface_line, address_line, router_line, prefix_line, origin_line, rule_line, bogon_line, bogon_as_line, transit_line, roa_line}
 use Rattle.ixp_rows.specs.declared.misread.Misread.{Misread}
 use Rattle.ixp_rows.specs.declared.misread.Misread.TheVariants.{Bad}
 use Rattle.ixp_rows.specs.Reading.{◌>>=◌, begun, needed, unless, line_at, section, sections_at, lists_at, rows_at, head_text, after_text, end_text, ended_with, ended, stray, total, dump_at, owner_kinds, network_kinds, steering_kinds, public_kinds}
 use Rattle.ixp_rows.specs.Groups.{fields_by, row_fields}
 use Rattle.ixp_rows.specs.Texts.{lines_by, lines_text, dump_text}
-use Rattle.ixp_lines.proofs.Spelling.{some_is, none_some}
+use Rattle.ixp_rows_lines.proofs.Spelling.{some_is, none_some}
 use Rattle.ixp_rows.proofs.Counts.{total_rows}
 use Rattle.ixp_rows.proofs.Spelt.{ok_is, err_ok, front_found, line_found, texts, rows_found}
 

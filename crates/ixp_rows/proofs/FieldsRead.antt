@@ -3,8 +3,8 @@ use Rattle.std.proofs.Common.{◌≡◌, ◌≢◌, ℕ, ◌<◌, ◌^◌, List,
 use Rattle.std.specs.List.{AllByRecursion}
 use Rattle.ixp_num.specs.declared.asn.Asn.{Asn}
 use Rattle.ixp_num.specs.declared.prefix.Prefix.{Prefix}
-use Rattle.ixp_tables.proofs.AllItems.{all_mapped, all_flat, zip}
-use Rattle.ixp_tables.proofs.Orders.{all_weaker}
+use Rattle.ixp_num_tables.proofs.AllItems.{all_mapped, all_flat, zip}
+use Rattle.ixp_num_tables.proofs.Orders.{all_weaker}
 use Rattle.ixp_registry.specs.declared.network.IfAddr.{IfAddr}
 use Rattle.ixp_registry.specs.declared.router.Router.{Router}
 use Rattle.ixp_registry.specs.declared.lists.IrrList.{IrrList}
@@ -16,11 +16,11 @@ use Rattle.ixp_registry.specs.declared.rules.RuleList.{RuleList}
 use Rattle.ixp_registry.specs.declared.registry.Registry.{Registry}
 use Rattle.ixp_registry.specs.Registries.{rows_of, bare, address_rows, addresses_of, prefixes_of, origins_of, rules_in}
 use Rattle.ixp_registry.specs.Widths.{IsNumber, MemberFits, ContactFits, KeyFits, SwitchFits, PortFits, VlanFits, AddressFits, RouterFits, RuleFits, AsnFits, RangeFits, RoaFits}
-use Rattle.ixp_validity.specs.WellFormed.{FieldsFit, HasLists}
-use Rattle.ixp_lines.specs.declared.version.Version.{Version}
-use Rattle.ixp_lines.specs.declared.version.Version.TheVariants.{One, Two}
-use Rattle.ixp_lines.specs.Fields.{Fits, Or, ANumber}
-use Rattle.ixp_lines.specs.Lines.{IsLine, IsOfVersion, field_or, asn_field, member_line, contact_line, key_line, switch_line, port_line, vlan_line, interface_line, address_line, router_line, prefix_line, origin_line, rule_line, bogon_as_line, transit_line, roa_line}
+use Rattle.ixp_registry_laws.specs.WellFormed.{FieldsFit, HasLists}
+use Rattle.ixp_rows_lines.specs.declared.version.Version.{Version}
+use Rattle.ixp_rows_lines.specs.declared.version.Version.TheVariants.{One, Two}
+use Rattle.ixp_rows_lines.specs.Fields.{Fits, Or, ANumber}
+use Rattle.ixp_rows_lines.specs.Lines.{IsLine, IsOfVersion, field_or, asn_field, member_line, contact_line, key_line, switch_line, port_line, vlan_line, interface_line, address_line, router_line, prefix_line, origin_line, rule_line, bogon_as_line, transit_line, roa_line}
 use Rattle.ixp_rows.specs.Answers.{row_lines}
 use Rattle.ixp_rows.proofs.Parts.{of_rows}
 

@@ -11,11 +11,11 @@ use Rattle.std.specs.declared.cmp.Ordering.TheVariants.{Less, Equal, Greater}
 use Rattle.ixp_num.specs.AddressForms.{version_of}
 use Rattle.ixp_num.specs.declared.family.Family.{Family}
 use Rattle.ixp_num.specs.declared.family.Family.TheVariants.{V4, V6}
-use Rattle.ixp_tables.specs.Tables.{order, Ascends, find}
-use Rattle.ixp_tables.proofs.FirstNumbers.{key_up}
-use Rattle.ixp_tables.proofs.Orders.{order_same, order_equal, all_weaker}
-use Rattle.ixp_tables.proofs.Places.{Ascends_behind}
-use Rattle.ixp_tables.proofs.TableLaws.{find_past}
+use Rattle.ixp_num_tables.specs.Tables.{order, Ascends, find}
+use Rattle.ixp_num_tables.proofs.FirstNumbers.{key_up}
+use Rattle.ixp_num_tables.proofs.Orders.{order_same, order_equal, all_weaker}
+use Rattle.ixp_num_tables.proofs.Places.{Ascends_behind}
+use Rattle.ixp_num_tables.proofs.TableLaws.{find_past}
 use Rattle.ixp_registry.specs.declared.network.IfAddr.{IfAddr}
 use Rattle.ixp_registry.specs.declared.network.Interface.{Interface}
 use Rattle.ixp_registry.specs.declared.network.InterfaceRow.{InterfaceRow}
@@ -28,9 +28,9 @@ use Rattle.ixp_registry.specs.Lines.{addresses_at}
 use Rattle.ixp_registry.specs.Lookups.{has_interface}
 use Rattle.ixp_registry.specs.Rules.{addresses_have_interfaces}
 use Rattle.ixp_registry.proofs.Placing.{first_here, first_on}
-use Rattle.ixp_lines.proofs.Spelling.{none_some}
+use Rattle.ixp_rows_lines.proofs.Spelling.{none_some}
 use Rattle.ixp_rows.specs.Gathering.{Misses}
-use Rattle.ixp_valid.proofs.Lists.{take_next}
+use Rattle.ixp_registry_breach.proofs.Lists.{take_next}
 
 -- Lists
 pub all_more : {X : Type 0} (P : X → Type 0) (xs : List X) (x : X) → AllByRecursion P xs → P x → AllByRecursion P (xs ++ x ∷ [])

@@ -2,9 +2,9 @@
 use Rattle.std.proofs.Common.{◌≡◌, ℕ, suc, ◌<◌, List, [], ◌∷◌, ◌++◌, length, map, refl, sym, ap, ◌∙◌, subst, arith}
 use Rattle.std.specs.List.{AllByRecursion}
 use Rattle.ixp_registry.specs.declared.kind.Kind.{Kind}
-use Rattle.ixp_lines.specs.declared.version.Version.{Version}
-use Rattle.ixp_lines.specs.Fields.{Field}
-use Rattle.ixp_lines.specs.Lines.{Line, place_of}
+use Rattle.ixp_rows_lines.specs.declared.version.Version.{Version}
+use Rattle.ixp_rows_lines.specs.Fields.{Field}
+use Rattle.ixp_rows_lines.specs.Lines.{Line, place_of}
 use Rattle.ixp_rows.proofs.Standing.{line_of, section_lines, Consecutive}
 
 -- all lines are of kinds behind a place

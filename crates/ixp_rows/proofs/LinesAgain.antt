@@ -4,19 +4,19 @@ use Rattle.std.specs.Fmt.{digit_glyph, digits_onto, digits}
 use Rattle.std.specs.List.{AllByRecursion}
 use Rattle.std.proofs.Math.Seq.{take-append_seam, drop-append_seam}
 use Rattle.std.proofs.lemmas.Bool.{eq-eqb, eqb-true, or_parts}
-use Rattle.ixp_tables.specs.Tables.{same}
+use Rattle.ixp_num_tables.specs.Tables.{same}
 use Rattle.ixp_registry.specs.declared.kind.Kind.{Kind}
 use Rattle.ixp_registry.specs.declared.kind.Kind.TheVariants.{Sites, Members, Contacts, Keys, Switches, Ports, Vlans, Interfaces, Addresses, Routers, Prefixes, Origins, Rules, Bogons, BogonAs, Transit, Roas}
-use Rattle.ixp_lines.specs.declared.version.Version.{Version}
-use Rattle.ixp_lines.specs.declared.version.Version.TheVariants.{One, Two}
-use Rattle.ixp_lines.specs.Fields.{Field, field_text, Piece, AllFit}
+use Rattle.ixp_rows_lines.specs.declared.version.Version.{Version}
+use Rattle.ixp_rows_lines.specs.declared.version.Version.TheVariants.{One, Two}
+use Rattle.ixp_rows_lines.specs.Fields.{Field, field_text, Piece, AllFit}
 use Rattle.ixp_registry.specs.Kinds.{word_of}
-use Rattle.ixp_lines.specs.Lines.{Line, place_of, form_of, spelled, line_text, IsLine}
-use Rattle.ixp_lines.specs.Reading.{fields_at}
-use Rattle.ixp_lines.proofs.Spelling.{some_is, none_some, joined}
-use Rattle.ixp_lines.proofs.Unbroken.{NoBreak, Unbroken, IsClear, field_unbroken}
-use Rattle.ixp_lines.proofs.Again.{same_refl, fields_again, form_clear}
-use Rattle.ixp_lines.proofs.Fitting.{fields_fit}
+use Rattle.ixp_rows_lines.specs.Lines.{Line, place_of, form_of, spelled, line_text, IsLine}
+use Rattle.ixp_rows_lines.specs.Reading.{fields_at}
+use Rattle.ixp_rows_lines.proofs.Spelling.{some_is, none_some, joined}
+use Rattle.ixp_rows_lines.proofs.Unbroken.{NoBreak, Unbroken, IsClear, field_unbroken}
+use Rattle.ixp_rows_lines.proofs.Again.{same_refl, fields_again, form_clear}
+use Rattle.ixp_rows_lines.proofs.Fitting.{fields_fit}
 use Rattle.ixp_rows.specs.Reading.{behind, line_with, line_at, after_text, end_text, breaks}
 use Rattle.ixp_rows.proofs.Spelt.{front_found}
 

@@ -9,21 +9,21 @@ use Rattle.ixp_num.specs.declared.family.Family.{Family}
 use Rattle.ixp_num.specs.declared.family.Family.TheVariants.{V4, V6}
 use Rattle.ixp_num.specs.declared.asn.Asn.{Asn}
 use Rattle.ixp_num.specs.declared.prefix.Prefix.{Prefix}
-use Rattle.ixp_tables.specs.Tables.{order, Ascends}
-use Rattle.ixp_tables.proofs.Orders.{chained}
-use Rattle.ixp_tables.proofs.Places.{Ascends_before}
-use Rattle.ixp_tables.proofs.Views.{ascends_all}
+use Rattle.ixp_num_tables.specs.Tables.{order, Ascends}
+use Rattle.ixp_num_tables.proofs.Orders.{chained}
+use Rattle.ixp_num_tables.proofs.Places.{Ascends_before}
+use Rattle.ixp_num_tables.proofs.Views.{ascends_all}
 use Rattle.ixp_registry.specs.declared.lists.IrrList.{IrrList}
 use Rattle.ixp_registry.specs.declared.lists.OriginList.{OriginList}
 use Rattle.ixp_registry.specs.declared.lists.MemberPrefix.{MemberPrefix}
 use Rattle.ixp_registry.specs.declared.lists.MemberOrigin.{MemberOrigin}
 use Rattle.ixp_registry.specs.Keys.{member_prefix_key, member_origin_key, rule_key, irr_key, origins_key, rules_key}
-use Rattle.ixp_sorted.specs.Keys.{prefix_key, asn_key}
+use Rattle.ixp_num_sorted.specs.Keys.{prefix_key, asn_key}
 use Rattle.ixp_registry.specs.declared.rules.MemberRule.{MemberRule}
 use Rattle.ixp_registry.specs.declared.rules.RuleList.{RuleList}
 use Rattle.ixp_registry.specs.Registries.{prefixes_of, origins_of, rules_in}
-use Rattle.ixp_validity.specs.WellFormed.{IsPrefixList, IsOriginList, IsRuleList}
-use Rattle.ixp_tables.proofs.FirstNumbers.{key_up, same_first, less_first}
+use Rattle.ixp_registry_laws.specs.WellFormed.{IsPrefixList, IsOriginList, IsRuleList}
+use Rattle.ixp_num_tables.proofs.FirstNumbers.{key_up, same_first, less_first}
 use Rattle.ixp_rows.specs.Gathering.{AreListed}
 use Rattle.ixp_rows.proofs.Gathered.{all_more, all_behind}
 

@@ -4,12 +4,12 @@ use Rattle.std.specs.List.{AllByRecursion}
 use Rattle.std.specs.declared.cmp.Ordering.{Ordering}
 use Rattle.std.specs.declared.cmp.Ordering.TheVariants.{Less, Equal, Greater}
 use Rattle.std.proofs.lemmas.List.{append_cancel_left}
-use Rattle.ixp_tables.specs.Tables.{order, Ascends}
-use Rattle.ixp_tables.proofs.Views.{Ascends-last}
+use Rattle.ixp_num_tables.specs.Tables.{order, Ascends}
+use Rattle.ixp_num_tables.proofs.Views.{Ascends-last}
 use Rattle.ixp_registry.specs.declared.rows.Rows.{Rows}
-use Rattle.ixp_lines.specs.declared.version.Version.{Version}
-use Rattle.ixp_lines.specs.Lines.{Line, place_of, line_text, IsLine, IsOfVersion, key_of}
-use Rattle.ixp_lines.proofs.Spelling.{some_is, none_some}
+use Rattle.ixp_rows_lines.specs.declared.version.Version.{Version}
+use Rattle.ixp_rows_lines.specs.Lines.{Line, place_of, line_text, IsLine, IsOfVersion, key_of}
+use Rattle.ixp_rows_lines.proofs.Spelling.{some_is, none_some}
 use Rattle.ixp_rows.specs.declared.fault.DumpFault.{DumpFault}
 use Rattle.ixp_rows.specs.declared.fault.DumpFault.TheVariants.{BadLine, Order, Twice, Invalid, NoMemory}
 use Rattle.ixp_rows.specs.Reading.{line_at, head_text, end_text}

@@ -4,16 +4,16 @@ use Rattle.ixp_registry.specs.declared.breach.Breach.{Breach}
 use Rattle.ixp_registry.specs.declared.registry.Registry.{Registry}
 use Rattle.ixp_registry.specs.declared.rows.Rows.{Rows}
 use Rattle.ixp_registry.specs.Registries.{rows_of, breach}
-use Rattle.ixp_lines.specs.declared.version.Version.{Version}
-use Rattle.ixp_lines.proofs.Spelling.{some_is, none_some}
+use Rattle.ixp_rows_lines.specs.declared.version.Version.{Version}
+use Rattle.ixp_rows_lines.proofs.Spelling.{some_is, none_some}
 use Rattle.ixp_rows.specs.declared.fault.DumpFault.{DumpFault}
 use Rattle.ixp_rows.specs.declared.fault.DumpFault.TheVariants.{BadLine, Order, Twice, Invalid, NoMemory}
 use Rattle.ixp_rows.specs.Answers.{DumpAnswer}
 use Rattle.ixp_rows.specs.Dumps.{RegistryAnswer}
 use Rattle.ixp_rows.proofs.OneAnswer.{one_answer}
 use Rattle.ixp_rows.proofs.SameRows.{rows_tell}
-use Rattle.ixp_validity.proofs.Sentences.{unbroken}
-use Rattle.ixp_validity.proofs.ToRules.{all_kept}
+use Rattle.ixp_registry_laws.proofs.Sentences.{unbroken}
+use Rattle.ixp_registry_laws.proofs.ToRules.{all_kept}
 
 abbrev Read : Type 0
 Read = Result Rows DumpFault

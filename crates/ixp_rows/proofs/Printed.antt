@@ -8,8 +8,8 @@ use Rattle.ixp_registry.specs.declared.lists.OriginList.{OriginList}
 use Rattle.ixp_registry.specs.declared.rows.Rows.{Rows}
 use Rattle.ixp_registry.specs.declared.rules.RuleList.{RuleList}
 use Rattle.ixp_registry.specs.Registries.{address_rows, addresses_of, prefixes_of, origins_of, rules_in}
-use Rattle.ixp_lines.specs.declared.version.Version.{Version}
-use Rattle.ixp_lines.specs.Lines.{Line, line_text, address_line, prefix_line, origin_line, rule_line, roa_line}
+use Rattle.ixp_rows_lines.specs.declared.version.Version.{Version}
+use Rattle.ixp_rows_lines.specs.Lines.{Line, line_text, address_line, prefix_line, origin_line, rule_line, roa_line}
 use Rattle.ixp_rows.specs.Reading.{sum}
 use Rattle.ixp_rows.specs.Texts.{lines_by, lines_text, rows_count}
 use Rattle.ixp_rows.specs.Printing.{all_kinds, kind_lines, kind_count}

@@ -3,10 +3,10 @@ use Rattle.std.proofs.Common.{◌≡◌, ℕ, List, [], ◌∷◌, get_or, refl,
 use Rattle.std.specs.List.{AllByRecursion}
 use Rattle.ixp_registry.specs.declared.rows.Rows.{Rows}
 use Rattle.ixp_registry.specs.declared.rules.MemberRule.{MemberRule}
-use Rattle.ixp_lines.specs.declared.version.Version.{Version}
-use Rattle.ixp_lines.specs.Fields.{Field, Word, Fits}
-use Rattle.ixp_lines.specs.Lines.{Line, IsLine, IsOfVersion, action_word, actions, site_line, member_line, contact_line, key_line, switch_line, port_line, vlan_line, interface_line, address_line, router_line, prefix_line, origin_line, rule_line, bogon_line, bogon_as_line, transit_line, roa_line}
-use Rattle.ixp_lines.proofs.Telling.{site_told, member_told, contact_told, key_told, switch_told, port_told, vlan_told, interface_told, address_told, router_told, prefix_row_told, origin_told, rule_told, bogon_told, bogon_as_told, transit_told, roa_told}
+use Rattle.ixp_rows_lines.specs.declared.version.Version.{Version}
+use Rattle.ixp_rows_lines.specs.Fields.{Field, Word, Fits}
+use Rattle.ixp_rows_lines.specs.Lines.{Line, IsLine, IsOfVersion, action_word, actions, site_line, member_line, contact_line, key_line, switch_line, port_line, vlan_line, interface_line, address_line, router_line, prefix_line, origin_line, rule_line, bogon_line, bogon_as_line, transit_line, roa_line}
+use Rattle.ixp_rows_lines.proofs.Telling.{site_told, member_told, contact_told, key_told, switch_told, port_told, vlan_told, interface_told, address_told, router_told, prefix_row_told, origin_told, rule_told, bogon_told, bogon_as_told, transit_told, roa_told}
 use Rattle.ixp_rows.specs.Groups.{fields_by, row_fields}
 use Rattle.ixp_rows.specs.Answers.{row_lines}
 use Rattle.ixp_rows.proofs.DumpsSpelt.{dump_kinds}
@@ -14,7 +14,7 @@ use Rattle.ixp_rows.proofs.Standing.{Consecutive}
 use Rattle.ixp_rows.proofs.Answering.{row_lines_are}
 use Rattle.ixp_rows.proofs.KindsApart.{sections_same}
 use Rattle.ixp_rows.proofs.Parts.{of_rows}
-use Rattle.ixp_tables.proofs.Orders.{all_weaker}
+use Rattle.ixp_num_tables.proofs.Orders.{all_weaker}
 
 pub all_kinds : (version : Version) (t : List ℕ) → Consecutive version t 0 dump_kinds
 all_kinds version t = (refl, (refl, (refl, (refl, (refl, (refl, (refl, (refl, (refl, (refl, (refl, (refl, (refl, (refl, (refl, (refl, (refl, tt)))))))))))))))))

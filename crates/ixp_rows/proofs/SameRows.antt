@@ -8,9 +8,9 @@ use Rattle.ixp_num.specs.declared.asn.Asn.{Asn}
 use Rattle.ixp_num.specs.declared.prefix.Prefix.{Prefix}
 use Rattle.ixp_num.specs.AddressForms.{version_of}
 use Rattle.ixp_num.proofs.SameParts.{family_same}
-use Rattle.ixp_tables.specs.Tables.{order, Ascends}
-use Rattle.ixp_tables.proofs.AllItems.{all_both, all_true, mapped_all, flat_all}
-use Rattle.ixp_tables.proofs.Orders.{all_weaker, order_same}
+use Rattle.ixp_num_tables.specs.Tables.{order, Ascends}
+use Rattle.ixp_num_tables.proofs.AllItems.{all_both, all_true, mapped_all, flat_all}
+use Rattle.ixp_num_tables.proofs.Orders.{all_weaker, order_same}
 use Rattle.ixp_registry.specs.declared.site.Site.{Site}
 use Rattle.ixp_registry.specs.declared.members.Member.{Member}
 use Rattle.ixp_registry.specs.declared.members.Contact.{Contact}
@@ -34,8 +34,8 @@ use Rattle.ixp_registry.specs.declared.registry.Registry.{Registry}
 use Rattle.ixp_registry.specs.Keys.{interface_key, irr_key, origins_key, rules_key}
 use Rattle.ixp_registry.specs.Registries.{rows_of, bare, address_rows, addresses_of, prefixes_of, origins_of, rules_in}
 use Rattle.ixp_registry.specs.Valid.{Valid, IsIn}
-use Rattle.ixp_validity.specs.WellFormed.{HasColumns, IsPrefixList, IsOriginList, IsRuleList}
-use Rattle.ixp_validity.proofs.ToRules.{well_formed}
+use Rattle.ixp_registry_laws.specs.WellFormed.{HasColumns, IsPrefixList, IsOriginList, IsRuleList}
+use Rattle.ixp_registry_laws.proofs.ToRules.{well_formed}
 
 module _ {X : Type 0} where
   head_same : (x y : X) (xs ys : List X) → x ∷ xs ≡ y ∷ ys → x ≡ y

@@ -4,10 +4,10 @@ use Rattle.std.specs.List.{AllByRecursion}
 use Rattle.std.specs.Ordering.{match_ordering}
 use Rattle.std.specs.declared.cmp.Ordering.{Ordering}
 use Rattle.std.specs.declared.cmp.Ordering.TheVariants.{Less, Equal, Greater}
-use Rattle.ixp_tables.specs.Tables.{order}
+use Rattle.ixp_num_tables.specs.Tables.{order}
 use Rattle.ixp_registry.specs.declared.kind.Kind.{Kind}
-use Rattle.ixp_lines.specs.declared.version.Version.{Version}
-use Rattle.ixp_lines.specs.Fields.{Field}
+use Rattle.ixp_rows_lines.specs.declared.version.Version.{Version}
+use Rattle.ixp_rows_lines.specs.Fields.{Field}
 use Rattle.ixp_rows.specs.declared.misread.Misread.{Misread}
 use Rattle.ixp_rows.specs.declared.misread.Misread.TheVariants.{Bad, Order, Twice, NoMemory}
 use Rattle.ixp_rows.specs.Reading.{Fails, ◌>>=◌, key_in, last_key, LastBelow, misplaced, unless, begun, line_at, behind_row, more_with, rows_from}

@@ -8,8 +8,8 @@ use Rattle.ixp_registry.specs.declared.rules.Action.{Action}
 use Rattle.ixp_registry.specs.declared.rules.Action.TheVariants.{AsIs, Prepend, Stop}
 use Rattle.ixp_registry.specs.Alphabets.{has_length, is_letter_or_digit, is_secret_byte, is_session_secret, is_key_secret}
 use Rattle.ixp_registry.specs.Words.{is_action_of}
-use Rattle.ixp_lines.specs.Fields.{is_break}
-use Rattle.ixp_lines.specs.Lines.{IsSecret, IsAction}
+use Rattle.ixp_rows_lines.specs.Fields.{is_break}
+use Rattle.ixp_rows_lines.specs.Lines.{IsSecret, IsAction}
 
 -- Secrets: bytes of an alphabet without a blank, a line's end and `-`
 module _ (test : ℕ → Bool) (blank : test 32 ≡ false) (end : test 10 ≡ false) (dash : test 45 ≡ false) where

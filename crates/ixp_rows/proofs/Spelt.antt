@@ -1,13 +1,13 @@
 -- What is read is the text of its rows.
 use Rattle.std.proofs.Common.{◌≡◌, ℕ, zero, suc, Bool, true, false, ◌==◌, List, [], ◌∷◌, ◌++◌, length, take, drop, take-append-drop, append_assoc, flat_map, Option, Some, None, option_map, Result, Ok, Err, refl, sym, ap, ◌∙◌, if◌then◌else◌}
 use Rattle.ixp_registry.specs.declared.kind.Kind.{Kind}
-use Rattle.ixp_lines.specs.declared.version.Version.{Version}
-use Rattle.ixp_lines.specs.Fields.{Field}
+use Rattle.ixp_rows_lines.specs.declared.version.Version.{Version}
+use Rattle.ixp_rows_lines.specs.Fields.{Field}
 use Rattle.ixp_registry.specs.Kinds.{word_of}
-use Rattle.ixp_lines.specs.Lines.{form_of, spelled, text_of}
-use Rattle.ixp_lines.specs.Reading.{fields_at}
-use Rattle.ixp_lines.proofs.Spelling.{some_is, none_some, same_is, fields_found}
-use Rattle.ixp_tables.specs.Tables.{same}
+use Rattle.ixp_rows_lines.specs.Lines.{form_of, spelled, text_of}
+use Rattle.ixp_rows_lines.specs.Reading.{fields_at}
+use Rattle.ixp_rows_lines.proofs.Spelling.{some_is, none_some, same_is, fields_found}
+use Rattle.ixp_num_tables.specs.Tables.{same}
 use Rattle.ixp_rows.specs.declared.misread.Misread.{Misread}
 use Rattle.ixp_rows.specs.declared.misread.Misread.TheVariants.{Bad}
 use Rattle.ixp_rows.specs.Reading.{◌>>=◌, with_blank, behind, key_in, misplaced, unless, line_with, line_at, begun, behind_row, more_with, rows_from}

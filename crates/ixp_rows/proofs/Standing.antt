@@ -9,15 +9,15 @@ use Rattle.std.proofs.Math.Seq.{take-append_seam}
 use Rattle.std.proofs.lemmas.Cmp.{nat_cmp_total, tied_itself}
 use Rattle.std.proofs.lemmas.Grind.{flat_map-append}
 use Rattle.std.proofs.lemmas.List.{length-map}
-use Rattle.ixp_tables.specs.Tables.{order}
-use Rattle.ixp_tables.proofs.Views.{Ascends-more}
+use Rattle.ixp_num_tables.specs.Tables.{order}
+use Rattle.ixp_num_tables.proofs.Views.{Ascends-more}
 use Rattle.ixp_registry.specs.declared.kind.Kind.{Kind}
-use Rattle.ixp_lines.specs.declared.version.Version.{Version}
-use Rattle.ixp_lines.specs.declared.version.Version.TheVariants.{One, Two}
-use Rattle.ixp_lines.specs.Fields.{Field, field_text}
+use Rattle.ixp_rows_lines.specs.declared.version.Version.{Version}
+use Rattle.ixp_rows_lines.specs.declared.version.Version.TheVariants.{One, Two}
+use Rattle.ixp_rows_lines.specs.Fields.{Field, field_text}
 use Rattle.ixp_registry.specs.Kinds.{word_of}
-use Rattle.ixp_lines.specs.Lines.{Line, place_of, spelled, line_text, IsLine, field_key, key_length, key_of}
-use Rattle.ixp_lines.proofs.Spelling.{none_some}
+use Rattle.ixp_rows_lines.specs.Lines.{Line, place_of, spelled, line_text, IsLine, field_key, key_length, key_of}
+use Rattle.ixp_rows_lines.proofs.Spelling.{none_some}
 use Rattle.ixp_rows.specs.declared.misread.Misread.{Misread}
 use Rattle.ixp_rows.specs.declared.misread.Misread.TheVariants.{Bad, Order, Twice, NoMemory}
 use Rattle.ixp_rows.specs.Reading.{◌>>=◌, key_in, misplaced, unless, begun, line_at, behind_row, more_with, rows_from, section, sections_at, head_text, end_text, total, breaks, line_with_left, fault_of}

@@ -4,10 +4,10 @@ use Rattle.ixp_registry.specs.declared.registry.Registry.{Registry}
 use Rattle.ixp_registry.specs.declared.rows.Rows.{Rows}
 use Rattle.ixp_registry.specs.Registries.{rows_of, breach}
 use Rattle.ixp_registry.specs.Rules.{addresses_have_interfaces}
-use Rattle.ixp_validity.specs.WellFormed.{AreOrdered, HasLists}
-use Rattle.ixp_validity.proofs.FromRules.{all_valid}
-use Rattle.ixp_validity.proofs.Sentences.{sentences}
-use Rattle.ixp_lines.specs.declared.version.Version.{Version}
+use Rattle.ixp_registry_laws.specs.WellFormed.{AreOrdered, HasLists}
+use Rattle.ixp_registry_laws.proofs.FromRules.{all_valid}
+use Rattle.ixp_registry_laws.proofs.Sentences.{sentences}
+use Rattle.ixp_rows_lines.specs.declared.version.Version.{Version}
 use Rattle.ixp_rows.specs.declared.fault.DumpFault.{DumpFault}
 use Rattle.ixp_rows.specs.declared.fault.DumpFault.TheVariants.{BadLine, Order, Twice, Invalid, NoMemory}
 use Rattle.ixp_rows.specs.Answers.{DumpAnswer}

@@ -7,9 +7,9 @@ use Rattle.ixp_num.specs.declared.family.Family.TheVariants.{V4, V6}
 use Rattle.ixp_num.specs.declared.pattern.Pattern.{Pattern}
 use Rattle.ixp_num.specs.declared.roa.Roa.{Roa}
 use Rattle.ixp_num.specs.Families.{bits_of}
-use Rattle.ixp_tables.specs.Tables.{if_there}
-use Rattle.ixp_tables.proofs.AllItems.{all_both, all_true, mapped_all, flat_all, zip}
-use Rattle.ixp_tables.proofs.Orders.{all_weaker}
+use Rattle.ixp_num_tables.specs.Tables.{if_there}
+use Rattle.ixp_num_tables.proofs.AllItems.{all_both, all_true, mapped_all, flat_all, zip}
+use Rattle.ixp_num_tables.proofs.Orders.{all_weaker}
 use Rattle.ixp_registry.specs.declared.network.IfAddr.{IfAddr}
 use Rattle.ixp_registry.specs.declared.network.Interface.{Interface}
 use Rattle.ixp_registry.specs.declared.rules.MemberRule.{MemberRule}
@@ -19,11 +19,11 @@ use Rattle.ixp_registry.specs.Registries.{rows_of, bare, address_rows, addresses
 use Rattle.ixp_registry.specs.Valid.{Valid, ValidMember, ValidContact, ValidKey, ValidSwitch, ValidPort, ValidVlan, ValidInterface, ValidRouter, ValidIrrList, ValidOriginList, ValidRuleList, IsIn}
 use Rattle.ixp_registry.specs.Widths.{IsNumber, AddressFits, RuleFits, AsnFits, RangeFits}
 use Rattle.ixp_registry.specs.Words.{is_action_of, is_lawful, pattern_has_bounds, roa_has_bounds}
-use Rattle.ixp_validity.specs.WellFormed.{IsPrefixList, IsOriginList}
-use Rattle.ixp_validity.proofs.Bare.{own_addresses}
-use Rattle.ixp_lines.specs.declared.version.Version.TheVariants.{Two}
-use Rattle.ixp_lines.specs.Lines.{IsLine, member_line, contact_line, key_line, switch_line, port_line, vlan_line, interface_line, address_line, router_line, prefix_line, origin_line, rule_line, bogon_line, bogon_as_line, transit_line}
-use Rattle.ixp_lines.proofs.Lawful.{site_lawful, member_lawful, contact_lawful, key_lawful, switch_lawful, port_lawful, vlan_lawful, interface_lawful, address_lawful, router_lawful, prefix_lawful, origin_lawful, rule_lawful, bogon_lawful, bogon_as_lawful, transit_lawful, roa_lawful}
+use Rattle.ixp_registry_laws.specs.WellFormed.{IsPrefixList, IsOriginList}
+use Rattle.ixp_registry_laws.proofs.Bare.{own_addresses}
+use Rattle.ixp_rows_lines.specs.declared.version.Version.TheVariants.{Two}
+use Rattle.ixp_rows_lines.specs.Lines.{IsLine, member_line, contact_line, key_line, switch_line, port_line, vlan_line, interface_line, address_line, router_line, prefix_line, origin_line, rule_line, bogon_line, bogon_as_line, transit_line}
+use Rattle.ixp_rows_lines.proofs.Lawful.{site_lawful, member_lawful, contact_lawful, key_lawful, switch_lawful, port_lawful, vlan_lawful, interface_lawful, address_lawful, router_lawful, prefix_lawful, origin_lawful, rule_lawful, bogon_lawful, bogon_as_lawful, transit_lawful, roa_lawful}
 use Rattle.ixp_rows.specs.Answers.{row_lines, AllAscend}
 use Rattle.ixp_rows.specs.Dumps.{RegistryAnswer}
 use Rattle.ixp_rows.specs.Texts.{dump_text}

@@ -3,13 +3,13 @@ use Rattle.std.specs.Prelude.{◌≡◌, ◌≢◌, ℕ, ◌+◌, ◌-◌, ◌<�
 use Rattle.std.specs.List.{AllByRecursion}
 use Rattle.std.specs.declared.cmp.Ordering.{Ordering}
 use Rattle.std.specs.declared.cmp.Ordering.TheVariants.{Equal, Greater}
-use Rattle.ixp_tables.specs.Tables.{order, Ascends}
+use Rattle.ixp_num_tables.specs.Tables.{order, Ascends}
 use Rattle.ixp_registry.specs.Keys.{member_key, contact_key, api_key_key, switch_key, port_key, vlan_key, interface_row_key, address_key, router_key, member_prefix_key, member_origin_key, rule_key}
-use Rattle.ixp_sorted.specs.Keys.{pattern_key, asn_key, range_key, roa_key}
+use Rattle.ixp_num_sorted.specs.Keys.{pattern_key, asn_key, range_key, roa_key}
 use Rattle.ixp_registry.specs.declared.rows.Rows.{Rows}
 use Rattle.ixp_registry.specs.declared.kind.Kind.TheVariants.{Sites}
-use Rattle.ixp_lines.specs.declared.version.Version.{Version}
-use Rattle.ixp_lines.specs.Lines.{Line, IsLine, IsOfVersion, line_text, key_of, site_line, member_line, contact_line, key_line, switch_line, port_line, vlan_line, interface_line, address_line, router_line, prefix_line, origin_line, rule_line, bogon_line, bogon_as_line, transit_line, roa_line}
+use Rattle.ixp_rows_lines.specs.declared.version.Version.{Version}
+use Rattle.ixp_rows_lines.specs.Lines.{Line, IsLine, IsOfVersion, line_text, key_of, site_line, member_line, contact_line, key_line, switch_line, port_line, vlan_line, interface_line, address_line, router_line, prefix_line, origin_line, rule_line, bogon_line, bogon_as_line, transit_line, roa_line}
 use Rattle.ixp_rows.specs.declared.fault.DumpFault.{DumpFault}
 use Rattle.ixp_rows.specs.declared.fault.DumpFault.TheVariants.{BadLine, Order, Twice, Invalid, NoMemory}
 use Rattle.ixp_rows.specs.Reading.{head_text, end_text}

@@ -1,8 +1,8 @@
 -- How a fault of a dump is told.
 use Rattle.std.specs.Prelude.{Option, Some, None}
-use Rattle.ixp_causes.specs.declared.Cause.{Cause}
-use Rattle.ixp_causes.specs.declared.Code.TheVariants.{U1, U2, U3, U4}
-use Rattle.ixp_causes.specs.declared.Place.TheVariants.{Line, Rule}
+use Rattle.ixp_num.specs.declared.cause.Cause.{Cause}
+use Rattle.ixp_num.specs.declared.cause.Code.TheVariants.{U1, U2, U3, U4}
+use Rattle.ixp_num.specs.declared.cause.Place.TheVariants.{Line, Rule}
 use Rattle.ixp_rows.specs.declared.fault.DumpFault.{DumpFault}
 use Rattle.ixp_rows.specs.declared.fault.DumpFault.TheVariants.{BadLine, Order, Twice, Invalid, NoMemory}
 

@@ -4,8 +4,8 @@ use Rattle.ixp_registry.specs.declared.registry.Registry.{Registry}
 use Rattle.ixp_registry.specs.declared.rows.Rows.{Rows}
 use Rattle.ixp_registry.specs.Registries.{rows_of, breach}
 use Rattle.ixp_registry.specs.Valid.{Valid}
-use Rattle.ixp_lines.specs.declared.version.Version.{Version}
-use Rattle.ixp_lines.specs.declared.version.Version.TheVariants.{One, Two}
+use Rattle.ixp_rows_lines.specs.declared.version.Version.{Version}
+use Rattle.ixp_rows_lines.specs.declared.version.Version.TheVariants.{One, Two}
 use Rattle.ixp_rows.specs.Reading.{head_text, after_text}
 use Rattle.ixp_rows.specs.declared.fault.DumpFault.{DumpFault}
 use Rattle.ixp_rows.specs.declared.fault.DumpFault.TheVariants.{BadLine, Order, Twice, Invalid, NoMemory}

@@ -2,7 +2,7 @@
 use Rattle.std.specs.Prelude.{◌≡◌, ◌≢◌, ⊤, ℕ, List, [], ◌∷◌, map}
 use Rattle.std.specs.List.{AllByRecursion}
 use Rattle.std.specs.declared.cmp.Ordering.TheVariants.{Less}
-use Rattle.ixp_tables.specs.Tables.{order, Ascends}
+use Rattle.ixp_num_tables.specs.Tables.{order, Ascends}
 use Rattle.ixp_num.specs.AddressForms.{version_of}
 use Rattle.ixp_num.specs.declared.family.Family.{Family}
 use Rattle.ixp_registry.specs.declared.network.AddressRow.{AddressRow}

@@ -2,17 +2,17 @@
 use Rattle.std.specs.Prelude.{◌≡◌, ℕ, zero, suc, ◌-◌, Bool, ◌&&◌, ◌||◌, ◌==◌, false, List, [], ◌∷◌, ◌++◌, length, take, drop, flat_map, Option, Some, None, IfSome, option_map, slice_get, Result, Ok, Err, if◌then◌else◌, codes, decimal, ◌+◌}
 use Rattle.std.specs.Ordering.{match_ordering}
 use Rattle.std.specs.declared.cmp.Ordering.TheVariants.{Less}
-use Rattle.ixp_tables.specs.Tables.{order, same}
+use Rattle.ixp_num_tables.specs.Tables.{order, same}
 use Rattle.std.specs.List.{list_any}
 use Rattle.std.specs.Option.{is_some, option_map_or}
 use Rattle.ixp_registry.specs.declared.kind.Kind.{Kind}
 use Rattle.ixp_registry.specs.declared.kind.Kind.TheVariants.{Sites, Members, Contacts, Keys, Switches, Ports, Vlans, Interfaces, Addresses, Routers, Prefixes, Origins, Rules, Bogons, BogonAs, Transit, Roas}
-use Rattle.ixp_lines.specs.declared.version.Version.TheVariants.{One, Two}
-use Rattle.ixp_lines.specs.declared.version.Version.{Version}
-use Rattle.ixp_lines.specs.Fields.{Field}
+use Rattle.ixp_rows_lines.specs.declared.version.Version.TheVariants.{One, Two}
+use Rattle.ixp_rows_lines.specs.declared.version.Version.{Version}
+use Rattle.ixp_rows_lines.specs.Fields.{Field}
 use Rattle.ixp_registry.specs.Kinds.{word_of}
-use Rattle.ixp_lines.specs.Lines.{form_of, key_length, field_key}
-use Rattle.ixp_lines.specs.Reading.{fields_at}
+use Rattle.ixp_rows_lines.specs.Lines.{form_of, key_length, field_key}
+use Rattle.ixp_rows_lines.specs.Reading.{fields_at}
 pub use Rattle.ixp_num.specs.Reading.{◌>>=◌}
 use Rattle.ixp_rows.specs.declared.fault.DumpFault.{DumpFault}
 use Rattle.ixp_rows.specs.declared.fault.DumpFault.TheVariants.{BadLine, Order as OutOfOrder, Twice as SameKey, NoMemory as OutOfMemory}

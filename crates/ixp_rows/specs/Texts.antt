@@ -1,8 +1,8 @@
 -- The text of a dump.
 use Rattle.std.specs.Prelude.{ℕ, List, [], ◌∷◌, ◌++◌, length, flat_map}
 use Rattle.ixp_registry.specs.declared.rows.Rows.{Rows}
-use Rattle.ixp_lines.specs.declared.version.Version.{Version}
-use Rattle.ixp_lines.specs.Lines.{Line, line_text, site_line, member_line, contact_line, key_line, switch_line, port_line, vlan_line, interface_line, address_line, router_line, prefix_line, origin_line, rule_line, bogon_line, bogon_as_line, transit_line, roa_line}
+use Rattle.ixp_rows_lines.specs.declared.version.Version.{Version}
+use Rattle.ixp_rows_lines.specs.Lines.{Line, line_text, site_line, member_line, contact_line, key_line, switch_line, port_line, vlan_line, interface_line, address_line, router_line, prefix_line, origin_line, rule_line, bogon_line, bogon_as_line, transit_line, roa_line}
 use Rattle.ixp_rows.specs.Reading.{sum, head_text, end_text}
 
 abbrev pub lines_by : {R : Type 0} → (R → Line) → List R → List ℕ

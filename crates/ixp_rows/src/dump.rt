@@ -1,6 +1,6 @@
 //! Dumps of valid registries.
 ghost use Rattle.std.specs.Prelude.{◌≡◌, IfOk};
-ghost use Rattle.ixp_lines.specs.declared.version.Version.TheVariants.{One, Two};
+ghost use Rattle.ixp_rows_lines.specs.declared.version.Version.TheVariants.{One, Two};
 ghost use Rattle.ixp_registry.specs.Registries.{breach};
 ghost use Rattle.ixp_rows.specs.Dumps.{RegistryAnswer, version_in};
 
@@ -8,10 +8,9 @@ use crate::fault::DumpFault;
 use crate::gathering::registry_of;
 use crate::read::read_rows;
 use crate::reading::after_text;
-use ixp_lines::Version;
-use ixp_places::has_lines;
-use ixp_registry::{Breach, Registry, Rows};
-use ixp_valid::first_breach;
+use ixp_registry::{Breach, Registry, Rows, has_lines};
+use ixp_registry_breach::first_breach;
+use ixp_rows_lines::Version;
 use std::alloc::{AllocError, Global};
 
 /// The first rule that rows break; of rows whose lines can't be counted it tells that memory runs out.

@@ -8,13 +8,13 @@ ghost use Rattle.ixp_rows.specs.Reading.{owner_kinds, network_kinds, steering_ki
 use crate::misread::Misread;
 use crate::reading::after_text;
 use crate::section::line_of;
-use ixp_lines::{Lined, Unread, Version};
 use ixp_num::{Asn, Pattern, Roa};
+use ixp_num_tables::{put, put_number};
 use ixp_registry::{
     AddressRow, ApiKey, Contact, InterfaceRow, Member, MemberOrigin, MemberPrefix, MemberRule,
     Port, Router, Site, Switch, Vlan,
 };
-use ixp_text::{put, put_number};
+use ixp_rows_lines::{Lined, Unread, Version};
 use std::alloc::{AllocError, Global};
 
 /// Whether a line of the kind stands first.

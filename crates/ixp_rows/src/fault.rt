@@ -1,5 +1,5 @@
 //! Why a text is no dump.
-use ixp_causes::{Cause, Code, Place};
+use ixp_num::{Cause, Code, Place};
 use std::alloc::AllocError;
 
 /// Why a text is no dump of a valid registry. Lines are counted from 1; the fault is that of the first line that

@@ -4,20 +4,20 @@ ghost use Rattle.std.specs.List.{AllByRecursion};
 ghost use Rattle.std.specs.Option.{is_some};
 ghost use Rattle.ixp_num.specs.AddressForms.{version_of};
 ghost use Rattle.ixp_num.specs.declared.family.Family.TheVariants.{V4, V6};
-ghost use Rattle.ixp_tables.specs.Tables.{Ascends, find};
+ghost use Rattle.ixp_num_tables.specs.Tables.{Ascends, find};
 ghost use Rattle.ixp_registry.specs.Keys.{address_key, interface_row_key, interface_key, irr_key, origins_key, rules_key, member_prefix_key, member_origin_key, rule_key};
 ghost use Rattle.ixp_registry.specs.Registries.{rows_of, bare, addresses_of, address_rows, prefixes_of, origins_of, rules_in};
 ghost use Rattle.ixp_registry.specs.Valid.{IsIn};
-ghost use Rattle.ixp_validity.specs.WellFormed.{AreOrdered, HasLists, IsPrefixList, IsOriginList, IsRuleList};
+ghost use Rattle.ixp_registry_laws.specs.WellFormed.{AreOrdered, HasLists, IsPrefixList, IsOriginList, IsRuleList};
 ghost use Rattle.ixp_registry.specs.Rules.{addresses_have_interfaces};
 ghost use Rattle.ixp_rows.specs.Gathering.{Misses, AreListed};
 
 use ixp_num::{Asn, Family, Items, Prefix};
+use ixp_num_tables::{Row, Table};
 use ixp_registry::{
     AddressRow, IfAddr, Interface, InterfaceRow, IrrList, MemberOrigin, MemberPrefix, MemberRule,
     OriginList, Registry, Rows, RuleList,
 };
-use ixp_tables::{Row, Table};
 use std::alloc::{AllocError, Global};
 use std::collections::VecDeque;
 

@@ -2,20 +2,20 @@
 ghost use Rattle.std.specs.Prelude.{◌≡◌, ◌∷◌, [], IfOk};
 ghost use Rattle.std.specs.List.{AllByRecursion};
 ghost use Rattle.ixp_registry.specs.declared.kind.Kind.TheVariants as of;
-ghost use Rattle.ixp_lines.specs.Lines.{IsOfVersion};
+ghost use Rattle.ixp_rows_lines.specs.Lines.{IsOfVersion};
 ghost use Rattle.ixp_rows.specs.Reading.{Gives, sections_at};
 ghost use Rattle.ixp_rows.specs.Groups.{owner_fields, network_fields, steering_fields, public_fields};
 
 use crate::misread::Misread;
 use crate::section::section;
-use ixp_lines::Version;
 use ixp_num::{Asn, Pattern, Roa};
+use ixp_num_sorted::Sorted;
+use ixp_num_tables::Table;
 use ixp_registry::{
     AddressRow, ApiKey, Contact, InterfaceRow, Member, MemberOrigin, MemberPrefix, MemberRule,
     Port, PublicLists, Router, Switch, Vlan,
 };
-use ixp_sorted::Sorted;
-use ixp_tables::Table;
+use ixp_rows_lines::Version;
 use std::alloc::Global;
 
 /// Members, and what is theirs alone.

@@ -1,41 +1,19 @@
 //! Printing dumps.
 ghost use Rattle.std.specs.Prelude.{◌≡◌, ◌≤◌, ◌^◌, ◌++◌, ◌+◌, OnOk, OnErr, IfSome, IfNone, flat_map, map, length};
-ghost use Rattle.ixp_lines.specs.declared.version.Version.TheVariants.{Two};
-ghost use Rattle.ixp_lines.specs.Lines.{text_of, interface_line, address_line, prefix_line, origin_line, rule_line};
+ghost use Rattle.ixp_rows_lines.specs.declared.version.Version.TheVariants.{Two};
+ghost use Rattle.ixp_rows_lines.specs.Lines.{text_of, interface_line, address_line, prefix_line, origin_line, rule_line};
 ghost use Rattle.ixp_registry.specs.Registries.{rows_of, bare, addresses_of, address_rows, prefixes_of, origins_of, rules_in};
 ghost use Rattle.ixp_rows.specs.Texts.{lines_by, lines_text, rows_count, dump_text};
 ghost use Rattle.ixp_rows.specs.Reading.{head_text, end_text, sum};
 ghost use Rattle.ixp_rows.specs.Printing.{kind_lines, kind_count};
 
-use ixp_lines::{Kind, Lined, Version, print_address};
 use ixp_num::Family;
+use ixp_num_tables::{put, put_number, put_whole};
 use ixp_registry::{
-    IfAddr, Interface, InterfaceRow, IrrList, MemberOrigin, MemberPrefix, OriginList, Registry,
-    RuleList,
+    IfAddr, Interface, IrrList, KINDS, MemberOrigin, MemberPrefix, OriginList, Registry, RuleList,
 };
-use ixp_text::{put, put_number, put_whole};
+use ixp_rows_lines::{Kind, Lined, Version, print_address};
 use std::alloc::AllocError;
-
-/// The kinds of rows, in the order of their lines.
-const KINDS: [Kind; 17] = [
-    Kind::Sites,
-    Kind::Members,
-    Kind::Contacts,
-    Kind::Keys,
-    Kind::Switches,
-    Kind::Ports,
-    Kind::Vlans,
-    Kind::Interfaces,
-    Kind::Addresses,
-    Kind::Routers,
-    Kind::Prefixes,
-    Kind::Origins,
-    Kind::Rules,
-    Kind::Bogons,
-    Kind::BogonAs,
-    Kind::Transit,
-    Kind::Roas,
-];
 
 fn put_rows<K: Lined>(rows: &[K], out: &mut Vec<u8>) -> Result<(), AllocError>
     ensures { OnOk result (out.new.items ≡ out.old.items ++ flat_map (λ row. text_of K.row_kind (K.fields Two row)) rows.now) }
@@ -46,23 +24,11 @@ fn put_rows<K: Lined>(rows: &[K], out: &mut Vec<u8>) -> Result<(), AllocError>
     Ok(())
 }
 
-/// An interface without its addresses.
-pub(crate) fn bare_row(interface: &Interface) -> InterfaceRow
-    ensures { result ≡ bare interface.now }
-{
-    InterfaceRow {
-        number: interface.number,
-        member: interface.member,
-        port: interface.port,
-        vlan: interface.vlan,
-    }
-}
-
 fn put_interfaces(interfaces: &[Interface], out: &mut Vec<u8>) -> Result<(), AllocError>
     ensures { OnOk result (out.new.items ≡ out.old.items ++ lines_by interface_line (map bare interfaces.now)) }
 {
     for interface in interfaces {
-        bare_row(interface).print(Version::Two, out)?;
+        interface.bare().print(Version::Two, out)?;
     }
     Ok(())
 }

@@ -1,7 +1,7 @@
 //! Reading of dumps.
 ghost use Rattle.std.specs.Prelude.{◌≡◌, ◌<◌, ◌≤◌, ◌+◌, ◌-◌, suc, length, take, IfOk, IfSome};
 ghost use Rattle.std.specs.List.{AllByRecursion};
-ghost use Rattle.ixp_lines.specs.Lines.{IsOfVersion};
+ghost use Rattle.ixp_rows_lines.specs.Lines.{IsOfVersion};
 ghost use Rattle.ixp_rows.specs.Answers.{DumpAnswer};
 ghost use Rattle.ixp_rows.specs.Groups.{row_fields};
 ghost use Rattle.ixp_rows.specs.Groups.{IsRead};
@@ -12,8 +12,8 @@ use crate::ending::ended;
 use crate::fault::DumpFault;
 use crate::misread::Misread;
 use crate::reading::rows_of;
-use ixp_lines::Version;
 use ixp_registry::Rows;
+use ixp_rows_lines::Version;
 use std::alloc::Global;
 
 fn breaks(text: &[u8]) -> usize

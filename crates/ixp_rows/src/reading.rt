@@ -2,15 +2,15 @@
 ghost use Rattle.std.specs.Prelude.{◌≡◌, ◌<◌, ◌+◌, length, option_map, IfOk, IfSome};
 ghost use Rattle.ixp_registry.specs.declared.kind.Kind.TheVariants.{Sites};
 ghost use Rattle.std.specs.List.{AllByRecursion};
-ghost use Rattle.ixp_lines.specs.Lines.{IsOfVersion, site_line};
+ghost use Rattle.ixp_rows_lines.specs.Lines.{IsOfVersion, site_line};
 ghost use Rattle.ixp_rows.specs.Groups.{row_fields};
 ghost use Rattle.ixp_rows.specs.Reading.{Gives, head_text, after_text, needed, line_at, rows_at};
 
 use crate::groups::{read_network, read_owners, read_public, read_steering};
 use crate::misread::Misread;
 use crate::section::line_of;
-use ixp_lines::{Unread, Version};
 use ixp_registry::{Rows, Site};
+use ixp_rows_lines::{Unread, Version};
 use std::alloc::Global;
 
 pub(crate) fn after_text<'a>(front: &[u8], text: &'a [u8]) -> Option<&'a [u8]>

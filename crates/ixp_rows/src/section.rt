@@ -1,12 +1,12 @@
 //! The rows of one kind.
 ghost use Rattle.std.specs.Prelude.{◌≡◌, ◌<◌, ◌++◌, ◌∷◌, [], List, ℕ, length, map, OnOk, IfOk, IfSome, option_map};
 ghost use Rattle.std.specs.List.{AllByRecursion};
-ghost use Rattle.ixp_tables.specs.Tables.{Ascends};
+ghost use Rattle.ixp_num_tables.specs.Tables.{Ascends};
 ghost use Rattle.ixp_rows.specs.Reading.{Gives, behind, last_key, misplaced, line_at, section};
-ghost use Rattle.ixp_lines.specs.Reading.{Gives as Says};
+ghost use Rattle.ixp_rows_lines.specs.Reading.{Gives as Says};
 
 use crate::misread::Misread;
-use ixp_lines::{Kind, Lined, Unread, Version, word_of};
+use ixp_rows_lines::{Kind, Lined, Unread, Version, word_of};
 use std::alloc::{AllocError, Global};
 use std::cmp::Ordering;
 
@@ -37,7 +37,7 @@ fn misplaced<K: Lined>(left: usize, rows: &[K], row: &K) -> Option<Misread>
 }
 
 /// The next row of the kind, if one begins here, and what is behind its line.
-#[tactic(auto, unfolding(crate::specs::Reading::line_at), using(ixp_lines::proofs::Lengths::fields_less))]
+#[tactic(auto, unfolding(crate::specs::Reading::line_at), using(ixp_rows_lines::proofs::Lengths::fields_less))]
 pub(crate) fn line_of<K: Lined + Drop>(
     alloc: Global,
     version: Version,

@@ -1,28 +1,10 @@
 //! What members' rules say.
 ghost use Rattle.std.specs.Prelude.{◌≡◌, ◌&&◌, ◌==◌, not, true};
-ghost use Rattle.ixp_tables.specs.Tables.{if_there};
-ghost use Rattle.ixp_registry.specs.Sessions.{asked, is_about, is_advertise, is_for, is_from, is_stop, receives};
+ghost use Rattle.ixp_num_tables.specs.Tables.{if_there};
+ghost use Rattle.ixp_registry.specs.Sessions.{asked, is_about, is_for, is_from, receives};
 
 use ixp_num::{Asn, Prefix};
-use ixp_registry::{Action, MemberRule, Way};
-
-fn is_advertise(way: Way) -> bool
-    ensures { result ≡ is_advertise way }
-{
-    match way {
-        Way::Advertise => true,
-        Way::Receive => false,
-    }
-}
-
-fn is_stop(action: Action) -> bool
-    ensures { result ≡ is_stop action }
-{
-    match action {
-        Action::Stop => true,
-        Action::AsIs | Action::Prepend(_) => false,
-    }
-}
+use ixp_registry::{Action, MemberRule};
 
 /// Whether the rule's prefix is any, or covers the net.
 fn is_about(rule: &MemberRule, net: &Prefix) -> bool
@@ -58,14 +40,14 @@ fn names_sender(rule: &MemberRule, sender: Asn) -> bool
 fn is_for(rs: Asn, rule: &MemberRule, net: &Prefix, to: Asn) -> bool
     ensures { result ≡ is_for rs.0 rule.now net.now to.0 }
 {
-    is_advertise(rule.way) && names_receiver(rule, rs, to) && is_about(rule, net)
+    rule.way.is_advertise() && names_receiver(rule, rs, to) && is_about(rule, net)
 }
 
 /// Whether it is a rule on taking the net from the sender.
 fn is_from(rule: &MemberRule, net: &Prefix, sender: Asn) -> bool
     ensures { result ≡ is_from rule.now net.now sender.0 }
 {
-    !is_advertise(rule.way) && names_sender(rule, sender) && is_about(rule, net)
+    !rule.way.is_advertise() && names_sender(rule, sender) && is_about(rule, net)
 }
 
 /// What the sender's rules ask of the server `rs` for the net and the receiver `to`: the action of the first rule on
@@ -90,7 +72,7 @@ pub fn receives(rules: &[MemberRule], net: &Prefix, sender: Asn) -> bool
     let mut left = rules;
     'rules: while let Some((rule, others)) = left.split_first() {
         if is_from(rule, net, sender) {
-            return !is_stop(rule.action);
+            return !rule.action.is_stop();
         }
         left = others;
     }

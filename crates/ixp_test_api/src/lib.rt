@@ -1,11 +1,5 @@
-//! Tests of calls and replies: requests as they come over a link, what they call for, and the bytes of replies.
+//! Tests of replies that no command shows. What requests call for, and all other replies, is told by the cases of `ixp_cases`.
 #![tactic(auto)]
 
 #[cfg(test)]
-mod calls;
-#[cfg(test)]
-mod faults;
-#[cfg(test)]
 mod replies;
-#[cfg(test)]
-mod requests;

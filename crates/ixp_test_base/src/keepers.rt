@@ -1,6 +1,6 @@
 //! A keeper gives its rows in order, and each of its calls fails in turn.
 use ixp_io::{Change, KeepFault, Keeper, MemKeeper, Plan, Row, RowName};
-use ixp_lists::Items;
+use ixp_num_tables::Items;
 use std::alloc::{AllocError, Global};
 use std::test::Fail;
 

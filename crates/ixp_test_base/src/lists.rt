@@ -1,8 +1,7 @@
 //! Lists, stacks, and lists that are written.
 ghost use Rattle.std.specs.Prelude.{decimal};
 
-use ixp_lists::{Items, Stack};
-use ixp_text::{Writes, put_joined, put_number};
+use ixp_num_tables::{Items, Stack, Writes, put_joined, put_number};
 use std::alloc::{AllocError, Global};
 use std::test::Fail;
 

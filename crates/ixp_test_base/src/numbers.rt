@@ -3,7 +3,7 @@ use ixp_num::{
     NumFault, Pattern, print_addr, print_asn, print_pattern, print_pattern_bounds, print_prefix,
     read_addr, read_asn, read_pattern, read_prefix,
 };
-use ixp_text::{put, put_number};
+use ixp_num_tables::{put, put_number};
 use std::alloc::{AllocError, Global};
 use std::process::Abort;
 use std::test::Fail;

@@ -3,7 +3,7 @@ use ixp_io::{
     Failed, Joined, MemSink, MemSource, Plan, ReadSource, WholeFault, WriteSink, read_whole,
     write_all,
 };
-use ixp_lists::Items;
+use ixp_num_tables::Items;
 use std::alloc::{AllocError, Global};
 use std::io;
 use std::io::{Read, Write};

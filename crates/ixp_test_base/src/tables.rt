@@ -1,8 +1,7 @@
 //! Tables of rows with two numbers for a key.
 ghost use Rattle.std.specs.Prelude.{ℕ, List, [], ◌∷◌};
 
-use ixp_tables::{Row, Table};
-use ixp_text::put_number;
+use ixp_num_tables::{Row, Table, put_number};
 use std::alloc::{AllocError, Global};
 use std::cmp::Ordering;
 use std::test::Fail;

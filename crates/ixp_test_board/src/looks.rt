@@ -3,7 +3,7 @@ ghost use Rattle.std.specs.Prelude.{◌≡◌, length};
 
 use crate::sums::{Adds, Sum, put};
 use ixp_board::{BoardName, Note, Opened, Pen, Publish, Seat, begin, open};
-use ixp_lists::Held;
+use ixp_num_tables::Held;
 use std::alloc::{AllocError, Global};
 use std::marker::Brand;
 use std::sync::Wait;

@@ -4,7 +4,7 @@ ghost use Rattle.ixp_board.specs.Histories.{with_turn};
 ghost use Rattle.ixp_test_board.specs.Sums.{sum_from, IsSmall};
 
 use ixp_board::{BoardName, Note, Pen, Publish, Story};
-use ixp_lists::Held;
+use ixp_num_tables::Held;
 use std::alloc::{AllocError, Global};
 use std::marker::PhantomData;
 use std::sync::Wait;

@@ -4,12 +4,12 @@ use Rattle.std.proofs.lemmas.Bool.{and_parts, leb-true}
 use Rattle.ixp_num.specs.declared.family.Family.{Family}
 use Rattle.ixp_num.specs.declared.family.Family.TheVariants.{V4, V6}
 use Rattle.ixp_num.specs.Families.{bits_of}
-use Rattle.ixp_tables.proofs.Looking.{all_found}
+use Rattle.ixp_num_tables.proofs.Looking.{all_found}
 use Rattle.ixp_registry.specs.declared.registry.Registry.{Registry}
 use Rattle.ixp_registry.specs.declared.router.Router.{Router}
 use Rattle.ixp_registry.specs.Keys.{router_key}
 use Rattle.ixp_registry.specs.Valid.{Valid, ValidRouter}
-use Rattle.ixp_generate.specs.Answers.{router_at}
+use Rattle.ixp_compile_text.specs.Answers.{router_at}
 
 of_bits : (f : Family) (n : ℕ) → n ≤ bits_of f → n < 2 ^ 8
 of_bits V4 n le = let few : n < 129 = omega arith in let many : 129 < 2 ^ 8 = lit< tt in omega arith

@@ -2,13 +2,13 @@
 ghost use Rattle.std.specs.Prelude.{◌≡◌};
 ghost use Rattle.ixp_registry.specs.Valid.{Valid};
 
+use ixp_compile_text::generate;
 use ixp_eval::{CallFault, EvalFault};
 use ixp_explain::{ExplainFault, Report, explain, explain_member, print_own, tables_of};
-use ixp_generate::{generate, part};
 use ixp_lang::{Route, print_fate, read_route};
 use ixp_num::{Asn, Family, Name};
+use ixp_num_tables::{put, put_number};
 use ixp_rows::{Registry, read_dump};
-use ixp_text::{put, put_number};
 use std::alloc::{AllocError, Global};
 
 /// Four members and the router rs1. The interface 5, of the first member, has no session; the second member has no lists.
@@ -52,49 +52,32 @@ fn dump_of(alloc: Global, lines: &[u8]) -> Result<Vec<u8>, AllocError> {
     Ok(text)
 }
 
-/// Which text: the router's, or the own text of an interface's session.
-#[derive(Clone, Copy)]
-pub enum Which {
-    Whole,
-    Own(u32),
-}
-
 #[tactic(auto, using(crate::proofs::Bounds::high_fits))]
-fn text_by(alloc: Global, registry: &Registry, which: Which) -> Option<Vec<u8>>
+fn text_by(alloc: Global, registry: &Registry) -> Option<Vec<u8>>
     requires { Valid registry.now }
 {
     let router = Name::new(alloc, b"rs1").ok()?;
-    match which {
-        Which::Whole => generate(alloc, registry, &router).ok(),
-        Which::Own(interface) => part(alloc, registry, &router, interface).ok(),
-    }
+    generate(alloc, registry, &router).ok()
 }
 
 // This is the one function that holds a registry: each costs the proofs much.
-fn text_of(alloc: Global, dump: &[u8], which: Which) -> Option<Vec<u8>> {
+fn text_of(alloc: Global, dump: &[u8]) -> Option<Vec<u8>> {
     match read_dump(alloc, dump) {
-        Ok(registry) => text_by(alloc, &registry, which),
+        Ok(registry) => text_by(alloc, &registry),
         Err(_) => None,
     }
 }
 
-/// The text of the exchange with more rules of members, which stand behind the origins.
-pub fn text_with(alloc: Global, rules: &str, which: Which) -> Option<Vec<u8>> {
-    let lines = altered(alloc, LINES, "bogon 10", rules, "bogon 10").ok()?;
-    let dump = dump_of(alloc, lines.as_bytes()).ok()?;
-    text_of(alloc, dump.as_slice(), which)
+/// The text of the exchange's router.
+pub fn exchange_text(alloc: Global) -> Option<Vec<u8>> {
+    let dump = dump_of(alloc, LINES.as_bytes()).ok()?;
+    text_of(alloc, dump.as_slice())
 }
 
-/// The lines with two texts in the place of a part, where it first stands.
-pub fn altered(
-    alloc: Global,
-    lines: &str,
-    part: &str,
-    one: &str,
-    other: &str,
-) -> Result<String, AllocError> {
-    match lines.split_once(part) {
-        Some((front, back)) => format!(in alloc; "{front}{one}{other}{back}"),
+/// The text with another part in the place of one, where it first stands.
+pub fn altered(alloc: Global, text: &str, part: &str, other: &str) -> Result<String, AllocError> {
+    match text.split_once(part) {
+        Some((front, back)) => format!(in alloc; "{front}{other}{back}"),
         None => format!(in alloc; "no such part"),
     }
 }

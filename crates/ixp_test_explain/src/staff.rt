@@ -1,34 +1,11 @@
 //! What staff are told of a route by a router's text.
-use crate::samples::{Question, Which, altered, is_told, text_with};
+use crate::samples::{Question, altered, exchange_text, is_told};
 use std::alloc::Global;
 
 const PLAIN: &str = "203.0.113.0/24 65001 10.1.0.1 - -";
 
 /// Parts of the text and what stands in their places, the interface, the route, and what is told.
 const CASES: &[(&str, &str, u32, &str, &str)] = &[
-    (
-        "",
-        "",
-        1,
-        PLAIN,
-        "tagged 65001 10.1.0.1 - 65500:1000:2,65500:1001:1
-passed
-to b_2 65001 10.1.0.1 - -
-to b_3 65001 10.1.0.1 - -
-to b_4 65001 10.1.0.1 - -
-number None
-",
-    ),
-    (
-        "",
-        "",
-        1,
-        "203.0.113.0/24 65002 10.1.0.1 - -",
-        "tagged 65002 10.1.0.1 - 65500:1101:7
-stopped
-number Some(7)
-",
-    ),
     // the text counts, and not the rows
     (
         "ixp_drop(7);",
@@ -60,13 +37,6 @@ number Some(4)
 number None
 ",
     ),
-    (
-        "",
-        "",
-        1,
-        "2001:db8::/32 65001 2001:db8:1::1 - -",
-        "family 4\n",
-    ),
     ("", "", 5, PLAIN, "fault V4\n"),
     (
         "",
@@ -91,7 +61,7 @@ fn altered_text(alloc: Global, text: Option<Vec<u8>>, part: &str, other: &str) -
         return Some(text);
     }
     let text = str::from_utf8(text.as_slice()).ok()?;
-    let altered = altered(alloc, text, part, other, "").ok()?;
+    let altered = altered(alloc, text, part, other).ok()?;
     Vec::from_slice(alloc, altered.as_bytes()).ok()
 }
 
@@ -103,7 +73,7 @@ fn explains(rt: HostRuntime) {
             route,
             peers: None,
         };
-        let text = text_with(rt.alloc(), "", Which::Whole);
+        let text = exchange_text(rt.alloc());
         let text = altered_text(rt.alloc(), text, part, other);
         assert!(rt; is_told(rt.alloc(), &text, question, want), "{want}");
     }

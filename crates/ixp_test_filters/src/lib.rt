@@ -1,15 +1,9 @@
-//! Tests of texts of the filter language: their tokens, the trees that they spell or the place of their fault, and printing.
+//! Tests of texts of the filter language that no command shows: their tokens, and how trees are printed.
 //!
-//! Tables of texts, each with what the rules of the language (`docs/FILTERS.md`) say of it.
+//! Which texts are read, and where others are refused, is told by the cases of `ixp_cases`.
 #![tactic(auto)]
 
 #[cfg(test)]
-mod levels;
-#[cfg(test)]
-mod marked;
-#[cfg(test)]
 mod printed;
-#[cfg(test)]
-mod texts;
 #[cfg(test)]
 mod tokens;

@@ -1,11 +1,11 @@
 //! Texts and their tokens, counted by hand from the rules of the language.
-ghost use Rattle.ixp_tokens.specs.Reading.{kinds};
-ghost use Rattle.ixp_tokens.specs.Tokens.{HasTokens};
+ghost use Rattle.ixp_lang_tokens.specs.Reading.{kinds};
+ghost use Rattle.ixp_lang_tokens.specs.Tokens.{HasTokens};
 
-use ixp_num::{Asn, print_addr, print_asn, print_prefix};
-use ixp_tokens::{
+use ixp_lang_tokens::{
     Keyword, Kind, Mark, Token, is_foreign, left_at, one_list, tokens_of, written_tokens,
 };
+use ixp_num::{Asn, print_addr, print_asn, print_prefix};
 use std::alloc::{AllocError, Global};
 use std::test::Fail;
 

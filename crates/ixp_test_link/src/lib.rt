@@ -1,9 +1,5 @@
-//! Tests of the loop of a link: links in memory over a desk that answers without a registry.
+//! Tests of the loop of a link over a desk that has no memory. All else that a link shows is told by the cases of `ixp_cases`.
 #![tactic(auto)]
 
-#[cfg(test)]
-mod ends;
-#[cfg(test)]
-mod faults;
 #[cfg(test)]
 mod links;

@@ -1,9 +1,8 @@
-//! A link in memory that is served, and what came of it as a text.
+//! Links in memory that are served by a desk that has no memory.
 use ixp_api::{Call, Outcome};
-use ixp_io::{MemLink, MemSink, MemSource, Plan};
-use ixp_link::{Desk, Served, serve};
-use ixp_lists::Items;
-use ixp_text::{put, put_number};
+use ixp_http_link::{Desk, Served, serve};
+use ixp_io::{MemSink, MemSource, Plan};
+use ixp_num_tables::{Items, put};
 use std::alloc::{AllocError, Global};
 use std::str::from_utf8;
 
@@ -30,31 +29,6 @@ impl Desk<u64, ()> for Counter {
     }
 }
 
-/// How a link is read and written: in pieces of how many bytes, and which reads and writes fail.
-#[derive(Clone, Copy, Drop)]
-pub struct Manner {
-    pub most: usize,
-    pub read: u64,
-    pub write: u64,
-}
-
-/// In large pieces, and nothing fails.
-pub const SMOOTH: Manner = Manner {
-    most: 4096,
-    read: 0,
-    write: 0,
-};
-
-// The link with these bytes.
-fn link_of(alloc: Global, bytes: Items<u8>, manner: Manner) -> Result<MemLink, AllocError> {
-    let reads = Plan::failing(alloc, &[manner.read])?;
-    let writes = Plan::failing(alloc, &[manner.write])?;
-    Ok(MemLink {
-        source: MemSource::new(bytes, reads).in_pieces(manner.most.max(1)),
-        sink: MemSink::new(alloc, writes),
-    })
-}
-
 // Adds the status of each reply, and whether the link was to end with it.
 fn put_statuses(out: &mut Vec<u8>, written: &[u8]) -> Result<(), AllocError> {
     let text = from_utf8(written).unwrap_or("no text");
@@ -68,9 +42,11 @@ fn put_statuses(out: &mut Vec<u8>, written: &[u8]) -> Result<(), AllocError> {
     Ok(())
 }
 
-/// Serves a link, and tells how it ended, how many requests were answered, how many calls there were, and the replies.
-pub fn told(alloc: Global, bytes: Items<u8>, manner: Manner) -> Result<Vec<u8>, AllocError> {
-    let mut link = link_of(alloc, bytes, manner)?;
+// Serves a link that is read in pieces, and tells how it ended, how many requests were answered, how many calls there were, and the replies.
+fn told(alloc: Global, text: &str, most: usize) -> Result<Vec<u8>, AllocError> {
+    let bytes = Items::from_slice(alloc, text.as_bytes())?;
+    let mut source = MemSource::new(bytes, Plan::smooth(alloc)).in_pieces(most.max(1));
+    let mut sink = MemSink::new(alloc, Plan::smooth(alloc));
     let mut desk = Counter { done: 0 };
     let mut calls = 0;
     let Served { end, requests } = serve(
@@ -78,22 +54,37 @@ pub fn told(alloc: Global, bytes: Items<u8>, manner: Manner) -> Result<Vec<u8>, 
         &mut desk,
         &mut calls,
         &mut (),
-        &mut link.source,
-        &mut link.sink,
+        &mut source,
+        &mut sink,
     );
     let text = format!(in alloc; "{end:?} {requests} {calls}")?;
     let mut out = Vec::from_slice(alloc, text.as_bytes())?;
-    put_statuses(&mut out, link.sink.written())?;
+    put_statuses(&mut out, sink.written())?;
     Ok(out)
 }
 
-/// Whether a link with this text is served so.
-pub fn is_told(alloc: Global, text: &str, manner: Manner, want: &str) -> bool {
-    let Ok(bytes) = Items::from_slice(alloc, text.as_bytes()) else {
-        return false;
-    };
-    match told(alloc, bytes, manner) {
+// Whether a link with this text is served so.
+fn is_told(alloc: Global, text: &str, most: usize, want: &str) -> bool {
+    match told(alloc, text, most) {
         Ok(have) => have.as_slice() == want.as_bytes(),
         Err(_) => false,
+    }
+}
+
+/// Requests that want memory: the link ends with the reply, whatever the request asks for.
+const WANTS: &[&str] = &[
+    "GET /members/1 HTTP/1.1\r\n\r\nGET /nothing HTTP/1.1\r\n\r\n",
+    "GET /members/1 HTTP/1.0\r\n\r\n",
+];
+
+#[test]
+fn want_of_memory_ends_the_link(rt: HostRuntime) {
+    for text in WANTS {
+        for most in [1, 7, 4096] {
+            assert!(rt;
+                is_told(rt.alloc(), text, most, "NoMemory 0 1 507 closes"),
+                "{text}"
+            );
+        }
     }
 }

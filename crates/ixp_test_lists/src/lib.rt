@@ -1,7 +1,5 @@
-//! Tests of lists that are handed in: what their texts say, and tables of many ROAs.
+//! Tests of tables of many ROAs. What texts of lists say is told by the cases of `ixp_cases`.
 #![tactic(auto)]
 
 #[cfg(test)]
 mod many_roas;
-#[cfg(test)]
-mod texts;

@@ -1,20 +1,19 @@
 //! Texts of route servers that follow edits: what each kind of edits touches, and that with it made anew they are those of full
 //! generation.
 ghost use Rattle.ixp_registry.specs.Valid.{Valid};
-ghost use Rattle.ixp_steps.specs.States.{ValidState};
+ghost use Rattle.ixp_machine_steps.specs.States.{ValidState};
 
 use crate::changes::{Change, edit_of};
 use crate::lists::Listed;
 use crate::samples::{LINES, Plays, STAFF, is_wanted, told};
 use crate::sending::put_request;
 use ixp_build::{Bundle, InstallFault, Made, Pending, make, orders_have_bounds};
+use ixp_build_touches::{Touch, reached_by, touched};
+use ixp_compile_laws::text_of;
+use ixp_machine_steps::State;
 use ixp_num::{Family, Name};
+use ixp_num_tables::{Copied, put, put_number};
 use ixp_registry::{Action, Registry, Status, Way};
-use ixp_steps::State;
-use ixp_tables::Copied;
-use ixp_text::{put, put_number};
-use ixp_texts::text_of;
-use ixp_touches::{Touch, reached_by, touched};
 use std::alloc::{AllocError, Global};
 use std::process::Abort;
 use std::test::Fail;

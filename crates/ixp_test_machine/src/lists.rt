@@ -1,22 +1,16 @@
 //! Lists of edits.
 use crate::changes::{Rule, prefix_of};
-use ixp_edits::{Edit, NewRule, PublicList};
-use ixp_irr::{read_bogon_ranges, read_bogons, read_list, read_origins, read_transit_free};
-use ixp_num::{Asn, Family, Items, Pattern, Prefix, Roa};
+use ixp_irr::{read_bogons, read_list, read_origins, read_transit_free};
+use ixp_machine_edits::{NewRule, PublicList};
+use ixp_num::{Asn, Family, Items, Prefix, Roa};
+use ixp_num_sorted::Sorted;
 use ixp_registry::{Action, Way};
-use ixp_sorted::Sorted;
 use std::alloc::Global;
 
 /// A list of an edit.
 #[derive(Clone, Copy)]
 pub enum Listed {
-    Prefixes,
-    /// Of IPv6; `Prefixes` are of IPv4.
-    Prefixes6,
-    Origins,
-    Rules,
     Bogons,
-    BogonAs,
     Transit,
     Roas,
 }
@@ -71,113 +65,7 @@ pub fn public_of(alloc: Global, listed: Listed, lines: &str) -> Option<PublicLis
     let text = lines.as_bytes();
     match listed {
         Listed::Bogons => Some(PublicList::Bogons(read_bogons(alloc, text).ok()?)),
-        Listed::BogonAs => Some(PublicList::BogonAs(read_bogon_ranges(alloc, text).ok()?)),
         Listed::Transit => Some(PublicList::Transit(read_transit_free(alloc, text).ok()?)),
         Listed::Roas => Some(PublicList::Roas(roas_of(alloc, lines)?)),
-        _ => None,
-    }
-}
-
-/// The host with the number.
-fn host(family: Family, number: u32) -> Option<Prefix> {
-    Prefix::new(family, u128::from(number), family.bits())
-}
-
-fn hosts(alloc: Global, family: Family, count: u32) -> Option<Vec<Prefix>> {
-    let mut prefixes = Vec::new(alloc);
-    for number in 0..count {
-        prefixes.push(host(family, number)?).ok()?;
-    }
-    Some(prefixes)
-}
-
-pub fn many_prefixes(alloc: Global, member: u32, family: Family, count: u32) -> Option<Edit> {
-    let prefixes = Sorted::from_items(hosts(alloc, family, count)?);
-    Some(Edit::PutIrr {
-        member,
-        family,
-        prefixes,
-    })
-}
-
-fn asns(alloc: Global, count: u32) -> Option<Sorted<Asn>> {
-    let mut asns = Vec::new(alloc);
-    for number in 0..count {
-        asns.push(Asn(number)).ok()?;
-    }
-    Some(Sorted::from_items(asns))
-}
-
-fn rules(alloc: Global, count: u32) -> Option<Items<NewRule>> {
-    let mut rules = Items::new(alloc);
-    for _ in 0..count {
-        rules
-            .push(rule_of((Way::Advertise, None, "*", Action::Stop)))
-            .ok()?;
-    }
-    Some(rules)
-}
-
-fn bogons(alloc: Global, count: u32) -> Option<PublicList> {
-    let mut patterns = Vec::new(alloc);
-    for number in 0..count {
-        patterns
-            .push(Pattern {
-                prefix: host(Family::V4, number)?,
-                low: 32,
-                high: 32,
-            })
-            .ok()?;
-    }
-    Some(PublicList::Bogons(Sorted::from_items(patterns)))
-}
-
-fn ranges(alloc: Global, count: u32) -> Option<PublicList> {
-    let mut ranges = Vec::new(alloc);
-    for number in 0..count {
-        ranges.push((Asn(number), Asn(number))).ok()?;
-    }
-    Some(PublicList::BogonAs(Sorted::from_items(ranges)))
-}
-
-fn roas(alloc: Global, count: u32) -> Option<PublicList> {
-    let mut roas = Vec::new(alloc);
-    for number in 0..count {
-        roas.push(Roa {
-            prefix: host(Family::V4, number)?,
-            max: 32,
-            asn: Asn(1),
-        })
-        .ok()?;
-    }
-    Some(PublicList::Roas(Sorted::from_items(roas)))
-}
-
-/// An edit with a list of so many items.
-pub fn many(alloc: Global, listed: Listed, count: u32) -> Option<Edit> {
-    match listed {
-        Listed::Prefixes => many_prefixes(alloc, 1, Family::V4, count),
-        Listed::Prefixes6 => many_prefixes(alloc, 1, Family::V6, count),
-        Listed::Origins => Some(Edit::PutOrigins {
-            member: 1,
-            family: Family::V4,
-            asns: asns(alloc, count)?,
-        }),
-        Listed::Rules => Some(Edit::SetRules {
-            member: 1,
-            rules: rules(alloc, count)?,
-        }),
-        Listed::Bogons => Some(Edit::PutPublic {
-            list: bogons(alloc, count)?,
-        }),
-        Listed::BogonAs => Some(Edit::PutPublic {
-            list: ranges(alloc, count)?,
-        }),
-        Listed::Transit => Some(Edit::PutPublic {
-            list: PublicList::Transit(asns(alloc, count)?),
-        }),
-        Listed::Roas => Some(Edit::PutPublic {
-            list: roas(alloc, count)?,
-        }),
     }
 }

@@ -2,20 +2,19 @@
 ghost use Rattle.std.specs.Prelude.{◌≡◌};
 ghost use Rattle.std.specs.List.{list_all};
 ghost use Rattle.ixp_num.specs.Families.{same_family};
-ghost use Rattle.ixp_edits.specs.Lists.{has_few_rules};
+ghost use Rattle.ixp_machine_edits.specs.Lists.{has_few_rules};
 ghost use Rattle.ixp_registry.specs.Valid.{Valid};
-ghost use Rattle.ixp_steps.specs.Requests.{has_family};
-ghost use Rattle.ixp_steps.specs.States.{ValidState};
+ghost use Rattle.ixp_machine_steps.specs.Requests.{has_family};
+ghost use Rattle.ixp_machine_steps.specs.States.{ValidState};
 
 use crate::changes::{Change, edit_of};
 use crate::details::put_decision;
-use ixp_edits::Edit;
 use ixp_machine::decide;
+use ixp_machine_edits::Edit;
+use ixp_machine_steps::{Entry, State, first_state};
 use ixp_num::{Family, Items, Prefix};
-use ixp_opening::first_state;
+use ixp_num_tables::{put, put_number};
 use ixp_rows::{DumpFault, Registry, read_any_dump};
-use ixp_steps::{Entry, State};
-use ixp_text::{put, put_number};
 use std::alloc::{AllocError, Global};
 use std::process::Abort;
 
@@ -62,27 +61,13 @@ roa 203.0.113.0/24 24 65001
 pub const STAFF: &str = "staff00000000001";
 
 /// The dump of these lines.
-pub fn dump_of(alloc: Global, lines: &[u8]) -> Result<Vec<u8>, AllocError> {
+fn dump_of(alloc: Global, lines: &[u8]) -> Result<Vec<u8>, AllocError> {
     let mut text = Vec::from_slice(alloc, b"ixp-registry 2\n")?;
     put(&mut text, lines)?;
     put(&mut text, b"end ")?;
     let count = lines.iter().filter(|b| **b == b'\n').count();
     put_number(&mut text, count as u64)?;
     put(&mut text, b"\n")?;
-    Ok(text)
-}
-
-/// The lines with another part in the place of the first one that is this.
-pub fn altered(alloc: Global, lines: &str, part: &str, other: &str) -> Result<Vec<u8>, AllocError> {
-    let mut text = Vec::new(alloc);
-    match lines.split_once(part) {
-        Some((front, back)) => {
-            put(&mut text, front.as_bytes())?;
-            put(&mut text, other.as_bytes())?;
-            put(&mut text, back.as_bytes())?;
-        }
-        None => put(&mut text, b"no such part")?,
-    }
     Ok(text)
 }
 

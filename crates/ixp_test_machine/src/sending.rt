@@ -1,13 +1,12 @@
 //! Requests that are made.
-ghost use Rattle.ixp_steps.specs.States.{ValidState};
+ghost use Rattle.ixp_machine_steps.specs.States.{ValidState};
 
 use crate::changes::Change;
 use crate::details::put_decision;
-use crate::samples::{Plays, STAFF, entry_of};
-use ixp_rows::print_dump;
-use ixp_steps::State;
-use ixp_text::put;
-use ixp_turns::request;
+use crate::samples::entry_of;
+use ixp_machine::request;
+use ixp_machine_steps::State;
+use ixp_num_tables::put;
 use std::alloc::AllocError;
 
 /// A secret, a request's number, and its edit.
@@ -28,16 +27,4 @@ pub fn put_request(state: &mut State, sent: Sent, out: &mut Vec<u8>) -> Result<(
     };
     let decision = request(alloc, state, entry)?;
     put_decision(&decision, out)
-}
-
-/// Makes the staff's request, and asks for the dump then.
-#[derive(Clone, Copy)]
-pub struct Made(pub Change);
-
-impl Plays for Made {
-    fn play(&self, state: &mut State, out: &mut Vec<u8>) -> Result<(), AllocError> {
-        put_request(state, (STAFF, 1, self.0), out)?;
-        put(out, b"\n")?;
-        print_dump(&state.registry, out)
-    }
 }

@@ -1,6 +1,6 @@
 //! The demo exchange, as its dump has it.
 use crate::samples::is_wanted;
-use ixp_demo::demo_registry;
+use ixp_registry_demo::demo_registry;
 use ixp_rows::print_dump;
 use std::alloc::{AllocError, Global};
 

@@ -1,7 +1,6 @@
-//! Tests of registries: dumps and their faults, the rules on rows, the address plan, what members may do, and the demo exchange.
+//! Tests of registries that no command shows: dumps that are to be of one version, a VLAN that isn't there, and the demo exchange.
 //!
-//! Each registry is read from the text of a dump (`samples.rt`), and what is told of it is compared with values worked out
-//! by hand from the rules' sentences.
+//! All else that the rules on rows, dumps, the address plan and members' statuses say is told by the cases of `ixp_cases`.
 #![tactic(auto)]
 
 #[cfg(test)]
@@ -9,12 +8,6 @@ mod demo;
 #[cfg(test)]
 mod dumps;
 #[cfg(test)]
-mod limits;
-#[cfg(test)]
-mod members;
-#[cfg(test)]
 mod plan;
-#[cfg(test)]
-mod rules;
 #[cfg(test)]
 mod samples;

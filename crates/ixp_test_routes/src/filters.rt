@@ -1,10 +1,9 @@
 //! Small filter texts, run.
 use crate::samples::shown;
-use ixp_eval::{CallFault, Env, EvalFault, Verdict, call_function, run_filter, walk};
-use ixp_lang::{Config, Fate, Route, Value, print_fate, read_route};
+use ixp_eval::{CallFault, Env, EvalFault, Verdict, call_function, run_filter};
+use ixp_lang::{Config, Route, Value, read_route};
 use ixp_num::{Addr, Family, Name};
 use ixp_read::read_config;
-use ixp_roa::RoaTable;
 use std::alloc::Global;
 
 /// 10.0.0.1, from which the routes come.
@@ -54,15 +53,13 @@ fn verdict_text(alloc: Global, verdict: &Verdict) -> Option<Vec<u8>> {
     Some(text.ok()?.into_bytes())
 }
 
-/// What is asked of a configuration, by the name of a filter, a function or a session.
+/// What is asked of a configuration, by the name of a filter or a function.
 #[derive(Clone, Copy)]
 enum Asked {
     /// What the filter makes of the route: the large communities, or the fault.
     Filter,
     /// What the function gives for 9.
     Function,
-    /// The route's fate from the session.
-    Session,
 }
 
 fn filtered(alloc: Global, config: &Config, name: &Name, route: &Route) -> Option<Vec<u8>> {
@@ -92,30 +89,6 @@ fn called(alloc: Global, config: &Config, name: &Name, route: &Route) -> Option<
     }
 }
 
-/// A table of the ROA that makes the route valid.
-fn tables(alloc: Global) -> Option<Vec<(Name, RoaTable)>> {
-    let roas = RoaTable::from_csv(alloc, b"AS65002,203.0.113.0/24,24").ok()?;
-    let table = RoaTable::new(alloc, roas.as_slice()).ok()?;
-    let name = name_of(alloc, b"r")?;
-    let mut tables = Vec::new(alloc);
-    tables.push((name, table)).ok()?;
-    Some(tables)
-}
-
-fn fate_text(alloc: Global, fate: &Fate) -> Option<Vec<u8>> {
-    let mut text = Vec::new(alloc);
-    print_fate(fate, None, &mut text).ok()?;
-    Some(text)
-}
-
-fn walked(alloc: Global, config: &Config, name: &Name, route: &Route) -> Option<Vec<u8>> {
-    let roas = tables(alloc)?;
-    match walk(alloc, config, name, route, roas.as_slice()) {
-        Ok(fate) => fate_text(alloc, &fate),
-        Err(fault) => fault_text(alloc, &fault),
-    }
-}
-
 fn answered(
     alloc: Global,
     asked: Asked,
@@ -127,7 +100,6 @@ fn answered(
     match asked {
         Asked::Filter => filtered(alloc, config, &name, route),
         Asked::Function => called(alloc, config, &name, route),
-        Asked::Session => walked(alloc, config, &name, route),
     }
 }
 
@@ -194,41 +166,5 @@ fn functions_return(rt: HostRuntime) {
     for &(text, want) in FUNCTIONS {
         let have = outcome(rt.alloc(), Asked::Function, text, b"g");
         assert!(rt; shown(&have) == want.as_bytes(), "{text}");
-    }
-}
-
-/// Sessions a, b and c, of which a and b have pipes, and b takes nothing in.
-const SESSIONS: &str = "roa4 table r; ipv4 table m; ipv4 table ta; ipv4 table tb; ipv4 table tc;
-filter f { if roa_check(r, net, bgp_path.last) = ROA_VALID then accept; }
-protocol pipe pa { table m; peer table ta; import all; export all; }
-protocol bgp a { local as 64500; neighbor 10.0.0.1 as 65001; rs client; ipv4 { table ta; import filter f; export all; }; }
-protocol pipe pb { table m; peer table tb; import all; export all; }
-protocol bgp b { local as 64500; neighbor 10.0.0.1 as 65001; rs client; ipv4 { table tb; import none; export all; }; }
-protocol bgp c { local as 64500; neighbor 10.0.0.1 as 65001; rs client; ipv4 { table tc; import all; export all; }; }
-";
-
-/// From a the route goes on to b, and c has no pipe. From b it isn't let in, and from c it goes nowhere.
-const WALKS: &[(&[u8], &str)] = &[
-    (
-        b"a",
-        "tagged 65001,65002 10.0.0.1 - 1:2:3,1:2:4,1:3:3
-passed
-to b 65001,65002 10.0.0.1 - 1:2:3,1:2:4,1:3:3
-to c no
-",
-    ),
-    (b"b", "dropped\n"),
-    (
-        b"c",
-        "tagged 65001,65002 10.0.0.1 - 1:2:3,1:2:4,1:3:3\nstopped\n",
-    ),
-    (b"e", "V4 [101]"),
-];
-
-#[test]
-fn routes_walk(rt: HostRuntime) {
-    for &(session, want) in WALKS {
-        let have = outcome(rt.alloc(), Asked::Session, SESSIONS, session);
-        assert!(rt; shown(&have) == want.as_bytes(), "{want}");
     }
 }

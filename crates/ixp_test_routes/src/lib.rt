@@ -1,8 +1,8 @@
-//! Tests of what becomes of routes: their texts, ROAs, filters that run, fates by the rows of a registry, merged sets
-//! and how many patterns they have.
+//! Tests of routes that no command shows: the places of faults in their texts, what functions of filters return, the numbers and wishes of the slow
+//! programs that the rules of the trade are, and merged sets.
 //!
 //! Filters and configurations are read from texts, registries from dumps (`samples.rt`). What is told is compared with cases
-//! worked out by hand from the standards and from the rules' sentences.
+//! worked out by hand from the standards and from the rules' sentences. Fates of routes are told by the cases of `ixp_cases`.
 #![tactic(auto)]
 
 #[cfg(test)]
@@ -10,12 +10,8 @@ mod fates;
 #[cfg(test)]
 mod filters;
 #[cfg(test)]
-mod roas;
-#[cfg(test)]
 mod routes;
 #[cfg(test)]
 mod samples;
 #[cfg(test)]
 mod sets;
-#[cfg(test)]
-mod sizes;

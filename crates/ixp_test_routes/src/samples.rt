@@ -1,6 +1,6 @@
 //! The registry of a small exchange.
+use ixp_num_tables::{put, put_number};
 use ixp_rows::{Registry, read_dump};
-use ixp_text::{put, put_number};
 use std::alloc::{AllocError, Global};
 
 /// The rows of an exchange with four members and the router rs1, as the lines of a dump between its head and its end. The
@@ -34,25 +34,6 @@ bogon-as 0 0
 bogon-as 23456 23456
 transit 64800
 ";
-
-/// Parts of the lines, and what stands in their places.
-pub type Setting = &'static [(&'static str, &'static str)];
-
-/// The lines with another part in the place of the first one that is this.
-fn altered(alloc: Global, lines: &str, part: &str, other: &str) -> Result<String, AllocError> {
-    match lines.split_once(part) {
-        Some((front, back)) => format!(in alloc; "{front}{other}{back}"),
-        None => format!(in alloc; "no such part"),
-    }
-}
-
-fn lines_of(alloc: Global, setting: Setting) -> Result<String, AllocError> {
-    let mut lines = format!(in alloc; "{LINES}")?;
-    for (part, other) in setting {
-        lines = altered(alloc, lines.as_str(), part, other)?;
-    }
-    Ok(lines)
-}
 
 fn dump_of(alloc: Global, lines: &[u8]) -> Result<Vec<u8>, AllocError> {
     let mut text = Vec::from_slice(alloc, b"ixp-registry 2\n")?;
@@ -92,10 +73,9 @@ fn put_told<A: Asks>(
     }
 }
 
-/// What is told of the registry of the exchange with these parts altered.
-pub fn told<A: Asks>(alloc: Global, setting: Setting, asks: &A) -> Result<Vec<u8>, AllocError> {
-    let lines = lines_of(alloc, setting)?;
-    let dump = dump_of(alloc, lines.as_bytes())?;
+/// What is told of the registry of the exchange.
+pub fn told<A: Asks>(alloc: Global, asks: &A) -> Result<Vec<u8>, AllocError> {
+    let dump = dump_of(alloc, LINES.as_bytes())?;
     let mut out = Vec::new(alloc);
     put_told(alloc, dump.as_slice(), asks, &mut out)?;
     Ok(out)

@@ -1,7 +1,7 @@
 //! Who is held waits until it may go on.
-use ixp_holds::{Hold, HoldGate, HoldKeeper};
 use ixp_io::{Change, Gate, Keeper, MemKeeper, Plan, RowName};
-use ixp_lists::Items;
+use ixp_io_holds::{Hold, HoldGate, HoldKeeper};
+use ixp_num_tables::Items;
 use std::alloc::{AllocError, Global};
 use std::sync::atomic::{AtomicBool, Ordering};
 use std::test::Fail;

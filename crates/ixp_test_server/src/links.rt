@@ -1,8 +1,8 @@
 //! Links that workers serve side by side.
-use ixp_holds::{Hold, HoldDoor, HoldLink, TURNS};
 use ixp_io::{Clock, Failed, MemLink, MemSink, MemSource, Plan, SetClock, Sink, Source};
-use ixp_lists::Items;
-use ixp_workers::{Background, Host, serve};
+use ixp_io_holds::{Hold, HoldDoor, HoldLink, TURNS};
+use ixp_io_workers::{Background, Host, serve};
+use ixp_num_tables::Items;
 use std::alloc::{AllocError, Global};
 use std::collections::VecDeque;
 use std::sync::atomic::{AtomicU64, Ordering};

@@ -1,6 +1,6 @@
 //! Links over TCP, and the clock of the system.
 use ixp_io::{Clock, Door, Failed, LAST_SECOND, Source, write_all};
-use ixp_net::{SystemClock, TcpDoor, TcpLink};
+use ixp_io_net::{SystemClock, TcpDoor, TcpLink};
 use std::io::{Read, Write};
 use std::net::{Ipv4Addr, Shutdown, SocketAddr, SocketAddrV4, TcpStream};
 use std::test::Fail;

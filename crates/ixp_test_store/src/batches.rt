@@ -1,6 +1,6 @@
 //! Batches of changes, and what a keeper holds after them.
 use ixp_io::{Change, KeepFault, Keeper, Row, RowName};
-use ixp_lists::Items;
+use ixp_num_tables::Items;
 use std::alloc::{AllocError, Global};
 
 /// What becomes of the row of this kind and key.

@@ -3,8 +3,8 @@
 
 use ixp_cli::run;
 use ixp_io::{FreeGate, MemDoor, Plan, ReadSource, WriteSink};
+use ixp_io_net::SystemClock;
 use ixp_keeper_sql::FileKeeper;
-use ixp_net::SystemClock;
 use std::collections::VecDeque;
 use std::process::ExitCode;
 use std::{env, io};
@@ -26,11 +26,11 @@ const HELP: &str = "ixpm: the registry of an internet exchange, and its route se
   ixpm dump        writes the dump of the registry in the store
   ixpm session     answers the HTTP requests on standard input, over the registry in the store
   ixpm demo N      writes how many members, sessions and patterns of prefix sets the demo exchange with N members has,
-                   from 1 to 4000, and how many parts of its text are made anew after edits
+                   from 1 to 4000, and how many parts of its text are regenerated after edits
   ixpm --help      writes this
   ixpm --version   writes the version
 
-Status: 0 done, 1 usage, 2 bad input, 3 read fault, 4 write fault, 5 keeper fault, 6 damaged store, 8 no memory,
+Status: 0 done, 1 usage, 2 bad input, 3 read fault, 4 write fault, 5 keeper fault, 6 damaged store, 8 out of memory,
 9 unknown router, 10 old store, 11 store not empty. A line on standard error says why.
 ";
 

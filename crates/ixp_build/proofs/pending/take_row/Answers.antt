@@ -1,5 +1,5 @@
 use Rattle.std.proofs.Common.{ap, ◌∙◌}
-use Rattle.ixp_tables.specs.Tables.{put}
+use Rattle.ixp_num_tables.specs.Tables.{put}
 use Rattle.ixp_build.specs.Keys.{pending_key}
 use Rattle.ixp_build.proofs.Noting.{put_again}
 use Rattle.ixp_build.proofs.pending.take_row.Goals as goal

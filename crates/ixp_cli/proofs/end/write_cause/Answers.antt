@@ -1,5 +1,5 @@
 use Rattle.std.proofs.Common.{ℕ, List, ◌∷◌, ◌++◌, subst}
-use Rattle.ixp_causes.specs.Causes.{place_text}
+use Rattle.ixp_num.specs.Causes.{place_text}
 use Rattle.ixp_io.specs.Told.{TakesPart}
 use Rattle.ixp_cli.proofs.Telling.{takes_on, on_err}
 use Rattle.ixp_cli.proofs.end.write_cause.Goals as goal

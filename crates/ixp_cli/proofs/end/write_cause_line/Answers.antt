@@ -1,5 +1,5 @@
 use Rattle.std.proofs.Common.{[], ◌∷◌}
-use Rattle.ixp_causes.specs.Causes.{cause_text}
+use Rattle.ixp_num.specs.Causes.{cause_text}
 use Rattle.ixp_cli.proofs.Telling.{takes_on, on_err}
 use Rattle.ixp_cli.proofs.end.write_cause_line.Goals as goal
 

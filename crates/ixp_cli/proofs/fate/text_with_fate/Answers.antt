@@ -1,6 +1,6 @@
 use Rattle.std.proofs.Common.{◌∙◌, subst}
 use Rattle.std.specs.Option.{option_map}
-use Rattle.ixp_texts.specs.Texts.{IsTextOf}
+use Rattle.ixp_compile_laws.specs.Texts.{IsTextOf}
 use Rattle.ixp_cli.proofs.Fating.{a_fate, text_is}
 use Rattle.ixp_cli.proofs.fate.text_with_fate.Goals as goal
 

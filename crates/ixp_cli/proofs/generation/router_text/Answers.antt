@@ -1,6 +1,6 @@
 use Rattle.std.proofs.Common.{subst}
 use Rattle.std.specs.Option.{option_map}
-use Rattle.ixp_texts.specs.Texts.{IsTextOf}
+use Rattle.ixp_compile_laws.specs.Texts.{IsTextOf}
 use Rattle.ixp_cli.proofs.Generating.{generated_is}
 use Rattle.ixp_cli.proofs.generation.router_text.Goals as goal
 

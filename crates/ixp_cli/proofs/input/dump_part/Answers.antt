@@ -1,6 +1,6 @@
 use Rattle.std.proofs.Common.{rules, ◌≡◌, ◌∷◌, true, false, ◌&&◌, take, codes, arith, add-one, sym, ◌∙◌}
-use Rattle.ixp_tables.specs.Tables.{same}
-use Rattle.ixp_valid.proofs.Lists.{drop_next}
+use Rattle.ixp_num_tables.specs.Tables.{same}
+use Rattle.ixp_registry_breach.proofs.Lists.{drop_next}
 use Rattle.ixp_cli.proofs.Inputs.{dump_ends, dump_goes_on}
 use Rattle.ixp_cli.proofs.input.dump_part.Goals as goal
 

@@ -1,8 +1,8 @@
 use Rattle.std.proofs.Common.{inl, inr, refl, sym, subst}
 use Rattle.ixp_io.specs.Told.{WhereTold}
-use Rattle.ixp_load.specs.Answers.{IsStoreOf}
-use Rattle.ixp_steps.specs.declared.state.State.{State}
-use Rattle.ixp_steps.specs.States.{ValidState}
+use Rattle.ixp_store_words.specs.Answers.{IsStoreOf}
+use Rattle.ixp_machine_steps.specs.declared.state.State.{State}
+use Rattle.ixp_machine_steps.specs.States.{ValidState}
 use Rattle.ixp_cli.specs.Runs.{TurnOf}
 use Rattle.ixp_cli.proofs.Loading.{not_loaded}
 use Rattle.ixp_cli.proofs.Mapped.{serves}

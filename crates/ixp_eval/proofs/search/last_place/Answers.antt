@@ -1,6 +1,6 @@
 use Rattle.std.proofs.Common.{◌≡◌, ◌∙◌, [], None, drop, ap}
 use Rattle.std.proofs.Math.ListN.{drop_of_length-le}
-use Rattle.ixp_groups.specs.Values.{values_of}
+use Rattle.ixp_lang.specs.Values.{values_of}
 use Rattle.ixp_eval.specs.Indexed.{is_of, items_of}
 use Rattle.ixp_eval.specs.Places.{is_at}
 use Rattle.ixp_eval.proofs.Placing.{chosen, chosen_end, last_chosen, of_finds}

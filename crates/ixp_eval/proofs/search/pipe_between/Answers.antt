@@ -1,7 +1,7 @@
 use Rattle.std.proofs.Common.{◌∙◌, ◌+◌, drop, get_or, sym, ap}
 use Rattle.std.proofs.Math.ListN.{drop_of_length-le}
 use Rattle.std.proofs.lemmas.List.{drop_more}
-use Rattle.ixp_groups.specs.Values.{values_of}
+use Rattle.ixp_lang.specs.Values.{values_of}
 use Rattle.ixp_eval.specs.Indexed.{items_of}
 use Rattle.ixp_eval.specs.Places.{is_between}
 use Rattle.ixp_eval.proofs.Piping.{first_at, first_here, between_found}

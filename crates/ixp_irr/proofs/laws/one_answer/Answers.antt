@@ -1,4 +1,4 @@
-use Rattle.ixp_sorted.specs.Keys.{prefix_key, pattern_key, asn_key, range_key}
+use Rattle.ixp_num_sorted.specs.Keys.{prefix_key, pattern_key, asn_key, range_key}
 use Rattle.ixp_irr.specs.Items.{IsAsnText, IsPatternText, IsRangeText, Says, SaysPrefixOf}
 use Rattle.ixp_irr.proofs.OneAnswer.{one_answer}
 use Rattle.ixp_irr.proofs.SaysOne.{asn_text_one, pattern_text_one, range_text_one, says_one, says_prefix_one}

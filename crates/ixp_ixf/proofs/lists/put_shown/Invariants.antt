@@ -1,5 +1,5 @@
 use Rattle.std.proofs.Common.{◌≡◌, ◌++◌, drop, Bool, true, false, List, ℕ, codes}
-use Rattle.ixp_text.specs.Joined.{joined, more_joined}
+use Rattle.ixp_num_tables.specs.Joined.{joined, more_joined}
 use Rattle.ixp_ixf.specs.Rows.{shown}
 use Rattle.ixp_ixf.proofs.lists.put_shown.Given as goal
 

@@ -1,8 +1,8 @@
 use Rattle.std.proofs.Common.{rules, ◌≡◌, ℕ, ◌<◌, Ok, None, List, length, get_or, set, sym, subst, ap, ◌∙◌}
 use Rattle.ixp_registry.specs.Words.{owner_numbers}
-use Rattle.ixp_tables.specs.Tables.{Ascends, find, place, put}
-use Rattle.ixp_steps.specs.declared.kept.KeptOwner.{KeptOwner}
-use Rattle.ixp_steps.specs.Kept.{kept_key, kept_owner_key, kept_of}
+use Rattle.ixp_num_tables.specs.Tables.{Ascends, find, place, put}
+use Rattle.ixp_machine_steps.specs.declared.kept.KeptOwner.{KeptOwner}
+use Rattle.ixp_machine_steps.specs.Kept.{kept_key, kept_owner_key, kept_of}
 use Rattle.ixp_machine.proofs.InPlace.{of_owner, set_is_put, key_kept, ascends_now, noted_now}
 use Rattle.ixp_machine.proofs.keeping.carry.Goals as goal
 

@@ -1,8 +1,8 @@
 use Rattle.std.proofs.Common.{rules, ◌≡◌, List, [], ◌∷◌, None, sym, ap, ◌∙◌}
-use Rattle.ixp_tables.specs.Tables.{find, put, without}
-use Rattle.ixp_tables.proofs.TableLaws.{without-put}
-use Rattle.ixp_steps.specs.declared.kept.KeptNumber.{KeptNumber}
-use Rattle.ixp_steps.specs.Kept.{kept_key}
+use Rattle.ixp_num_tables.specs.Tables.{find, put, without}
+use Rattle.ixp_num_tables.proofs.TableLaws.{without-put}
+use Rattle.ixp_machine_steps.specs.declared.kept.KeptNumber.{KeptNumber}
+use Rattle.ixp_machine_steps.specs.Kept.{kept_key}
 use Rattle.ixp_machine.proofs.keeping.carry_known.Goals as goal
 
 pub returns-in-Err-clause-no_row : goal.returns-in-Err-clause-no_row

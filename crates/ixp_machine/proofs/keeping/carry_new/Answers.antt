@@ -1,9 +1,9 @@
 use Rattle.std.proofs.Common.{rules, ◌≡◌, List, None, ap, ◌∙◌}
-use Rattle.ixp_tables.specs.Tables.{put, without}
-use Rattle.ixp_tables.proofs.TableLaws.{without-put}
+use Rattle.ixp_num_tables.specs.Tables.{put, without}
+use Rattle.ixp_num_tables.proofs.TableLaws.{without-put}
 use Rattle.ixp_registry.specs.Words.{owner_numbers}
-use Rattle.ixp_steps.specs.declared.kept.KeptOwner.{KeptOwner}
-use Rattle.ixp_steps.specs.Kept.{kept_owner_key}
+use Rattle.ixp_machine_steps.specs.declared.kept.KeptOwner.{KeptOwner}
+use Rattle.ixp_machine_steps.specs.Kept.{kept_owner_key}
 use Rattle.ixp_machine.proofs.keeping.carry_new.Goals as goal
 
 pub returns-in-Err-clause-no_row : goal.returns-in-Err-clause-no_row

@@ -1,10 +1,10 @@
 use Rattle.std.proofs.Common.{rules, ◌≡◌, ◌+◌, ◌∷◌, [], List, length, Err, refl, sym, ap, ◌∙◌}
 use Rattle.std.specs.declared.cmp.Ordering.TheVariants.{Greater}
 use Rattle.ixp_registry.specs.Words.{owner_numbers}
-use Rattle.ixp_tables.specs.Tables.{order, place}
-use Rattle.ixp_tables.proofs.Places.{onward, find_gap, place_greater}
-use Rattle.ixp_steps.specs.declared.kept.KeptOwner.{KeptOwner}
-use Rattle.ixp_steps.specs.Kept.{kept_owner_key}
+use Rattle.ixp_num_tables.specs.Tables.{order, place}
+use Rattle.ixp_num_tables.proofs.Places.{onward, find_gap, place_greater}
+use Rattle.ixp_machine_steps.specs.declared.kept.KeptOwner.{KeptOwner}
+use Rattle.ixp_machine_steps.specs.Kept.{kept_owner_key}
 use Rattle.ixp_machine.proofs.keeping.place_of.Goals as goal
 
 no_rows : (rows : List KeptOwner) → length rows ≡ 0 → rows ≡ []

@@ -1,8 +1,8 @@
 use Rattle.std.proofs.Common.{◌≡◌, ◌+◌, length}
 use Rattle.ixp_registry.specs.Words.{owner_numbers}
-use Rattle.ixp_steps.specs.Kept.{kept_owner_key}
-use Rattle.ixp_tables.specs.Tables.{Ascends, place}
-use Rattle.ixp_tables.proofs.Places.{onward}
+use Rattle.ixp_machine_steps.specs.Kept.{kept_owner_key}
+use Rattle.ixp_num_tables.specs.Tables.{Ascends, place}
+use Rattle.ixp_num_tables.proofs.Places.{onward}
 use Rattle.ixp_machine.proofs.keeping.place_of.Given as goal
 
 abbrev pub invariant-each : goal.invariant-each

@@ -1,7 +1,7 @@
 use Rattle.std.proofs.Common.{rules, ◌≡◌, ℕ, [], ◌∷◌, Some, None, sym, subst}
 use Rattle.ixp_members.specs.Owners.{owner_of}
-use Rattle.ixp_tables.specs.Tables.{find}
-use Rattle.ixp_steps.specs.Kept.{kept_key, kept_of}
+use Rattle.ixp_num_tables.specs.Tables.{find}
+use Rattle.ixp_machine_steps.specs.Kept.{kept_key, kept_of}
 use Rattle.ixp_machine.proofs.Making.{fresh, named, unrefused}
 use Rattle.ixp_machine.proofs.preparing.prepare.Goals as goal
 

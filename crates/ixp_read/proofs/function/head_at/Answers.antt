@@ -1,8 +1,8 @@
 use Rattle.std.proofs.Common.{◌≡◌, ◌∙◌, ap}
 use Rattle.std.proofs.lemmas.Result.{err_from_is_err_and}
-use Rattle.ixp_tokens.specs.Reading.{read, kinds, ◌>>=◌}
-use Rattle.ixp_exprs.specs.Names.{names_of}
-use Rattle.ixp_exprs.proofs.Rounds.{passed_on}
+use Rattle.ixp_lang_tokens.specs.Reading.{read, kinds, ◌>>=◌}
+use Rattle.ixp_lang_exprs.specs.Names.{names_of}
+use Rattle.ixp_lang_exprs.proofs.Rounds.{passed_on}
 use Rattle.ixp_read.specs.Functions.{params_form}
 use Rattle.ixp_read.proofs.HeadSteps.{headed, head_reads}
 use Rattle.ixp_read.proofs.function.head_at.Goals as goal

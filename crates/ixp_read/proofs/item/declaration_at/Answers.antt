@@ -1,10 +1,10 @@
 use Rattle.std.proofs.Common.{◌≡◌, ◌∙◌, length, codes}
 use Rattle.std.proofs.lemmas.Result.{err_from_is_err_and}
-use Rattle.ixp_tokens.specs.Reading.{read, kinds, ◌>>=◌}
-use Rattle.ixp_tokens.specs.Pieces.{the_word}
-use Rattle.ixp_exprs.specs.Names.{names_of}
-use Rattle.ixp_exprs.proofs.Rounds.{passed_on}
-use Rattle.ixp_protocols.specs.Protocols.{protocol_end}
+use Rattle.ixp_lang_tokens.specs.Reading.{read, kinds, ◌>>=◌}
+use Rattle.ixp_lang_tokens.specs.Pieces.{the_word}
+use Rattle.ixp_lang_exprs.specs.Names.{names_of}
+use Rattle.ixp_lang_exprs.proofs.Rounds.{passed_on}
+use Rattle.ixp_lang_protocols.specs.Protocols.{protocol_end}
 use Rattle.ixp_read.proofs.ItemSteps.{define_next, function_next, filter_next, protocol_left}
 use Rattle.ixp_read.proofs.item.declaration_at.Goals as goal
 

@@ -1,7 +1,7 @@
 use Rattle.std.proofs.Common.{◌≡◌, ◌∙◌, sym, length}
-use Rattle.ixp_tokens.specs.Reading.{kinds, ◌>>=◌}
-use Rattle.ixp_exprs.specs.Names.{names_of}
-use Rattle.ixp_exprs.proofs.Firsts.{kinds_length}
+use Rattle.ixp_lang_tokens.specs.Reading.{kinds, ◌>>=◌}
+use Rattle.ixp_lang_exprs.specs.Names.{names_of}
+use Rattle.ixp_lang_exprs.proofs.Firsts.{kinds_length}
 use Rattle.ixp_read.proofs.ItemSteps.{router_next, table_left}
 use Rattle.ixp_read.proofs.item.item_at.Goals as goal
 

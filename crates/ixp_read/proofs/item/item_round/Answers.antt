@@ -1,9 +1,9 @@
 use Rattle.std.proofs.Common.{◌≡◌, ◌∙◌, ◌++◌, ◌∷◌, [], length, Ok, sym, ap, subst}
 use Rattle.std.proofs.lemmas.Result.{err_from_is_err_and}
-use Rattle.ixp_tokens.specs.Grammars.{onward, done}
-use Rattle.ixp_tokens.specs.Reading.{read, kinds, ◌>>=◌}
-use Rattle.ixp_exprs.specs.Names.{names_of}
-use Rattle.ixp_exprs.proofs.Rounds.{passed_on}
+use Rattle.ixp_lang_tokens.specs.Grammars.{onward, done}
+use Rattle.ixp_lang_tokens.specs.Reading.{read, kinds, ◌>>=◌}
+use Rattle.ixp_lang_exprs.specs.Names.{names_of}
+use Rattle.ixp_lang_exprs.proofs.Rounds.{passed_on}
 use Rattle.ixp_read.specs.Items.{item_form, config_round}
 use Rattle.ixp_read.specs.Views.{begun_of}
 use Rattle.ixp_read.proofs.RoundSteps.{at_end, none_left, some_left, added, round_item, with_one}

@@ -1,10 +1,10 @@
 use Rattle.std.proofs.Common.{◌≡◌, ◌∙◌, ◌<◌, refl, sym, ap, map, length, Ok, arith}
 use Rattle.std.proofs.lemmas.Result.{err_from_is_err_and}
 use Rattle.ixp_lang.specs.Views.{item_view}
-use Rattle.ixp_tokens.specs.Reading.{read, kinds}
-use Rattle.ixp_exprs.specs.Names.{names_of}
-use Rattle.ixp_exprs.proofs.Firsts.{kinds_length}
-use Rattle.ixp_exprs.proofs.Rounds.{ends, round_fails, goes_on}
+use Rattle.ixp_lang_tokens.specs.Reading.{read, kinds}
+use Rattle.ixp_lang_exprs.specs.Names.{names_of}
+use Rattle.ixp_lang_exprs.proofs.Firsts.{kinds_length}
+use Rattle.ixp_lang_exprs.proofs.Rounds.{ends, round_fails, goes_on}
 use Rattle.ixp_read.specs.Items.{config_round, config_form}
 use Rattle.ixp_read.specs.Views.{begun_of}
 use Rattle.ixp_read.proofs.item.items_at.Goals as goal

@@ -1,6 +1,6 @@
 use Rattle.std.proofs.Common.{◌≡◌, ◌≤◌, ℕ, length}
-use Rattle.ixp_tokens.specs.Reading.{read, kinds, read_rounds}
-use Rattle.ixp_exprs.specs.Names.{names_of}
+use Rattle.ixp_lang_tokens.specs.Reading.{read, kinds, read_rounds}
+use Rattle.ixp_lang_exprs.specs.Names.{names_of}
 use Rattle.ixp_read.specs.Items.{config_round, config_form}
 use Rattle.ixp_read.specs.Views.{begun_of}
 use Rattle.ixp_read.proofs.item.items_at.Given as goal

@@ -1,6 +1,6 @@
 use Rattle.std.proofs.Common.{◌≡◌, ◌∙◌, length}
-use Rattle.ixp_tokens.specs.Reading.{kinds, ◌>>=◌}
-use Rattle.ixp_exprs.specs.Names.{names_of}
+use Rattle.ixp_lang_tokens.specs.Reading.{kinds, ◌>>=◌}
+use Rattle.ixp_lang_exprs.specs.Names.{names_of}
 use Rattle.ixp_read.proofs.ItemSteps.{ipv4_next, ipv6_next, roa4_next, roa6_next, declaration_left}
 use Rattle.ixp_read.proofs.item.table_or_at.Goals as goal
 

@@ -1,10 +1,10 @@
 use Rattle.std.proofs.Common.{◌≡◌, ◌∙◌, refl, length, arith}
 use Rattle.std.proofs.lemmas.Result.{err_from_is_err_and}
-use Rattle.ixp_tokens.specs.Grammars.{rounds}
-use Rattle.ixp_tokens.specs.Reading.{read, kinds}
-use Rattle.ixp_exprs.specs.Names.{names_of}
-use Rattle.ixp_exprs.proofs.Firsts.{kinds_length}
-use Rattle.ixp_exprs.proofs.Rounds.{round_fails, goes_on}
+use Rattle.ixp_lang_tokens.specs.Grammars.{rounds}
+use Rattle.ixp_lang_tokens.specs.Reading.{read, kinds}
+use Rattle.ixp_lang_exprs.specs.Names.{names_of}
+use Rattle.ixp_lang_exprs.proofs.Firsts.{kinds_length}
+use Rattle.ixp_lang_exprs.proofs.Rounds.{round_fails, goes_on}
 use Rattle.ixp_read.specs.Functions.{no_params, param_round}
 use Rattle.ixp_read.specs.Views.{params_of}
 use Rattle.ixp_read.proofs.params.some_params_at.Goals as goal

@@ -1,7 +1,7 @@
 use Rattle.std.proofs.Common.{◌≡◌, ◌≤◌, ◌<◌, ℕ, length}
-use Rattle.ixp_tokens.specs.Grammars.{rounds}
-use Rattle.ixp_tokens.specs.Reading.{read, kinds, read_rounds}
-use Rattle.ixp_exprs.specs.Names.{names_of}
+use Rattle.ixp_lang_tokens.specs.Grammars.{rounds}
+use Rattle.ixp_lang_tokens.specs.Reading.{read, kinds, read_rounds}
+use Rattle.ixp_lang_exprs.specs.Names.{names_of}
 use Rattle.ixp_read.specs.Functions.{no_params, param_round}
 use Rattle.ixp_read.specs.Views.{params_of}
 use Rattle.ixp_read.proofs.params.some_params_at.Given as goal

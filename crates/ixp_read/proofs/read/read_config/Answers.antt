@@ -1,7 +1,7 @@
 use Rattle.std.proofs.Common.{sym, subst, map, []}
 use Rattle.ixp_lang.specs.Views.{item_view}
-use Rattle.ixp_tokens.specs.Reading.{kinds}
-use Rattle.ixp_tokens.specs.Tokens.{HasTokens}
+use Rattle.ixp_lang_tokens.specs.Reading.{kinds}
+use Rattle.ixp_lang_tokens.specs.Tokens.{HasTokens}
 use Rattle.ixp_read.proofs.ConfigurationLaws.{config_spelt}
 use Rattle.ixp_read.proofs.read.read_config.Goals as goal
 

@@ -1,7 +1,7 @@
 use Rattle.std.proofs.Common.{rules, ◌≡◌, ◌++◌, ◌∷◌, [], subst, sym, ap, ◌∙◌, append-nil, flat_map, length, map}
 use Rattle.ixp_num.specs.declared.family.Family.TheVariants.{V4, V6}
-use Rattle.ixp_tables.specs.Tables.{Ascends}
-use Rattle.ixp_tables.proofs.Places.{Ascends_behind}
+use Rattle.ixp_num_tables.specs.Tables.{Ascends}
+use Rattle.ixp_num_tables.proofs.Places.{Ascends_behind}
 use Rattle.ixp_registry.specs.Keys.{address_key, interface_row_key}
 use Rattle.ixp_registry.specs.Registries.{bare, addresses_of}
 use Rattle.ixp_registry.specs.Valid.{IsIn}

@@ -1,7 +1,7 @@
 use Rattle.std.proofs.Common.{◌≡◌, ◌++◌, map, flat_map, length}
 use Rattle.std.specs.List.{AllByRecursion}
 use Rattle.ixp_num.specs.declared.family.Family.TheVariants.{V4, V6}
-use Rattle.ixp_tables.specs.Tables.{Ascends}
+use Rattle.ixp_num_tables.specs.Tables.{Ascends}
 use Rattle.ixp_registry.specs.Keys.{address_key, interface_row_key}
 use Rattle.ixp_registry.specs.Registries.{bare, addresses_of}
 use Rattle.ixp_registry.specs.Valid.{IsIn}

@@ -1,7 +1,7 @@
 use Rattle.std.proofs.Common.{rules, ◌≡◌, ◌++◌, ◌∷◌, [], subst, sym, ap, ◌∙◌, flat_map, map}
 use Rattle.std.specs.List.{AllByRecursion}
-use Rattle.ixp_tables.specs.Tables.{Ascends}
-use Rattle.ixp_tables.proofs.Places.{Ascends_behind}
+use Rattle.ixp_num_tables.specs.Tables.{Ascends}
+use Rattle.ixp_num_tables.proofs.Places.{Ascends_behind}
 use Rattle.ixp_rows.proofs.Listed.{GroupsBelow, rows_moved, lists_ascend, groups_below, list_stands}
 use Rattle.ixp_rows.proofs.gathering.lists_of.Goals as goal
 

@@ -1,6 +1,6 @@
 use Rattle.std.proofs.Common.{◌≡◌, ◌++◌, length, flat_map}
 use Rattle.std.specs.List.{AllByRecursion}
-use Rattle.ixp_tables.specs.Tables.{Ascends}
+use Rattle.ixp_num_tables.specs.Tables.{Ascends}
 use Rattle.ixp_rows.proofs.Listed.{GroupsBelow}
 use Rattle.ixp_rows.proofs.gathering.lists_of.Given as goal
 

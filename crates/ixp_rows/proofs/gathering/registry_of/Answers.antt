@@ -1,5 +1,5 @@
 use Rattle.std.proofs.Common.{sym, ◌∙◌, subst}
-use Rattle.ixp_tables.specs.Tables.{Ascends}
+use Rattle.ixp_num_tables.specs.Tables.{Ascends}
 use Rattle.ixp_registry.specs.Keys.{interface_row_key}
 use Rattle.ixp_rows.proofs.Gathered.{AreThere, all_there, bare_ascends}
 use Rattle.ixp_rows.proofs.gathering.registry_of.Goals as goal

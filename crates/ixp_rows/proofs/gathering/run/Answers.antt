@@ -1,5 +1,5 @@
 use Rattle.std.proofs.Common.{rules, ◌≡◌, ◌∷◌, arith, add-one, sym, ◌∙◌}
-use Rattle.ixp_valid.proofs.Lists.{drop_next}
+use Rattle.ixp_registry_breach.proofs.Lists.{drop_next}
 use Rattle.ixp_rows.proofs.Gathered.{run_step}
 use Rattle.ixp_rows.proofs.gathering.run.Goals as goal
 

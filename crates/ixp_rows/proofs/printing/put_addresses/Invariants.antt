@@ -1,5 +1,5 @@
 use Rattle.std.proofs.Common.{◌≡◌, ◌++◌, drop, flat_map}
-use Rattle.ixp_lines.specs.Lines.{address_line}
+use Rattle.ixp_rows_lines.specs.Lines.{address_line}
 use Rattle.ixp_registry.specs.Registries.{addresses_of}
 use Rattle.ixp_rows.specs.Texts.{lines_by}
 use Rattle.ixp_rows.proofs.printing.put_addresses.Given as goal

@@ -1,5 +1,5 @@
 use Rattle.std.proofs.Common.{◌≡◌, ◌++◌, drop, flat_map}
-use Rattle.ixp_lines.specs.declared.version.Version.TheVariants.{Two}
+use Rattle.ixp_rows_lines.specs.declared.version.Version.TheVariants.{Two}
 use Rattle.ixp_registry.specs.Registries.{rows_of}
 use Rattle.ixp_rows.specs.Printing.{kind_lines}
 use Rattle.ixp_rows.proofs.printing.put_kinds.Given as goal

@@ -1,5 +1,5 @@
 use Rattle.std.proofs.Common.{◌≡◌, ◌++◌, drop, map}
-use Rattle.ixp_lines.specs.Lines.{origin_line}
+use Rattle.ixp_rows_lines.specs.Lines.{origin_line}
 use Rattle.ixp_rows.specs.Texts.{lines_by}
 use Rattle.ixp_rows.proofs.printing.put_origin_list.Given as goal
 

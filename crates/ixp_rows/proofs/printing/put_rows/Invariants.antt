@@ -1,6 +1,6 @@
 use Rattle.std.proofs.Common.{◌≡◌, ◌++◌, drop, flat_map}
-use Rattle.ixp_lines.specs.declared.version.Version.TheVariants.{Two}
-use Rattle.ixp_lines.specs.Lines.{text_of}
+use Rattle.ixp_rows_lines.specs.declared.version.Version.TheVariants.{Two}
+use Rattle.ixp_rows_lines.specs.Lines.{text_of}
 use Rattle.ixp_rows.proofs.printing.put_rows.Given as goal
 
 abbrev pub invariant-loop-row : goal.invariant-loop-row

@@ -1,7 +1,7 @@
 use Rattle.std.proofs.Common.{sym, subst, length}
 use Rattle.std.specs.List.{AllByRecursion}
-use Rattle.ixp_tables.specs.Tables.{Ascends}
-use Rattle.ixp_tables.proofs.Views.{Ascends-more}
+use Rattle.ixp_num_tables.specs.Tables.{Ascends}
+use Rattle.ixp_num_tables.proofs.Views.{Ascends-more}
 use Rattle.ixp_rows.specs.Reading.{section}
 use Rattle.ixp_rows.proofs.Sections.{all_and, Reads, step, stop, fail, clash, fails, above}
 use Rattle.ixp_rows.proofs.section.section.Goals as goal

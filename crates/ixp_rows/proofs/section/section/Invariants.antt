@@ -1,6 +1,6 @@
 use Rattle.std.proofs.Common.{length}
 use Rattle.std.specs.List.{AllByRecursion}
-use Rattle.ixp_tables.specs.Tables.{Ascends}
+use Rattle.ixp_num_tables.specs.Tables.{Ascends}
 use Rattle.ixp_rows.specs.Reading.{section}
 use Rattle.ixp_rows.proofs.Sections.{Reads}
 use Rattle.ixp_rows.proofs.section.section.Given as goal

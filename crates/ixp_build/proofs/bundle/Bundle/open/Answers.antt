@@ -1,5 +1,5 @@
 use Rattle.std.proofs.Common.{rules, ◌≡◌}
-use Rattle.ixp_generate.proofs.Bounds.{all_fit}
+use Rattle.ixp_compile_text.proofs.Bounds.{all_fit}
 use Rattle.ixp_build.specs.Opened.{texts_rows}
 use Rattle.ixp_build.proofs.OpenedTexts.{opened}
 use Rattle.ixp_build.proofs.bundle.Bundle.open.Goals as goal

@@ -1,5 +1,5 @@
 use Rattle.std.proofs.Common.{sym, subst}
-use Rattle.ixp_generate.proofs.Bounds.{all_fit}
+use Rattle.ixp_compile_text.proofs.Bounds.{all_fit}
 use Rattle.ixp_build.specs.Orders.{HasBounds}
 use Rattle.ixp_build.proofs.AfterEdits.{orders_bounded}
 use Rattle.ixp_build.proofs.Noting.{refreshed, whole_follows}

@@ -1,5 +1,5 @@
 use Rattle.std.proofs.Common.{◌≡◌, ◌+◌, ◌++◌, ℕ, List, length, map}
-use Rattle.ixp_groups.specs.Values.{values_of}
+use Rattle.ixp_lang.specs.Values.{values_of}
 use Rattle.ixp_lang.specs.Views.{item_view}
 use Rattle.ixp_eval.specs.Places.{places_of}
 use Rattle.ixp_eval.proofs.index.Index.of.Given as goal

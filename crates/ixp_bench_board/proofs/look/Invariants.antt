@@ -1,5 +1,0 @@
-use Rattle.ixp_bench_board.proofs.look.Given as goal
-
--- the board that was just begun
-abbrev pub ghosts-looks_beside_turns : goal.ghosts-looks_beside_turns
-ghosts-looks_beside_turns g a = record { book = a.opened.0 }

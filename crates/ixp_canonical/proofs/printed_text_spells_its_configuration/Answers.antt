@@ -1,8 +1,0 @@
-use Rattle.ixp_canonical.proofs.WrittenTokens.{spells_law, alone_law}
-use Rattle.ixp_canonical.proofs.printed_text_spells_its_configuration.Goals as goal
-
-pub returns-clause-spelt : goal.returns-clause-spelt
-returns-clause-spelt c = spells_law
-
-pub returns-clause-alone : goal.returns-clause-alone
-returns-clause-alone c = alone_law

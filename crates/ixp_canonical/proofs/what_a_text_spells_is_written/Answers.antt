@@ -1,5 +1,0 @@
-use Rattle.ixp_canonical.proofs.WrittenTokens.{written_law}
-use Rattle.ixp_canonical.proofs.what_a_text_spells_is_written.Goals as goal
-
-pub returns : goal.returns
-returns c = written_law

@@ -1,4 +1,0 @@
-pub mod Canonical
-pub mod CanonicalItems
-pub mod Printed
-pub mod Spelling

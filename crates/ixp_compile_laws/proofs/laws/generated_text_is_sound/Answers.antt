@@ -1,0 +1,8 @@
+use Rattle.ixp_compile_laws.proofs.SoundTexts.{whole_sound, own_sound}
+use Rattle.ixp_compile_laws.proofs.laws.generated_text_is_sound.Goals as goal
+
+pub returns-clause-whole : goal.returns-clause-whole
+returns-clause-whole c = λ r handle router valid there. whole_sound r handle router valid there
+
+pub returns-clause-own : goal.returns-clause-own
+returns-clause-own c = λ r handle router n s valid there at. own_sound r handle router valid there n s at

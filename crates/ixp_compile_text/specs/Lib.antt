@@ -1,0 +1,4 @@
+pub mod Parts
+pub mod Addresses
+pub mod Sessions
+pub mod Answers

@@ -1,0 +1,130 @@
+//! What the parts of a router's text depend on, taken from the rows of a registry.
+ghost use Rattle.std.specs.Prelude.{◌≡◌, IfOk, option_map};
+ghost use Rattle.ixp_registry.specs.Sessions.{member_addresses, session};
+ghost use Rattle.ixp_policy.specs.Import.{is_listed};
+ghost use Rattle.ixp_compile.specs.Generated.{header_inputs, inputs};
+ghost use Rattle.ixp_compile_text.specs.Answers.{header_inputs_at, inputs_at};
+ghost use Rattle.ixp_policy.specs.Views.{session_of};
+
+use crate::addresses::addresses_of_member;
+use ixp_compile::{HeaderInputs, Inputs};
+use ixp_num::{Addr, Asn, Items, Name, Prefix};
+use ixp_num_tables::Copied;
+use ixp_policy::{SessionRows, session};
+use ixp_registry::{Registry, Router};
+use std::alloc::{AllocError, Global};
+
+fn is_listed(asns: &[Asn], number: u32) -> bool
+    ensures { result ≡ is_listed asns.now number }
+{
+    asns.iter().any(|a| a.0 == number)
+}
+
+/// What the session's part depends on, with these prefixes in the place of the member's. The addresses are the member's.
+pub(crate) fn inputs_with(
+    alloc: Global,
+    registry: &Registry,
+    router: &Router,
+    session: &SessionRows<'_>,
+    addresses: Items<Addr>,
+    prefixes: Items<Prefix>,
+) -> Result<Inputs, AllocError>
+    requires { addresses ≡ member_addresses registry.now router.now (session_of session.now) }
+    ensures { IfOk result (λ i. i ≡ record (inputs registry.now router.now (session_of session.now)) { prefixes = prefixes }) }
+{
+    let transit = registry.public.transit.as_slice();
+    Ok(Inputs {
+        rs: router.asn,
+        family: router.family,
+        high: router.high,
+        rpki: router.rpki,
+        blackhole: router.blackhole,
+        local: router.addr,
+        interface: session.interface.number,
+        address: session.address.copied(alloc)?,
+        asn: session.member.asn,
+        addresses,
+        transit_free: is_listed(transit, session.member.asn.0),
+        prefixes,
+        origins: Items::from_slice(alloc, session.origins)?,
+        rules: Items::from_slice(alloc, session.rules)?,
+    })
+}
+
+/// What the session's part depends on.
+pub(crate) fn inputs_of(
+    alloc: Global,
+    registry: &Registry,
+    router: &Router,
+    session: &SessionRows<'_>,
+) -> Result<Inputs, AllocError>
+    ensures { IfOk result (λ i. i ≡ inputs registry.now router.now (session_of session.now)) }
+{
+    let interfaces = registry.interfaces.as_slice();
+    let member = session.interface.member;
+    let vlan = session.interface.vlan;
+    let addresses = addresses_of_member(alloc, interfaces, router.family, vlan, member)?;
+    let prefixes = Items::from_slice(alloc, session.prefixes)?;
+    inputs_with(alloc, registry, router, session, addresses, prefixes)
+}
+
+/// What the head of the router's text depends on.
+pub fn header_inputs_of(
+    alloc: Global,
+    registry: &Registry,
+    router: &Router,
+) -> Result<HeaderInputs, AllocError>
+    ensures { IfOk result (λ h. h ≡ header_inputs registry.now router.now) }
+{
+    let public = &registry.public;
+    Ok(HeaderInputs {
+        router: router.copied(alloc)?,
+        bogons: Items::from_slice(alloc, public.bogons.as_slice())?,
+        bogon_as: Items::from_slice(alloc, public.bogon_as.as_slice())?,
+        transit: Items::from_slice(alloc, public.transit.as_slice())?,
+    })
+}
+
+/// What the head of the text of the router with the handle depends on; None where no router has it.
+pub fn header_inputs(
+    alloc: Global,
+    registry: &Registry,
+    router: &Name,
+) -> Result<Option<HeaderInputs>, AllocError>
+    ensures { IfOk result (λ h. h ≡ header_inputs_at registry.now router.now) }
+{
+    match registry.routers.find(router) {
+        Some(router) => Ok(Some(header_inputs_of(alloc, registry, router)?)),
+        None => Ok(None),
+    }
+}
+
+/// What the part of the router's session at the interface depends on; None where there is no such session.
+pub(crate) fn session_inputs(
+    alloc: Global,
+    registry: &Registry,
+    router: &Router,
+    interface: u32,
+) -> Result<Option<Inputs>, AllocError>
+    ensures { IfOk result (λ o. o ≡ option_map (inputs registry.now router.now) (session registry.now router.now interface)) }
+{
+    match session(registry, router, interface) {
+        Some(session) => Ok(Some(inputs_of(alloc, registry, router, &session)?)),
+        None => Ok(None),
+    }
+}
+
+/// What the part of the router's session at the interface depends on; None where there is no such router or session.
+pub fn inputs(
+    alloc: Global,
+    registry: &Registry,
+    router: &Name,
+    interface: u32,
+) -> Result<Option<Inputs>, AllocError>
+    ensures { IfOk result (λ i. i ≡ inputs_at registry.now router.now interface) }
+{
+    match registry.routers.find(router) {
+        Some(router) => session_inputs(alloc, registry, router, interface),
+        None => Ok(None),
+    }
+}

@@ -1,5 +1,0 @@
-use Rattle.ixp_demo.proofs.Validity.{valid_demo}
-use Rattle.ixp_demo.proofs.laws.demo_is_valid.Goals as goal
-
-pub returns : goal.returns
-returns c = valid_demo

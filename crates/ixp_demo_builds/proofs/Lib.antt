@@ -1,3 +1,0 @@
-pub mod SameRequests
-pub mod Equals
-pub mod AfterRequests

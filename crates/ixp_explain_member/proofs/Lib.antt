@@ -1,0 +1,7 @@
+pub mod Answering
+pub mod Explaining
+mod Numbers
+pub mod Reports
+mod Senders
+mod Shapes
+mod Wishes

@@ -1,5 +1,0 @@
-use Rattle.ixp_explained.proofs.Reports.{tells}
-use Rattle.ixp_explained.proofs.laws.own_text_explains.Goals as goal
-
-pub returns : goal.returns
-returns c = λ r handle router n s valid there its. tells r valid handle router there n s its

@@ -1,6 +1,0 @@
-pub mod RulesBackwards
-pub mod Ascending
-pub mod SessionTexts
-pub mod WholeParts
-pub mod Bodies
-pub mod Bounds

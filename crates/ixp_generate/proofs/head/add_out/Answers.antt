@@ -1,7 +1,0 @@
-use Rattle.ixp_generate.specs.Items.{out_item}
-use Rattle.ixp_generate.proofs.Bodies.{filter_made}
-use Rattle.ixp_generate.proofs.head.add_out.Goals as goal
-
-pub returns : goal.returns
-unfolding out_item
-returns c = filter_made _ _ _ _ _ _ c.in_ok-name.ensures c.in_ok-body.ensures c.in_ok-add_filter.ensures

@@ -1,8 +1,0 @@
-use Rattle.std.proofs.Common.{refl}
-use Rattle.ixp_generate.specs.Items.{sends_item}
-use Rattle.ixp_generate.proofs.Bodies.{function_made}
-use Rattle.ixp_generate.proofs.head.add_sends.Goals as goal
-
-pub returns : goal.returns
-unfolding sends_item
-returns c = function_made _ _ _ _ _ _ _ refl c.in_ok-body.ensures c.in_ok-add_function_with.ensures

@@ -1,7 +1,0 @@
-use Rattle.ixp_generate.specs.Items.{transit_item}
-use Rattle.ixp_generate.proofs.Bodies.{function_made}
-use Rattle.ixp_generate.proofs.head.add_transit.Goals as goal
-
-pub returns : goal.returns
-unfolding transit_item
-returns c = function_made _ _ _ _ _ _ _ c.in_ok-name.ensures c.in_ok-body.ensures c.in_ok-add_function.ensures

@@ -1,0 +1,20 @@
+//! What answers calls.
+ghost use Rattle.ixp_api.specs.declared.call.Call.{Call};
+ghost use Rattle.ixp_api_replies.specs.declared.outcome.Outcome.{Outcome};
+
+use ixp_api::{Call, Outcome};
+use std::alloc::Global;
+
+/// What answers calls over a store and a clock, which stand beside it. An outcome of running out of memory ends the link.
+pub trait Desk<P, C> {
+    /// The store is the desk's.
+    ghost fits: { Self → P → Type 0 };
+
+    /// What a call does: desk, store and clock before, the call, how it ended, and desk, store and clock after.
+    ghost turn: { Self × P × C → Call → Outcome → Self × P × C → Type 0 };
+
+    fn answer(&mut self, alloc: Global, store: &mut P, clock: &mut C, call: Call) -> Outcome
+        requires { fits self.old store.old }
+        ensures turn { turn (self.old, store.old, clock.old) call result (self.new, store.new, clock.new) }
+        ensures fits { fits self.new store.new };
+}

@@ -1,0 +1,201 @@
+//! Links in scoped threads.
+ghost use Rattle.std.specs.Prelude.{◌≡◌, ◌≤◌, OnOk, OnErr, IfOk};
+ghost use Rattle.ixp_io.specs.Faults.{Rose};
+ghost use Rattle.ixp_io_workers.specs.Doors.{Gave};
+
+use crate::background::start_background;
+use crate::working::start_workers;
+use crate::{Host, Queue, SharedClock};
+use ixp_io::{Clock, Door, Failed};
+use std::alloc::{AllocError, Global};
+use std::sync::{Mutex, Wait};
+use std::thread;
+use std::thread::Threads;
+
+/// Which threads the caller has beside its own.
+#[derive(Clone, Copy)]
+struct Started {
+    workers: u32,
+    background: bool,
+}
+
+// Hands a link to the workers, and does what no thread was started for.
+fn hand_on<R: Wait, C: Clock, L: Drop, H: Host<L>>(
+    rt: &R,
+    queue: &Queue<L>,
+    clock: &Mutex<C>,
+    host: &H,
+    started: Started,
+    link: L,
+) {
+    if started.workers > 0 {
+        queue.put(rt, link);
+    } else {
+        host.host(rt, link, &mut SharedClock::new(rt, clock));
+    }
+    if !started.background {
+        host.turn(rt);
+    }
+}
+
+// Accepts so many links, one after the other.
+fn accept_all<R: Wait, D: Door, C: Clock, H: Host<D::Link>>(
+    rt: &R,
+    door: &mut D,
+    queue: &Queue<D::Link>,
+    clock: &Mutex<C>,
+    host: &H,
+    links: u32,
+    started: Started,
+) -> Result<(), Failed>
+where
+    D::Link: Drop,
+    ensures gave { OnOk result (Gave (D.links door.old) (D.links door.new) links) }
+    ensures counts { D.faults door.old ≤ D.faults door.new }
+    ensures cause { OnErr result (Rose (D.faults door.old) (D.faults door.new)) }
+{
+    for _ in 0..links {
+        let link = door.accept()?;
+        hand_on(rt, queue, clock, host, started, link);
+    }
+    Ok(())
+}
+
+/// What the caller does while the workers run. It hands back what it was lent: a scope tells what its closure returns,
+/// and nothing of what the closure captured.
+trait Errand<L: Drop, C, H> {
+    type Output;
+
+    ghost gives: { Self → Self.Output → Type 0 };
+
+    fn run<R: Wait>(
+        self,
+        rt: &R,
+        queue: &Queue<L>,
+        clock: &Mutex<C>,
+        host: &H,
+        started: Started,
+    ) -> Self::Output
+        ensures { gives self result };
+}
+
+/// Accepts the links of a door.
+#[derive(Drop)]
+struct Accepting<'a, D: Door> {
+    door: &'a mut D,
+    links: u32,
+}
+
+impl<'a, D: Door, C: Clock, H: Host<D::Link>> Errand<D::Link, C, H> for Accepting<'a, D>
+where
+    D::Link: Drop,
+{
+    type Output = (&'a mut D, Result<(), Failed>);
+
+    ghost gives = { λ it given. (given.0.ghost_name ≡ it.door.ghost_name)
+        × OnOk given.1 (Gave (D.links it.door.now) (D.links given.0.now) it.links)
+        × OnErr given.1 (Rose (D.faults it.door.now) (D.faults given.0.now)) };
+
+    fn run<R: Wait>(
+        self,
+        rt: &R,
+        queue: &Queue<D::Link>,
+        clock: &Mutex<C>,
+        host: &H,
+        started: Started,
+    ) -> (&'a mut D, Result<(), Failed>) {
+        let Accepting { door, links } = self;
+        let done = accept_all(rt, door, queue, clock, host, links, started);
+        (door, done)
+    }
+}
+
+// Runs the errand while workers serve the links of the queue; all have ended when it returns.
+fn beside_workers<
+    R: Threads + Wait + Sync,
+    C: Clock + Send,
+    L: Drop + Send,
+    H: Host<L> + Sync,
+    T: Errand<L, C, H> + Drop,
+>(
+    rt: &R,
+    queue: &Queue<L>,
+    clock: &Mutex<C>,
+    host: &H,
+    workers: u32,
+    background: bool,
+    errand: T,
+) -> T::Output
+    ensures { T.gives errand result }
+{
+    thread::scope(
+        thread::scope_env(),
+        rt,
+        move |scope| -> T::Output
+            ensures { T.gives errand result }
+        {
+            let workers = start_workers(scope, rt, queue, clock, host, workers);
+            let started = Started {
+                workers,
+                background,
+            };
+            let given = errand.run(rt, queue, clock, host, started);
+            queue.close(rt);
+            given
+        },
+    )
+}
+
+// Runs the errand and the workers while the background's work is done; it ends once all links were served.
+fn beside_all<
+    R: Threads + Wait + Sync,
+    C: Clock + Send,
+    L: Drop + Send,
+    H: Host<L> + Sync,
+    T: Errand<L, C, H> + Drop,
+>(rt: &R, queue: &Queue<L>, clock: &Mutex<C>, host: &H, workers: u32, errand: T) -> T::Output
+    ensures { T.gives errand result }
+{
+    thread::scope(
+        thread::scope_env(),
+        rt,
+        move |scope| -> T::Output
+            ensures { T.gives errand result }
+        {
+            let background = start_background(scope, rt, host);
+            let given = beside_workers(rt, queue, clock, host, workers, background, errand);
+            host.end(rt);
+            given
+        },
+    )
+}
+
+// Does nothing, but this use of a returned reference ties it, for the borrow checker, to the parameter that lent it.
+fn take_back<T>(it: &mut T)
+    ensures { it.new ≡ it.old }
+{}
+
+/// Serves so many links of a door by so many workers. Where no worker can be started the caller serves each link itself,
+/// and where the background's work can't, the caller does a turn of it after each link that it accepts.
+pub fn serve<R: Threads + Wait + Sync, D: Door + Send, C: Clock + Send, H: Host<D::Link> + Sync>(
+    rt: &R,
+    alloc: Global,
+    door: &mut D,
+    clock: &mut C,
+    host: &H,
+    workers: u32,
+    links: u32,
+) -> Result<Result<(), Failed>, AllocError>
+where
+    D::Link: Drop + Send,
+    ensures gave { IfOk result (λ done. OnOk done (Gave (D.links door.old) (D.links door.new) links)) }
+    ensures cause { IfOk result (λ done. OnErr done (Rose (D.faults door.old) (D.faults door.new))) }
+{
+    let queue = Queue::new(alloc)?;
+    let clock = Mutex::new(&mut *clock);
+    let lent = &mut *door;
+    let errand = Accepting { door: lent, links };
+    let (back, done) = beside_all(rt, &queue, &clock, host, workers, errand);
+    take_back(back);
+    Ok(done)
+}

@@ -1,6 +1,0 @@
-use Rattle.std.proofs.Common.{rules}
-use Rattle.ixp_load.proofs.Sorting.{rises_by_closure}
-use Rattle.ixp_load.proofs.sections.sort_placed.Goals as goal
-
-pub returns-clause-rises : goal.returns-clause-rises
-returns-clause-rises g c = rises_by_closure (λ p. g.R.Lined.key p.line) _ c.sort_unstable_by.ensures.sorted (λ a r f' k. search rules)

@@ -1,0 +1,5 @@
+pub mod Afters
+pub mod Columning
+pub mod Lookings
+pub mod Shifts
+pub mod Weighing

@@ -1,0 +1,9 @@
+pub mod Kept
+pub mod Openings
+pub mod Requests
+pub mod Rights
+pub mod Runs
+pub mod States
+pub mod Steps
+pub mod Subjects
+pub mod Views

@@ -1,0 +1,12 @@
+pub mod Alike
+pub mod AllItems
+pub mod Counts
+pub mod FirstNumbers
+pub mod Looking
+pub mod Orders
+pub mod PairLaws
+pub mod Places
+pub mod PrintedNumbers
+pub mod SumLaws
+pub mod TableLaws
+pub mod Views

@@ -1,6 +1,0 @@
-use Rattle.ixp_paths.specs.declared.table.TheConstants.{TABLE}
-use Rattle.ixp_paths.specs.Serves.{OnlyTable, HasBelow}
-use Rattle.ixp_paths.proofs.served.Paths.new.Given as goal
-
-abbrev pub invariant-loop-place : goal.invariant-loop-place
-invariant-loop-place l = record { only : OnlyTable TABLE l.router; all : HasBelow TABLE l.place l.router }

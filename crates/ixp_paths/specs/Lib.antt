@@ -1,5 +1,0 @@
-pub mod Numbers
-pub mod Paths
-pub mod Fits
-pub mod Serves
-pub mod Table

@@ -1,6 +1,0 @@
-pub mod KeptLaws
-pub mod KeptOwners
-pub mod Accepting
-pub mod Staying
-pub mod Once
-pub mod Isolating

@@ -1,5 +1,0 @@
-use Rattle.ixp_steps.proofs.Isolating.{apart}
-use Rattle.ixp_steps.proofs.laws.members_are_apart.Goals as goal
-
-pub returns : goal.returns
-returns c = apart

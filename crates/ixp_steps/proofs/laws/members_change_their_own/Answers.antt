@@ -1,5 +1,0 @@
-use Rattle.ixp_steps.proofs.Isolating.{own_alone}
-use Rattle.ixp_steps.proofs.laws.members_change_their_own.Goals as goal
-
-pub returns : goal.returns
-returns c = own_alone

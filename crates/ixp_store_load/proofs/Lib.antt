@@ -1,0 +1,11 @@
+pub mod Batches
+pub mod Faults
+pub mod Keeping
+pub mod KeptTable
+pub mod Nothing
+pub mod Reading
+pub mod RegistryRows
+pub mod RightStates
+pub mod RowsAgain
+pub mod Storable
+pub mod Subjects

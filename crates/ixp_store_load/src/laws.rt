@@ -1,0 +1,25 @@
+//! The laws. The functions do nothing: each is called for what it ensures.
+ghost use Rattle.std.specs.Prelude.{◌<◌, ◌≤◌, ◌^◌, ◌-◌, length};
+ghost use Rattle.ixp_machine_edits.specs.Edits.{IsLawful};
+ghost use Rattle.ixp_machine_steps.specs.Openings.{first_state};
+ghost use Rattle.ixp_registry.specs.declared.registry.Registry.{Registry};
+ghost use Rattle.ixp_machine_steps.specs.declared.state.Entry.{Entry};
+ghost use Rattle.ixp_machine_steps.specs.declared.state.State.{State};
+ghost use Rattle.ixp_machine_steps.specs.States.{ValidState};
+ghost use Rattle.ixp_machine_steps.specs.Steps.{step};
+ghost use Rattle.ixp_store_rows.specs.States.{stored_rows};
+ghost use Rattle.ixp_store_words.specs.Storing.{IsStorable};
+
+/// States that requests lead to can be loaded again: the first state of a registry is one, and a request to one leaves one, as
+/// long as the count of accepted requests has room.
+#[tactic(auto, using(crate::proofs::Storable::first_storable, crate::proofs::Storable::still_storable))]
+pub fn requests_keep_states_storable()
+    ensures first { (r : Registry) → IsStorable (first_state r) }
+    ensures next { (s : State) (e : Entry) → ValidState s → IsStorable s → IsLawful e.edit → s.accepted < 2 ^ 64 - 1 → IsStorable (step s e) }
+{}
+
+/// A store of a valid state has at most 8,000,000 rows.
+#[tactic(auto, using(ixp_store_damage::proofs::FewRows::few_rows))]
+pub fn valid_states_have_few_rows()
+    ensures { (s : State) → ValidState s → length (stored_rows s) ≤ 8000000 }
+{}

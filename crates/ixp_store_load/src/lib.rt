@@ -1,0 +1,20 @@
+//! The state that a store holds.
+//!
+//! [`load`] reads all rows of a keeper. It answers the valid state whose rows they are (`specs/States.antt` of ixp_store_rows), or why
+//! there is none: the first row, in the keeper's order, that is no row of a state, or the lowest rule of a registry that the
+//! rows break and the row that breaks it.
+//!
+//! Proved are the state that is answered; that the rows of each state that requests lead to are loaded (`specs/Storing.antt` of ixp_store_words), as are
+//! those of an empty store; that an older version is told exactly where the row of the version says so; that a keeper's fault is told
+//! exactly where one came; and which row is told to be damaged (`specs/Damages.antt` of ixp_store_damage). So damage is told only where the rows are
+//! those of no such state.
+#![tactic(auto)]
+
+mod checking;
+mod keeper;
+mod laws;
+mod opened;
+
+pub use ixp_store_words::{Damage, LoadFault};
+pub use laws::{requests_keep_states_storable, valid_states_have_few_rows};
+pub use opened::load;

@@ -1,7 +1,0 @@
-use Rattle.std.proofs.Common.{◌≡◌, ◌++◌, drop, map, flat_map}
-use Rattle.ixp_stored.specs.Names.{kept_rows}
-use Rattle.ixp_stored.specs.States.{set_row}
-use Rattle.ixp_stored.proofs.kept.set_all_kept.Given as goal
-
-abbrev pub invariant-loop-owner : goal.invariant-loop-owner
-invariant-loop-owner l = l.batch.items ++ map set_row (flat_map kept_rows (drop l.owner-index l.kept)) ≡ l.fn.batch.items ++ map set_row (flat_map kept_rows l.kept)

@@ -1,5 +1,0 @@
-use Rattle.ixp_tokens.proofs.TokenLaws.{one_tokens}
-use Rattle.ixp_tokens.proofs.lexer_laws.one_list.Goals as goal
-
-pub returns : goal.returns
-returns c = one_tokens

@@ -1,3 +1,0 @@
-pub mod Shifts
-pub mod Lookings
-pub mod Afters
