@@ -1,0 +1,14 @@
+pub mod Parts
+pub mod Going
+pub mod Saying
+pub mod Joining
+pub mod Passing
+pub mod OneReading
+pub mod Entering
+pub mod Gathering
+pub mod Chains
+pub mod Checking
+pub mod Growing
+pub mod Nearest
+pub mod Keys
+pub mod Marking

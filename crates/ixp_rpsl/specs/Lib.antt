@@ -1,0 +1,12 @@
+pub mod Lines
+pub mod Attributes
+pub mod Gathers
+pub mod Values
+pub mod Puts
+pub mod Objects
+pub mod Told
+pub mod Passes
+pub mod Expansion
+pub mod Breadth
+pub mod Lookups
+pub mod Origins
