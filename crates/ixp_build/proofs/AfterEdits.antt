@@ -18,8 +18,9 @@ use Rattle.ixp_compile.specs.Header.{header}
 use Rattle.ixp_compile.specs.Generated.{inputs, session_part}
 use Rattle.ixp_compile_text.specs.Answers.{router_at}
 use Rattle.ixp_machine_steps.specs.Runs.{after_all}
-use Rattle.ixp_build_touches.specs.declared.touch.Touch.{Touch}
-use Rattle.ixp_build_touches.specs.Touched.{SessionKey, is_key, touch}
+use Rattle.ixp_build_pending.specs.declared.touch.Touch.{Touch}
+use Rattle.ixp_build_pending.specs.Pendings.{is_key}
+use Rattle.ixp_build_touches.specs.Touched.{SessionKey, touch}
 use Rattle.ixp_build_touches.proofs.Equalities.{any_of_both}
 use Rattle.ixp_build_touches.proofs.Untouched.{headers_stay, parts_stay, roas_stay}
 use Rattle.ixp_build.specs.declared.bundle.Bundle.{Bundle}

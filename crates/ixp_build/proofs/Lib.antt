@@ -9,4 +9,3 @@ pub mod OpenedTexts
 pub mod OrderedRuns
 pub mod Noting
 pub mod Steps
-pub mod Counted

@@ -9,8 +9,8 @@ use Rattle.ixp_registry.specs.declared.registry.Registry.{Registry}
 use Rattle.ixp_compile.specs.Header.{header}
 use Rattle.ixp_compile.specs.Generated.{footer, generated, session_part}
 use Rattle.ixp_compile_text.specs.Answers.{header_inputs_at, inputs_at, router_at}
-use Rattle.ixp_build_touches.specs.declared.touch.Touch.{Touch}
-use Rattle.ixp_build_touches.specs.Touched.{lists_header, lists_session}
+use Rattle.ixp_build_pending.specs.declared.touch.Touch.{Touch}
+use Rattle.ixp_build_pending.specs.Pendings.{lists_header, lists_session}
 use Rattle.ixp_build.specs.declared.bundle.Bundle.{Bundle}
 use Rattle.ixp_build.specs.declared.rows.RouterTexts.{RouterTexts}
 use Rattle.ixp_build.specs.Keys.{part_key, texts_key}

@@ -3,8 +3,9 @@ use Rattle.std.specs.Prelude.{◌≡◌, ℕ, false, ⊤, ◌||◌, List, [], �
 use Rattle.ixp_registry.specs.declared.registry.Registry.{Registry}
 use Rattle.ixp_machine_edits.specs.declared.edit.Edit.{Edit}
 use Rattle.ixp_machine_edits.specs.Edits.{next, refusal, IsLawful}
-use Rattle.ixp_build_touches.specs.declared.touch.Touch.{Touch}
-use Rattle.ixp_build_touches.specs.Touched.{lists_header, lists_session, touch}
+use Rattle.ixp_build_pending.specs.declared.touch.Touch.{Touch}
+use Rattle.ixp_build_pending.specs.Pendings.{lists_header, lists_session}
+use Rattle.ixp_build_touches.specs.Touched.{touch}
 
 -- each was accepted on the registry that it met
 abbrev pub AllAccepted : Registry → List Edit → Type 0

@@ -10,7 +10,7 @@ use Rattle.ixp_compile.specs.declared.inputs.Inputs.{Inputs}
 use Rattle.ixp_compile.specs.Header.{header}
 use Rattle.ixp_compile.specs.Generated.{session_part}
 use Rattle.ixp_compile_text.specs.Answers.{header_inputs_at, inputs_at}
-use Rattle.ixp_build_touches.specs.declared.touch.Touch.{Touch}
+use Rattle.ixp_build_pending.specs.declared.touch.Touch.{Touch}
 use Rattle.ixp_build.specs.declared.bundle.Bundle.{Bundle}
 use Rattle.ixp_build.specs.declared.fault.InstallFault.{InstallFault}
 use Rattle.ixp_build.specs.declared.fault.InstallFault.TheVariants.{Stale, NoMemory}

@@ -70,6 +70,13 @@ impl Bundle {
         self.roas.get().as_slice()
     }
 
+    /// The ROAs of the version, with one more owner.
+    pub fn shared_roas(&self) -> Result<Held<Items<Roa>>, AllocError>
+        ensures { IfOk result (λ r. r ≡ roas_of self.now) }
+    {
+        self.roas.shared()
+    }
+
     /// An equal bundle. It takes the memory of a few words for each router: texts, and lists of parts, have one more owner.
     pub fn share(&self, alloc: Global) -> Result<Bundle, AllocError>
         ensures { IfOk result (λ b. b ≡ self.now) }

@@ -1,17 +1,18 @@
 //! What bundles are worth. The functions do nothing: they are called for what they ensure.
-ghost use Rattle.std.specs.Prelude.{◌≡◌, ◌<◌, ◌==◌, not, ℕ, List, None, if◌then◌else◌};
+ghost use Rattle.std.specs.Prelude.{◌≡◌, ◌<◌, ℕ, List, None};
 ghost use Rattle.ixp_registry.specs.declared.registry.Registry.{Registry};
 ghost use Rattle.ixp_registry.specs.Valid.{Valid};
 ghost use Rattle.ixp_machine_edits.specs.declared.edit.Edit.{Edit};
 ghost use Rattle.ixp_machine_edits.specs.Edits.{next, refusal, IsLawful};
 ghost use Rattle.ixp_machine_steps.specs.Runs.{after_all};
-ghost use Rattle.ixp_build_touches.specs.declared.touch.Touch.{Touch};
-ghost use Rattle.ixp_build_touches.specs.Touched.{lists_header, lists_session, reached, touch, with_after};
+ghost use Rattle.ixp_build_pending.specs.declared.touch.Touch.{Touch};
+ghost use Rattle.ixp_build_pending.specs.Pendings.{IsLater, IsListed, IsNoted};
+ghost use Rattle.ixp_build_touches.specs.Touched.{reached, touch, with_after};
 ghost use Rattle.ixp_build.specs.declared.bundle.Bundle.{Bundle};
 ghost use Rattle.ixp_build.specs.Bundles.{AgreesBut, IsOf, full_text, text_of, untouched};
-ghost use Rattle.ixp_build.specs.declared.pending.Pending.{Pending};
+ghost use Rattle.ixp_build_pending.specs.declared.pending.Pending.{Pending};
 ghost use Rattle.ixp_build.specs.declared.texts.Texts.{Texts};
-ghost use Rattle.ixp_build.specs.Pendings.{Follows, InOrderOfKeys, header_count, later, later_count, listed, noted, session_count};
+ghost use Rattle.ixp_build.specs.Pendings.{AlikeUpto, Follows};
 ghost use Rattle.ixp_build.specs.Laws.{AllAccepted, Covers, joined, pending};
 ghost use Rattle.ixp_build.specs.Orders.{HasBounds, installed, made_from, order_of};
 
@@ -46,28 +47,20 @@ pub fn incremental_builds_are_full()
     ensures { (b : Bundle) (r : Registry) (es : List Edit) (upto : ℕ) (h : List ℕ) → Valid r → AllAccepted r es → IsOf b r → text_of (installed b (made_from (order_of b.built upto (after_all r es) (pending untouched r es)))) h ≡ full_text (after_all r es) h }
 {}
 
-/// After an edit each text that it touched has its count, and the others have theirs.
-pub fn noted_texts_have_the_count()
-    ensures headers { (c : ℕ) (t : Touch) (p : Pending) (h : List ℕ) → header_count (noted c t p) h ≡ (if lists_header t h then c else header_count p h) }
-    ensures sessions { (c : ℕ) (t : Touch) (p : Pending) (h : List ℕ) (n : ℕ) → session_count (noted c t p) h n ≡ (if lists_session t h n then c else session_count p h n) }
-    ensures roas { (c : ℕ) (t : Touch) (p : Pending) → (noted c t p).roas ≡ (if t.roas then c else p.roas) }
-{}
-
-/// What is listed is what has a count. The tables of what is pending keep their rows in order.
-pub fn what_is_listed_is_pending()
-    ensures headers { (p : Pending) (h : List ℕ) → InOrderOfKeys p → lists_header (listed p) h ≡ not (header_count p h == 0) }
-    ensures sessions { (p : Pending) (h : List ℕ) (n : ℕ) → InOrderOfKeys p → lists_session (listed p) h n ≡ not (session_count p h n == 0) }
-    ensures roas { (p : Pending) → (listed p).roas ≡ not (p.roas == 0) }
-{}
-
-/// What was touched after a count stays pending where texts of that version are installed, and nothing else.
-pub fn later_touches_stay()
-    ensures headers { (upto : ℕ) (p : Pending) (h : List ℕ) → header_count (later upto p) h ≡ later_count upto (header_count p h) }
-    ensures sessions { (upto : ℕ) (p : Pending) (h : List ℕ) (n : ℕ) → InOrderOfKeys p → session_count (later upto p) h n ≡ later_count upto (session_count p h n) }
-    ensures roas { (upto : ℕ) (p : Pending) → (later upto p).roas ≡ later_count upto p.roas }
-{}
-
-/// After an accepted edit, with what it reached before it and after it noted, texts that followed the registry follow the next one.
+/// After an accepted edit, with what it touched noted, texts that followed the registry follow the next one.
 pub fn texts_follow_edits()
-    ensures { (t : Texts) (r : Registry) (e : Edit) (c : ℕ) → Valid r → IsLawful e → refusal r e ≡ None → 0 < c → Follows t r → Follows (record t { pending = noted c (with_after (reached r e) (next r e)) t.pending }) (next r e) }
+    ensures { (t u : Texts) (r : Registry) (e : Edit) (c : ℕ) → Valid r → IsLawful e → refusal r e ≡ None → 0 < c → Follows t r → u.bundle ≡ t.bundle → IsNoted c (with_after (reached r e) (next r e)) t.pending u.pending → Follows u (next r e) }
+{}
+
+/// What no edit after a count touched is wanted as it was: at first, since the registry is the same, and then after each accepted edit
+/// with a greater count.
+pub fn wanted_texts_stay()
+    ensures first { (upto : ℕ) (p : Pending) (r : Registry) → AlikeUpto upto p r r }
+    ensures next { (upto : ℕ) (p q : Pending) (was r : Registry) (e : Edit) (c : ℕ) → Valid r → IsLawful e → refusal r e ≡ None → upto < c → AlikeUpto upto p was r → IsNoted c (with_after (reached r e) (next r e)) p q → AlikeUpto upto q was (next r e) }
+{}
+
+/// An order may be installed after later edits: with what is later still pending, the texts follow the present registry. The order is all that
+/// was pending of a registry that the texts followed then.
+pub fn older_orders_may_be_installed()
+    ensures { (t u v : Texts) (was now : Registry) (listed : Touch) (upto : ℕ) → Follows t was → IsListed t.pending listed → u.bundle ≡ t.bundle → AlikeUpto upto u.pending was now → v.bundle ≡ installed u.bundle (made_from (order_of t.bundle.built upto was listed)) → IsLater upto u.pending v.pending → Follows v now }
 {}

@@ -13,18 +13,17 @@ mod laws;
 mod making;
 mod opening;
 mod orders;
-mod pending;
 mod rows;
 mod texts;
 
 pub use bundle::Bundle;
 pub use fault::InstallFault;
+pub use ixp_build_pending::Pending;
 pub use laws::{
     bundles_have_full_texts, edits_are_pending, incremental_builds_are_full,
-    installed_bundles_are_whole, later_touches_stay, listed_otherwise, noted_texts_have_the_count,
-    orders_have_bounds, texts_follow_edits, what_is_listed_is_pending,
+    installed_bundles_are_whole, listed_otherwise, older_orders_may_be_installed,
+    orders_have_bounds, texts_follow_edits, wanted_texts_stay,
 };
 pub use making::{Made, make};
 pub use orders::Order;
-pub use pending::{Pending, PendingRouter, PendingSession};
 pub use texts::Texts;

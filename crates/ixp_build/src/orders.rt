@@ -5,7 +5,7 @@ ghost use Rattle.ixp_build.specs.Runs.{found_ordered, gone_ordered, key_of, run_
 ghost use Rattle.ixp_build.specs.Orders.{head_ordered, order_of, part_ordered};
 
 use crate::bundle::Bundle;
-use ixp_build_touches::Touch;
+use ixp_build_pending::Touch;
 use ixp_compile::{HeaderInputs, Inputs};
 use ixp_compile_text::{header_inputs, inputs_of_each};
 use ixp_machine_steps::State;

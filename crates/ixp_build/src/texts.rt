@@ -1,14 +1,14 @@
 //! Texts that follow edits.
-ghost use Rattle.std.specs.Prelude.{◌≡◌, IfOk, OnOk, OnErr};
+ghost use Rattle.std.specs.Prelude.{◌≡◌, ◌<◌, IfOk, OnOk, OnErr};
 ghost use Rattle.std.specs.Option.{option_map};
 ghost use Rattle.ixp_registry.specs.Valid.{Valid};
-ghost use Rattle.ixp_build.specs.Bundles.{IsOf, text_of};
-ghost use Rattle.ixp_build.specs.Pendings.{Follows, noted, nothing};
+ghost use Rattle.ixp_build.specs.Bundles.{IsOf, built_of, made_of, text_of};
+ghost use Rattle.ixp_build.specs.Pendings.{Follows, Regenerated};
+ghost use Rattle.ixp_build_pending.specs.Pendings.{IsNoted, IsNothing};
 
 use crate::bundle::Bundle;
 use crate::making::make;
-use crate::pending::Pending;
-use ixp_build_touches::Touch;
+use ixp_build_pending::{Pending, Touch};
 use ixp_machine_steps::State;
 use ixp_num::Name;
 use std::alloc::{AllocError, Global};
@@ -25,7 +25,9 @@ impl Texts {
     pub fn open(alloc: Global, now: &State) -> Result<Texts, AllocError>
         requires { Valid now.now.registry }
         ensures whole { IfOk result (λ t. IsOf t.bundle now.now.registry) }
-        ensures settled { IfOk result (λ t. t.pending ≡ nothing) }
+        ensures settled { IfOk result (λ t. IsNothing t.pending) }
+        ensures built { IfOk result (λ t. built_of t.bundle ≡ now.now.accepted) }
+        ensures made { IfOk result (λ t. made_of t.bundle ≡ 0) }
         ensures follows { IfOk result (λ t. Follows t now.now.registry) }
     {
         Ok(Texts {
@@ -36,7 +38,9 @@ impl Texts {
 
     /// The texts with what an edit touched, which was accepted as the one with this count.
     pub fn with_pending(self, alloc: Global, touch: &Touch, count: u64) -> Result<Texts, AllocError>
-        ensures { IfOk result (λ t. t ≡ record self { pending = noted count touch.now self.pending }) }
+        requires { 0 < count }
+        ensures bundle { IfOk result (λ t. t.bundle ≡ self.bundle) }
+        ensures pending { IfOk result (λ t. IsNoted count touch.now self.pending t.pending) }
     {
         let Texts {
             bundle,
@@ -46,12 +50,14 @@ impl Texts {
         Ok(Texts { bundle, pending })
     }
 
-    /// Makes all anew that is pending. Where memory runs out the texts are as before.
+    /// Regenerates all that is pending. Where memory runs out the texts are as before.
     pub fn refresh(&mut self, alloc: Global, now: &State) -> Result<(), AllocError>
         requires valid { Valid now.now.registry }
         requires follows { Follows self.old now.now.registry }
         ensures whole { OnOk result (IsOf self.new.bundle now.now.registry) }
-        ensures settled { OnOk result (self.new.pending ≡ nothing) }
+        ensures settled { OnOk result (IsNothing self.new.pending) }
+        ensures built { OnOk result (built_of self.new.bundle ≡ now.now.accepted) }
+        ensures made { OnOk result (Regenerated self.old now.now.accepted self.new.bundle) }
         ensures err { OnErr result (self.new ≡ self.old) }
         ensures follows { Follows self.new now.now.registry }
     {

@@ -2,6 +2,7 @@
 use Rattle.std.proofs.Common.{◌≡◌, ◌≤◌, ◌⊎◌, inl, inr, ℕ, ◌+◌, suc, Bool, false, ◌||◌, List, [], ◌++◌, None, length, refl, sym, ap, ◌∙◌, subst, arith}
 use Rattle.std.specs.List.{list_any}
 use Rattle.ixp_num_tables.specs.Tables.{if_there, same}
+use Rattle.ixp_registry.specs.declared.members.Owner.{Owner}
 use Rattle.ixp_registry.specs.declared.refusal.Refusal.{Refusal}
 use Rattle.ixp_registry.specs.declared.refusal.Refusal.TheVariants.{NoKey}
 use Rattle.ixp_registry.specs.declared.registry.Registry.{Registry}
@@ -19,8 +20,9 @@ use Rattle.ixp_machine.specs.declared.decision.Reply.{Reply}
 use Rattle.ixp_machine.specs.Decisions.{Says}
 use Rattle.ixp_compile_text.proofs.Bounds.{all_fit}
 use Rattle.ixp_build_touches.specs.declared.touch.Reached.{Reached}
-use Rattle.ixp_build_touches.specs.declared.touch.Touch.{Touch}
-use Rattle.ixp_build_touches.specs.Touched.{is_key, reached, touch, with_after}
+use Rattle.ixp_build_pending.specs.declared.touch.Touch.{Touch}
+use Rattle.ixp_build_pending.specs.Pendings.{is_key}
+use Rattle.ixp_build_touches.specs.Touched.{reached, touch, with_after}
 use Rattle.ixp_build_touches.proofs.Equalities.{any_of_both}
 use Rattle.ixp_build_touches.proofs.TwoSteps.{headers_alike, roas_alike, sessions_alike}
 use Rattle.ixp_build.specs.declared.bundle.Bundle.{Bundle}
@@ -71,26 +73,29 @@ counted s s' e x t n said is foreseen touched count =
 
 -- Which requests are accepted.
 
-said_accepted : (n : ℕ) (v : Verdict) → Says n v decision.Accepted → v ≡ Accepted
-said_accepted n Accepted says = refl
-said_accepted n Repeated says = absurd (let bad : ⊥ = cc in bad)
-said_accepted n (Reused kind subject) (k, is, names) = absurd (let bad : ⊥ = cc in bad)
-said_accepted n (Refused x) says = absurd (let bad : ⊥ = cc in bad)
+abbrev pub IsAccepted : Decision → Type 0
+IsAccepted d = (owner : Owner) × (d ≡ decision.Accepted owner)
 
-pub accepted_is : (s : State) (e : Entry) (n : ℕ) (d : Decision) → Says n (verdict s e) d → d ≡ decision.Accepted → verdict s e ≡ Accepted
-accepted_is s e n d says is = said_accepted n (verdict s e) (subst (Says n (verdict s e)) is says)
+said_accepted : (n : ℕ) (owner : Owner) (v : Verdict) → Says n v (decision.Accepted owner) → v ≡ Accepted
+said_accepted n owner Accepted says = refl
+said_accepted n owner Repeated says = absurd (let bad : ⊥ = cc in bad)
+said_accepted n owner (Reused kind subject) (k, is, names) = absurd (let bad : ⊥ = cc in bad)
+said_accepted n owner (Refused x) says = absurd (let bad : ⊥ = cc in bad)
+
+pub accepted_is : (s : State) (e : Entry) (n : ℕ) (d : Decision) (owner : Owner) → Says n (verdict s e) d → d ≡ decision.Accepted owner → verdict s e ≡ Accepted
+accepted_is s e n d owner says is = said_accepted n owner (verdict s e) (subst (Says n (verdict s e)) is says)
 
 -- Where a request isn't accepted, nothing changes and nothing is touched.
-rests_by : (n m : ℕ) (v : Verdict) (d : Decision) → Says n v d → (d ≡ decision.Accepted → ⊥) → when_accepted v m ≡ 0
+rests_by : (n m : ℕ) (v : Verdict) (d : Decision) → Says n v d → (IsAccepted d → ⊥) → when_accepted v m ≡ 0
 rests_by n m Accepted d says not = absurd (not says)
 rests_by n m Repeated d says not = refl
 rests_by n m (Reused kind subject) d says not = refl
 rests_by n m (Refused x) d says not = refl
 
-pub none_touched : (s : State) (e : Entry) (n : ℕ) (d : Decision) → Says n (verdict s e) d → (d ≡ decision.Accepted → ⊥) → parts_touched s e ≡ 0
+pub none_touched : (s : State) (e : Entry) (n : ℕ) (d : Decision) → Says n (verdict s e) d → (IsAccepted d → ⊥) → parts_touched s e ≡ 0
 none_touched s e n d says not = rests_by n (length (with_after (reached s.registry e.edit) (next s.registry e.edit)).sessions) (verdict s e) d says not
 
-pub same_state : (s : State) (e : Entry) (n : ℕ) (d : Decision) → Says n (verdict s e) d → (d ≡ decision.Accepted → ⊥) → step s e ≡ s
+pub same_state : (s : State) (e : Entry) (n : ℕ) (d : Decision) → Says n (verdict s e) d → (IsAccepted d → ⊥) → step s e ≡ s
 same_state s e n d says not = by_either (either s e) where
   by_either : Acts s e ⊎ Rests s e → step s e ≡ s
   by_either (inl (owner, found, said, made, acts, edits)) =
@@ -98,14 +103,14 @@ same_state s e n d says not = by_either (either s e) where
       absurd (not (subst (λ v. Says n v d) accepted says))
   by_either (inr rests) = rests.0
 
-pub not_repeated : (d : Decision) (reply : Reply) → d ≡ decision.Repeated reply → d ≡ decision.Accepted → ⊥
-not_repeated d reply is other = let bad : ⊥ = cc in bad
+pub not_repeated : (d : Decision) (reply : Reply) → d ≡ decision.Repeated reply → IsAccepted d → ⊥
+not_repeated d reply is (owner, other) = let bad : ⊥ = cc in bad
 
-pub not_refused : (d : Decision) (x : Refusal) → d ≡ decision.Refused x → d ≡ decision.Accepted → ⊥
-not_refused d x is other = let bad : ⊥ = cc in bad
+pub not_refused : (d : Decision) (x : Refusal) → d ≡ decision.Refused x → IsAccepted d → ⊥
+not_refused d x is (owner, other) = let bad : ⊥ = cc in bad
 
 -- a state after a request that isn't accepted
-pub stays_whole : (b : Bundle) (s s' : State) (e : Entry) (n : ℕ) (d : Decision) → Says n (verdict s e) d → (d ≡ decision.Accepted → ⊥) → s' ≡ step s e → IsOf b s.registry → IsOf b s'.registry
+pub stays_whole : (b : Bundle) (s s' : State) (e : Entry) (n : ℕ) (d : Decision) → Says n (verdict s e) d → (IsAccepted d → ⊥) → s' ≡ step s e → IsOf b s.registry → IsOf b s'.registry
 stays_whole b s s' e n d says not is whole = subst (λ (z : State). IsOf b z.registry) (sym (is ∙ same_state s e n d says not)) whole
 
 -- a request raises the count of those that were accepted by one at most

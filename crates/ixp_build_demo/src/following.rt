@@ -59,8 +59,8 @@ fn follow(
     read_edit(&entry.edit);
     let reached = reached_by(alloc, &state.registry, &entry.edit)?;
     match request(alloc, state, entry)? {
-        Decision::Accepted => {
-            let touch = reached.with_after(alloc, &state.registry)?;
+        Decision::Accepted(_) => {
+            let touch = reached.touch_after(alloc, &state.registry)?;
             rebuild(alloc, state, bundle, &touch)
         }
         Decision::Repeated(_) => Ok(0),

@@ -20,7 +20,8 @@ use Rattle.ixp_machine_edits.proofs.AllEdits.{still_valid}
 use Rattle.ixp_machine_edits.proofs.Numbers.{differ}
 use Rattle.ixp_build_touches.specs.declared.reach.Reach.{Reach}
 use Rattle.ixp_build_touches.specs.Reaches.{header_reach, reach, takes_header, takes_in}
-use Rattle.ixp_build_touches.specs.Touched.{SessionKey, handle_within, has_router, has_session, headers_within, is_key, key_within, sessions_within, touch, touched_headers, touched_sessions, ListsOnce}
+use Rattle.ixp_build_pending.specs.Pendings.{is_key, ListsOnce}
+use Rattle.ixp_build_touches.specs.Touched.{SessionKey, handle_within, has_router, has_session, headers_within, key_within, sessions_within, touch, touched_headers, touched_sessions}
 use Rattle.ixp_build_touches.proofs.Listing.{as_flat, as_list}
 
 -- Lists of what comes of rows, and parts of lists.

@@ -20,7 +20,8 @@ use Rattle.ixp_machine_edits.specs.Edits.{next, refusal, IsLawful}
 use Rattle.ixp_machine_edits.proofs.AllEdits.{still_valid}
 use Rattle.ixp_build_touches.specs.declared.reach.Reach.{Reach}
 use Rattle.ixp_build_touches.specs.Reaches.{header_reach, may_bring, reach, takes_header, takes_in, touches_roas}
-use Rattle.ixp_build_touches.specs.Touched.{handle_within, has_router, has_session, headers_within, is_key, key_within, lists_header, lists_session, reached, sessions_within, touch, with_after}
+use Rattle.ixp_build_pending.specs.Pendings.{is_key, lists_header, lists_session}
+use Rattle.ixp_build_touches.specs.Touched.{handle_within, has_router, has_session, headers_within, key_within, reached, sessions_within, touch, with_after}
 use Rattle.ixp_build_touches.proofs.Accepted.{Fits, accepted}
 use Rattle.ixp_build_touches.proofs.Equalities.{any_of_both}
 use Rattle.ixp_build_touches.proofs.ListedOnce.{at_interface, key_is, sessions_counted}

@@ -18,7 +18,8 @@ use Rattle.ixp_compile.specs.declared.inputs.Inputs.{Inputs}
 use Rattle.ixp_compile.specs.Generated.{inputs}
 use Rattle.ixp_compile_text.specs.Answers.{header_inputs_at, inputs_at}
 use Rattle.ixp_build_touches.specs.Reaches.{header_reach, reach, takes_header, takes_in}
-use Rattle.ixp_build_touches.specs.Touched.{SessionKey, has_router, has_session, headers_within, is_key, lists_header, lists_session, sessions_within, touch}
+use Rattle.ixp_build_pending.specs.Pendings.{is_key, lists_header, lists_session}
+use Rattle.ixp_build_touches.specs.Touched.{SessionKey, has_router, has_session, headers_within, sessions_within, touch}
 use Rattle.ixp_build_touches.proofs.Accepted.{Fits, accepted}
 use Rattle.ixp_build_touches.proofs.Equalities.{any_of_both, false_unless, one_value}
 use Rattle.ixp_build_touches.proofs.Frames.{header_frame, part_frame, Unentered}

@@ -1,9 +1,7 @@
 -- Which texts an edit touches. A header is named by its router's handle, a session's part by that and the interface's number.
-use Rattle.std.specs.Prelude.{◌≤◌, ℕ, ◌==◌, ◌&&◌, not, Bool, false, List, [], ◌∷◌, ◌++◌, Option, Some, None, filter, filter_map, flat_map, if◌then◌else◌}
-use Rattle.std.specs.List.{list_any}
+use Rattle.std.specs.Prelude.{ℕ, ◌&&◌, not, Bool, false, List, [], ◌∷◌, ◌++◌, Option, Some, None, filter, filter_map, flat_map, if◌then◌else◌}
 use Rattle.std.specs.Option.{is_some}
-use Rattle.ixp_num_tables.specs.Sums.{count, Often}
-use Rattle.ixp_num_tables.specs.Tables.{find, if_there, same}
+use Rattle.ixp_num_tables.specs.Tables.{find, if_there}
 use Rattle.ixp_registry.specs.declared.network.Interface.{Interface}
 use Rattle.ixp_registry.specs.declared.registry.Registry.{Registry}
 use Rattle.ixp_registry.specs.declared.router.Router.{Router}
@@ -12,7 +10,7 @@ use Rattle.ixp_registry.specs.Sessions.{is_session}
 use Rattle.ixp_machine_edits.specs.declared.edit.Edit.{Edit}
 use Rattle.ixp_build_touches.specs.declared.reach.Reach.{Reach}
 use Rattle.ixp_build_touches.specs.declared.touch.Reached.{Reached}
-use Rattle.ixp_build_touches.specs.declared.touch.Touch.{Touch}
+use Rattle.ixp_build_pending.specs.declared.touch.Touch.{Touch}
 use Rattle.ixp_build_touches.specs.Reaches.{header_reach, may_bring, reach, takes_header, takes_in, touches_roas}
 
 -- Sessions.
@@ -84,16 +82,3 @@ with_after x after = if x.may_bring
       roas = x.before.roas;
     }
     else x.before
-
-abbrev pub is_key : List ℕ → ℕ → SessionKey → Bool
-is_key handle n k = same k.0 handle && k.1 == n
-
-abbrev pub lists_header : Touch → List ℕ → Bool
-lists_header t handle = list_any (λ h. same h handle) t.headers
-
-abbrev pub lists_session : Touch → List ℕ → ℕ → Bool
-lists_session t handle n = list_any (is_key handle n) t.sessions
-
--- no header and no session is listed twice
-abbrev pub ListsOnce : Touch → Type 0
-ListsOnce t = Often 1 (λ h. h) t.headers × ((handle : List ℕ) (n : ℕ) → count (is_key handle n) t.sessions ≤ 1)

@@ -5,7 +5,8 @@ ghost use Rattle.ixp_registry.specs.Valid.{Valid};
 ghost use Rattle.ixp_machine_edits.specs.declared.edit.Edit.{Edit};
 ghost use Rattle.ixp_machine_edits.specs.Edits.{next, refusal, IsLawful};
 ghost use Rattle.ixp_compile_text.specs.Answers.{header_inputs_at, inputs_at};
-ghost use Rattle.ixp_build_touches.specs.Touched.{lists_header, lists_session, reached, touch, with_after, ListsOnce};
+ghost use Rattle.ixp_build_pending.specs.Pendings.{lists_header, lists_session, ListsOnce};
+ghost use Rattle.ixp_build_touches.specs.Touched.{reached, touch, with_after};
 
 /// A header that isn't listed depends on the same before and after, so no router comes or goes unlisted.
 pub fn untouched_headers_stay()

@@ -11,9 +11,10 @@ mod reach;
 mod sessions;
 mod touch;
 
+pub use ixp_build_pending::Touch;
 pub use laws::{
     both_steps_list_what_is_touched, texts_are_listed_once, untouched_headers_stay,
     untouched_roas_stay, untouched_sessions_stay,
 };
 pub use reach::Reach;
-pub use touch::{Reached, Touch, reached_by, touched};
+pub use touch::{Reached, reached_by, touched};

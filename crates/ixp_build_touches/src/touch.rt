@@ -5,23 +5,13 @@ ghost use Rattle.ixp_build_touches.specs.Touched.{reached, touch, with_after};
 use crate::headers::{headers_within, touched_headers};
 use crate::reach::{Reach, header_reach, may_bring, reach_of, touches_roas};
 use crate::sessions::{reached_sessions, touched_sessions};
+use ixp_build_pending::Touch;
 use ixp_machine_edits::Edit;
 use ixp_num::{Items, Name};
 use ixp_registry::Registry;
 use std::alloc::{AllocError, Global};
 
-/// The texts of route servers that an edit touches, each listed once.
-#[derive(Debug, Drop)]
-pub struct Touch {
-    /// Headers, by their routers' handles.
-    pub headers: Items<Name>,
-    /// Sessions' parts, by their routers' handles and the numbers of their interfaces.
-    pub sessions: Items<(Name, u32)>,
-    /// Whether the table of ROAs is another one.
-    pub roas: bool,
-}
-
-/// What an edit touches, where it makes of one registry the other. It goes over the interfaces once in each registry, and not at all
+/// What an edit touches, where it makes of one registry the other, each text listed once. It goes over the interfaces once in each registry, and not at all
 /// where the edit reaches no session.
 pub fn touched(
     alloc: Global,
@@ -84,27 +74,52 @@ fn add_all<T: Drop>(items: &mut Items<T>, more: Vec<T>) -> Result<(), AllocError
     Ok(())
 }
 
+fn copied_headers(alloc: Global, headers: &[Name]) -> Result<Items<Name>, AllocError>
+    ensures { IfOk result (λ hs. hs ≡ headers.now) }
+{
+    let mut copies = Items::new(alloc);
+    let mut left = headers;
+    'each: while let Some((handle, others)) = left.split_first() {
+        copies.push(handle.copied(alloc)?)?;
+        left = others;
+    }
+    Ok(copies)
+}
+
+fn copied_sessions(
+    alloc: Global,
+    sessions: &[(Name, u32)],
+) -> Result<Items<(Name, u32)>, AllocError>
+    ensures { IfOk result (λ ks. ks ≡ sessions.now) }
+{
+    let mut copies = Items::new(alloc);
+    let mut left = sessions;
+    'each: while let Some((key, others)) = left.split_first() {
+        copies.push((key.0.copied(alloc)?, key.1))?;
+        left = others;
+    }
+    Ok(copies)
+}
+
 impl Reached {
     /// What the edit touched, once it is made: the same with what it reaches of the registry after it. What it lists are the texts that
-    /// [`touched`] lists, some of them twice.
-    pub fn with_after(self, alloc: Global, after: &Registry) -> Result<Touch, AllocError>
-        ensures { IfOk result (λ t. t ≡ with_after self after.now) }
+    /// [`touched`] lists, some of them twice. Where memory runs out it may be asked again.
+    pub fn touch_after(&self, alloc: Global, after: &Registry) -> Result<Touch, AllocError>
+        ensures { IfOk result (λ t. t ≡ with_after self.now after.now) }
     {
-        let Reached {
+        let mut headers = copied_headers(alloc, self.before.headers.as_slice())?;
+        let mut sessions = copied_sessions(alloc, self.before.sessions.as_slice())?;
+        if self.may_bring {
+            add_all(&mut headers, headers_within(alloc, after, &self.headers)?)?;
+            add_all(
+                &mut sessions,
+                reached_sessions(alloc, after, &self.sessions)?,
+            )?;
+        }
+        Ok(Touch {
             headers,
             sessions,
-            may_bring,
-            before,
-        } = self;
-        if !may_bring {
-            return Ok(before);
-        }
-        let mut touch = before;
-        add_all(&mut touch.headers, headers_within(alloc, after, &headers)?)?;
-        add_all(
-            &mut touch.sessions,
-            reached_sessions(alloc, after, &sessions)?,
-        )?;
-        Ok(touch)
+            roas: self.before.roas,
+        })
     }
 }

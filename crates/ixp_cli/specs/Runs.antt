@@ -249,9 +249,9 @@ NotLoaded input input' output output' store store' end =
 abbrev pub CanBeLoaded : Store → Type 0
 CanBeLoaded store = (store.rows ≡ Some empty) ⊎ ((s : State) × ValidState s × IsStorable s × (store.rows ≡ Some (tables s)))
 
--- the store has the rows of this valid state
+-- the store has the rows of this valid state, and would be loaded as it
 abbrev pub Holds : Store → State → Type 0
-Holds store s = ValidState s × WhereTold store.rows (IsStoreOf s)
+Holds store s = ValidState s × IsStorable s × WhereTold store.rows (IsStoreOf s)
 
 -- How `dump` ends: it writes the dump of the store's registry, and reads nothing.
 abbrev pub DumpEnds : Flow → Flow → Flow → Flow → Store → Store → End → Type 0
@@ -276,7 +276,7 @@ Kept = State × ℕ × Option ℕ
 
 -- a turn of the desk: by the machine of edits, with the store's faults and the clock's seconds
 abbrev pub TurnOf : Kept → Call → Outcome → Kept → Type 0
-TurnOf d call o e = IsTurn d.0 call o e.0 (Rose d.1 e.1) d.2 e.2
+TurnOf d call o e = IsTurn d.0 call o e.0 d.1 e.1 d.2 e.2
 
 -- A session: the store was loaded, and its state answers the requests of the input, one after the other; the replies go to the output.
 -- The store has the rows of the state after them. The session ends as its link does. The clock is asked by requests for the export alone.

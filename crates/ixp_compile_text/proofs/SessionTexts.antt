@@ -1,9 +1,10 @@
 -- The text of a router is the texts of its parts.
-use Rattle.std.proofs.Common.{◌≡◌, ℕ, List, [], ◌∷◌, ◌++◌, Option, Some, None, filter_map, flat_map, refl, sym, ap, ◌∙◌, append_assoc, append-nil}
+use Rattle.std.proofs.Common.{◌≡◌, ℕ, true, false, List, [], ◌∷◌, ◌++◌, Option, Some, None, option_map, filter_map, flat_map, refl, sym, ap, ◌∙◌, append_assoc, append-nil}
 use Rattle.std.specs.List.{cons_option}
 use Rattle.ixp_num_tables.specs.Tables.{if_there}
 use Rattle.ixp_lang.specs.Trees.{ItemTree}
 use Rattle.ixp_print.specs.Texts.{config_text, item_text}
+use Rattle.std.specs.Option.{is_some}
 use Rattle.ixp_registry.specs.Sessions.{Session, session_at}
 use Rattle.ixp_registry.specs.declared.network.Interface.{Interface}
 use Rattle.ixp_registry.specs.declared.registry.Registry.{Registry}
@@ -13,6 +14,8 @@ use Rattle.ixp_compile.specs.declared.inputs.Inputs.{Inputs}
 use Rattle.ixp_compile.specs.Header.{header}
 use Rattle.ixp_compile.specs.Pieces.{in_turn}
 use Rattle.ixp_compile.specs.Generated.{footer, generated, header_inputs, inputs, own_part, router_sessions, session_part}
+use Rattle.ixp_compile_text.specs.declared.parts.SessionText.{SessionText}
+use Rattle.ixp_compile_text.specs.Parts.{session_text_at, session_text_of}
 use Rattle.ixp_compile_text.specs.Sessions.{part_text, sessions_text}
 
 pub text_append : (xs ys : List ItemTree) → config_text (xs ++ ys) ≡ config_text xs ++ config_text ys
@@ -81,3 +84,22 @@ pub text_of_session :
     → config_text (session_part (inputs r router s)) ≡ part_text r router i
 unfolding part_text
 text_of_session r router i s e = sym (ap (λ t. if_there t [] (λ x. config_text (session_part (inputs r router x)))) e)
+
+-- the text of the part by itself
+pub some_text :
+    (r : Registry) (router : Router) (i : Interface) (text : List ℕ) → is_some (session_at r router i) ≡ true → text ≡ [] ++ part_text r router i
+    → Some (record { interface = i.number; text = text }) ≡ session_text_at r router i
+unfolding part_text
+some_text r router i text there is = by_session (session_at r router i) there is
+  where
+    by_session : (o : Option Session) → is_some o ≡ true → text ≡ [] ++ if_there o [] (λ s. config_text (session_part (inputs r router s)))
+        → ◌≡◌ {A = Option SessionText} (Some (record { interface = i.number; text = text })) (session_text_of r router i o)
+    by_session None there is = absurd (let bad : ⊥ = cc in bad)
+    by_session (Some s) there is = ap (λ (t : List ℕ). Some (record { interface = i.number; text = t })) is
+
+pub no_text : (r : Registry) (router : Router) (i : Interface) → is_some (session_at r router i) ≡ false → None ≡ session_text_at r router i
+no_text r router i none = by_session (session_at r router i) none
+  where
+    by_session : (o : Option Session) → is_some o ≡ false → ◌≡◌ {A = Option SessionText} None (session_text_of r router i o)
+    by_session None none = refl
+    by_session (Some s) none = absurd (let bad : ⊥ = cc in bad)

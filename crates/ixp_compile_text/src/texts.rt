@@ -1,5 +1,5 @@
 //! The texts of a route server.
-ghost use Rattle.std.specs.Prelude.{◌≡◌, ◌++◌, ◌<◌, ◌^◌, List, IfOk, OnOk, Some};
+ghost use Rattle.std.specs.Prelude.{◌≡◌, ◌++◌, ◌<◌, ◌^◌, List, IfOk, OnOk, Some, is_some};
 ghost use Rattle.ixp_print.specs.Texts.{config_text};
 ghost use Rattle.ixp_pfxset.specs.BlockList.{blocks};
 ghost use Rattle.ixp_num.specs.declared.pattern.Pattern.{Pattern};
@@ -12,6 +12,7 @@ ghost use Rattle.ixp_compile_text.specs.Answers.{Prints, generated_at, header_at
 ghost use Rattle.ixp_compile_pieces.specs.Made.{items_view};
 ghost use Rattle.ixp_compile_text.specs.Sessions.{part_text, sessions_text};
 ghost use Rattle.ixp_policy.specs.Views.{session_of};
+ghost use Rattle.ixp_registry.specs.Sessions.{session_at};
 
 use crate::addresses::MemberAddresses;
 use crate::fault::GenFault;
@@ -149,26 +150,28 @@ pub fn footer(alloc: Global) -> Result<Vec<u8>, AllocError>
 
 // Whole texts.
 
-/// Adds the part of the interface's session with the router, where it has one.
+/// Adds the part of the interface's session with the router, where it has one, and says whether it has.
 #[tactic(auto, unfolding(crate::specs::Sessions::part_text))]
-fn put_session(
+pub(crate) fn put_session(
     alloc: Global,
     out: &mut Vec<u8>,
     registry: &Registry,
     router: &Router,
     addresses: &MemberAddresses,
     interface: &Interface,
-) -> Result<(), AllocError>
+) -> Result<bool, AllocError>
     requires bound { router.now.high < 2 ^ 8 }
     requires addresses { AreInVlan registry.now router.now addresses.now }
-    ensures { OnOk result (out.new.items ≡ out.old.items ++ part_text registry.now router.now interface.now) }
+    ensures part { OnOk result (out.new.items ≡ out.old.items ++ part_text registry.now router.now interface.now) }
+    ensures session { IfOk result (λ b. b ≡ is_some (session_at registry.now router.now interface.now)) }
 {
     let Some(session) = session_at(registry, router, interface) else {
-        return Ok(());
+        return Ok(false);
     };
     let own = addresses.of(alloc, session.interface.member)?;
     let i = inputs_with(alloc, registry, router, &session, own, Items::new(alloc))?;
-    put_part(alloc, out, &i, session.prefixes)
+    put_part(alloc, out, &i, session.prefixes)?;
+    Ok(true)
 }
 
 /// Adds the parts of the router's sessions.
@@ -184,7 +187,7 @@ fn put_sessions(
     let mut left = registry.interfaces.as_slice();
     let addresses = MemberAddresses::in_vlan(alloc, left, router.family, router.vlan)?;
     'each: while let Some((interface, others)) = left.split_first() {
-        put_session(alloc, out, registry, router, &addresses, interface)?;
+        let _ = put_session(alloc, out, registry, router, &addresses, interface)?;
         left = others;
     }
     Ok(())

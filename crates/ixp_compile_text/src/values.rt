@@ -1,12 +1,13 @@
 //! What the parts of a router's text depend on, taken from the rows of a registry.
-ghost use Rattle.std.specs.Prelude.{◌≡◌, IfOk, option_map};
-ghost use Rattle.ixp_registry.specs.Sessions.{member_addresses, session};
+ghost use Rattle.std.specs.Prelude.{◌≡◌, IfOk, IfSome, option_map};
+ghost use Rattle.ixp_registry.specs.Sessions.{ascending, member_addresses, session};
+ghost use Rattle.ixp_compile_text.specs.Addresses.{AreInVlan, own_addresses};
 ghost use Rattle.ixp_policy.specs.Import.{is_listed};
 ghost use Rattle.ixp_compile.specs.Generated.{header_inputs, inputs};
 ghost use Rattle.ixp_compile_text.specs.Answers.{header_inputs_at, inputs_at};
 ghost use Rattle.ixp_policy.specs.Views.{session_of};
 
-use crate::addresses::addresses_of_member;
+use crate::addresses::{MemberAddresses, addresses_of_member};
 use ixp_compile::{HeaderInputs, Inputs};
 use ixp_num::{Addr, Asn, Items, Name, Prefix};
 use ixp_num_tables::Copied;
@@ -51,6 +52,27 @@ pub(crate) fn inputs_with(
     })
 }
 
+/// A member's addresses of the router's family in its VLAN, in order: looked up among all members' where these were gathered, and else
+/// by a pass over the interfaces.
+fn addresses_for(
+    alloc: Global,
+    registry: &Registry,
+    router: &Router,
+    gathered: &Option<MemberAddresses>,
+    member: u32,
+) -> Result<Items<Addr>, AllocError>
+    requires { IfSome gathered.now (AreInVlan registry.now router.now) }
+    ensures { IfOk result (λ it. it ≡ ascending (own_addresses router.now.family router.now.vlan member registry.now.interfaces)) }
+{
+    match gathered {
+        Some(addresses) => addresses.of(alloc, member),
+        None => {
+            let interfaces = registry.interfaces.as_slice();
+            addresses_of_member(alloc, interfaces, router.family, router.vlan, member)
+        }
+    }
+}
+
 /// What the session's part depends on.
 pub(crate) fn inputs_of(
     alloc: Global,
@@ -66,6 +88,27 @@ pub(crate) fn inputs_of(
     let addresses = addresses_of_member(alloc, interfaces, router.family, vlan, member)?;
     let prefixes = Items::from_slice(alloc, session.prefixes)?;
     inputs_with(alloc, registry, router, session, addresses, prefixes)
+}
+
+/// What the part of the router's session at the interface depends on; None where there is no such session. For many sessions the
+/// members' addresses in the router's VLAN are gathered before.
+pub(crate) fn session_inputs(
+    alloc: Global,
+    registry: &Registry,
+    router: &Router,
+    gathered: &Option<MemberAddresses>,
+    interface: u32,
+) -> Result<Option<Inputs>, AllocError>
+    requires { IfSome gathered.now (AreInVlan registry.now router.now) }
+    ensures { IfOk result (λ o. o ≡ option_map (inputs registry.now router.now) (session registry.now router.now interface)) }
+{
+    let Some(session) = session(registry, router, interface) else {
+        return Ok(None);
+    };
+    let own = addresses_for(alloc, registry, router, gathered, session.interface.member)?;
+    let prefixes = Items::from_slice(alloc, session.prefixes)?;
+    let i = inputs_with(alloc, registry, router, &session, own, prefixes)?;
+    Ok(Some(i))
 }
 
 /// What the head of the router's text depends on.
@@ -99,21 +142,6 @@ pub fn header_inputs(
     }
 }
 
-/// What the part of the router's session at the interface depends on; None where there is no such session.
-pub(crate) fn session_inputs(
-    alloc: Global,
-    registry: &Registry,
-    router: &Router,
-    interface: u32,
-) -> Result<Option<Inputs>, AllocError>
-    ensures { IfOk result (λ o. o ≡ option_map (inputs registry.now router.now) (session registry.now router.now interface)) }
-{
-    match session(registry, router, interface) {
-        Some(session) => Ok(Some(inputs_of(alloc, registry, router, &session)?)),
-        None => Ok(None),
-    }
-}
-
 /// What the part of the router's session at the interface depends on; None where there is no such router or session.
 pub fn inputs(
     alloc: Global,
@@ -124,7 +152,7 @@ pub fn inputs(
     ensures { IfOk result (λ i. i ≡ inputs_at registry.now router.now interface) }
 {
     match registry.routers.find(router) {
-        Some(router) => session_inputs(alloc, registry, router, interface),
+        Some(router) => session_inputs(alloc, registry, router, &None, interface),
         None => Ok(None),
     }
 }

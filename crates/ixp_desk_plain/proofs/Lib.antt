@@ -2,3 +2,4 @@ pub mod Seconds
 pub mod StoredEdits
 pub mod Configs
 pub mod Followed
+pub mod NeverHead

@@ -1,5 +1,6 @@
 -- What the desk answers to a call, and the state after it.
-use Rattle.std.specs.Prelude.{◌≡◌, ℕ, List, Option, None, Some}
+use Rattle.std.specs.Prelude.{◌≡◌, ◌≢◌, ℕ, List, Option, None, Some}
+use Rattle.ixp_io.specs.Faults.{Rose}
 use Rattle.ixp_io.specs.Told.{Told}
 use Rattle.ixp_num_tables.specs.Tables.{find, if_there}
 use Rattle.ixp_registry.specs.declared.members.Owner.{Owner}
@@ -35,17 +36,19 @@ last_edit = 18446744073709551615
 
 -- how a request of this number ends by what is decided of it
 abbrev pub decided : ℕ → Decision → Outcome
-decided n decision.Accepted = outcome.Done n
+decided n (decision.Accepted owner) = outcome.Done n
 decided n (decision.Repeated reply) = outcome.Done reply.number
 decided n (decision.Refused refusal) = outcome.Refused refusal
 
--- What an edit is answered, and the state after it. By the machine of edits, but that no edit is taken any more after the last one,
--- that one which the store doesn't take leaves the state as it was, and so does running out of memory. A fault of the store came in this call.
-abbrev pub EditTurn : State → Entry → Outcome → State → Type 0 → Type 0
-EditTurn s e outcome.NoMemory s' failed = s' ≡ s
-EditTurn s e outcome.KeeperFault s' failed = (verdict s e ≡ Accepted) × (s' ≡ s) × failed
-EditTurn s e (outcome.Ended count) s' failed = (s.accepted ≡ last_edit) × (count ≡ last_edit) × (s' ≡ s)
-EditTurn s e o s' failed = (d : Decision) × Says e.number (verdict s e) d × (o ≡ decided e.number d) × (s' ≡ step s e)
+-- What an edit is answered, the state after it, and the store's counts of faults before and after it. By the machine of edits, but that no
+-- edit is taken any more after the last one, that one which the store doesn't take leaves the state as it was, and so does running
+-- out of memory. The count rises where a fault of the store is answered, and else stands still.
+abbrev pub EditTurn : State → Entry → Outcome → State → ℕ → ℕ → Type 0
+EditTurn s e (outcome.Ended count) s' faults faults' = (s.accepted ≡ last_edit) × (count ≡ last_edit) × (s' ≡ s) × (faults' ≡ faults)
+EditTurn s e outcome.NoMemory s' faults faults' = (s.accepted ≢ last_edit) × (s' ≡ s) × (faults' ≡ faults)
+EditTurn s e outcome.KeeperFault s' faults faults' = (s.accepted ≢ last_edit) × (verdict s e ≡ Accepted) × (s' ≡ s) × Rose faults faults'
+EditTurn s e o s' faults faults' =
+    (s.accepted ≢ last_edit) × (d : Decision) × Says e.number (verdict s e) d × (o ≡ decided e.number d) × (s' ≡ step s e) × (faults' ≡ faults)
 
 -- What a question is answered.
 abbrev pub AskTurn : Registry → List ℕ → Query → Outcome → Type 0
@@ -124,9 +127,11 @@ explained s (Some (of.Member m)) call = explanation_outcome (member_explanation 
 abbrev pub ExplainTurn : State → ExplainCall → Outcome → Type 0
 ExplainTurn s call o = OrNoMemory (explained s (owner_of s.registry call.secret) call) o
 
--- What a call is answered, and the state after it, with what the clock gave last before and after it. Edits alone change the state.
-abbrev pub IsTurn : State → Call → Outcome → State → Type 0 → Option ℕ → Option ℕ → Type 0
-IsTurn s (Edit entry) o s' failed given given' = EditTurn s entry o s' failed × (given' ≡ given)
-IsTurn s (Ask secret q) o s' failed given given' = TimedTurn s.registry secret q given given' o × (s' ≡ s)
-IsTurn s (Published secret router seen) o s' failed given given' = PublishedTurn s secret router seen o × (s' ≡ s) × (given' ≡ given)
-IsTurn s (Explain call) o s' failed given given' = ExplainTurn s call o × (s' ≡ s) × (given' ≡ given)
+-- What a call is answered, the state after it, the store's counts of faults before and after it, and what the clock gave last before and
+-- after it. Edits alone change the state and ask the store for anything.
+abbrev pub IsTurn : State → Call → Outcome → State → ℕ → ℕ → Option ℕ → Option ℕ → Type 0
+IsTurn s (Edit entry) o s' faults faults' given given' = EditTurn s entry o s' faults faults' × (given' ≡ given)
+IsTurn s (Ask secret q) o s' faults faults' given given' = TimedTurn s.registry secret q given given' o × (s' ≡ s) × (faults' ≡ faults)
+IsTurn s (Published secret router seen) o s' faults faults' given given' =
+    PublishedTurn s secret router seen o × (s' ≡ s) × (faults' ≡ faults) × (given' ≡ given)
+IsTurn s (Explain call) o s' faults faults' given given' = ExplainTurn s call o × (s' ≡ s) × (faults' ≡ faults) × (given' ≡ given)

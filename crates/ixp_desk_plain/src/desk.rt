@@ -1,10 +1,11 @@
 //! The desk.
-ghost use Rattle.std.specs.Prelude.{◌≡◌, ◌≤◌, ◌<◌, ◌-◌, ◌^◌, ℕ};
-ghost use Rattle.ixp_io.specs.Faults.{Rose};
+ghost use Rattle.std.specs.Prelude.{◌≡◌, ◌≤◌, ◌<◌, ◌-◌, ◌^◌, ℕ, Some};
 ghost use Rattle.ixp_io.specs.Told.{WhereTold};
 ghost use Rattle.ixp_store_words.specs.Answers.{IsStoreOf};
+ghost use Rattle.ixp_store_words.specs.Storing.{IsStorable};
 ghost use Rattle.ixp_machine_steps.specs.States.{ValidState};
 ghost use Rattle.ixp_machine_steps.specs.Steps.{Accepted, verdict};
+ghost use Rattle.ixp_members.specs.Owners.{owner_of};
 ghost use Rattle.ixp_desk_plain.specs.Texts.{FollowsIfAny, TextsFollow};
 ghost use Rattle.ixp_desk_plain.specs.Turns.{AskTurn, AsksClock, EditTurn, TimedTurn, at_second};
 
@@ -18,10 +19,11 @@ use ixp_http_link::Desk;
 use ixp_io::{Clock, KeepFault, Keeper};
 use ixp_machine::{AskFault, Decision, Query, ask, decide, read_edit};
 use ixp_machine_steps::{Entry, State};
-use ixp_registry::Registry;
+use ixp_registry::{Owner, Registry};
 use std::alloc::Global;
 
-/// The state of a registry, which answers calls over the store that keeps it and a clock. The state is valid, and the store's rows are the state's.
+/// The state of a registry, which answers calls over the store that keeps it and a clock. The state is valid, and the store's rows are
+/// the state's, so that they are loaded as this state again.
 #[derive(Drop)]
 pub struct PlainDesk {
     pub state: State,
@@ -86,15 +88,19 @@ fn accepted<P: Keeper>(
     state: &mut State,
     texts: &mut Option<Texts>,
     keeper: &mut P,
+    owner: Owner,
     entry: Entry,
 ) -> Outcome
     requires valid { ValidState state.old }
+    requires storable { IsStorable state.old }
+    requires owner { owner_of state.old.registry entry.secret ≡ Some owner }
     requires accepted { verdict state.old entry ≡ Accepted }
     requires room { state.old.accepted < 2 ^ 64 - 1 }
     requires stored { WhereTold (P.table keeper.old) (IsStoreOf state.old) }
     requires texts { FollowsIfAny state.old.registry texts.old }
-    ensures turn { EditTurn state.old entry result state.new (Rose (P.faults keeper.old) (P.faults keeper.new)) }
+    ensures turn { EditTurn state.old entry result state.new (P.faults keeper.old) (P.faults keeper.new) }
     ensures valid { ValidState state.new }
+    ensures storable { IsStorable state.new }
     ensures stored { WhereTold (P.table keeper.new) (IsStoreOf state.new) }
     ensures counts { P.faults keeper.old ≤ P.faults keeper.new }
     ensures texts { FollowsIfAny state.new.registry texts.new }
@@ -102,7 +108,7 @@ fn accepted<P: Keeper>(
     read_edit(&entry.edit);
     let number = entry.number;
     let foreseen = reached_if_any(alloc, texts, &state.registry, &entry.edit);
-    match keep(alloc, state, keeper, entry) {
+    match keep(alloc, state, keeper, owner, entry) {
         Ok(()) => {
             *texts = followed(alloc, texts.take(), foreseen, state);
             Outcome::Done(number)
@@ -121,10 +127,12 @@ fn submitted<P: Keeper>(
     entry: Entry,
 ) -> Outcome
     requires valid { ValidState state.old }
+    requires storable { IsStorable state.old }
     requires stored { WhereTold (P.table keeper.old) (IsStoreOf state.old) }
     requires texts { FollowsIfAny state.old.registry texts.old }
-    ensures turn { EditTurn state.old entry result state.new (Rose (P.faults keeper.old) (P.faults keeper.new)) }
+    ensures turn { EditTurn state.old entry result state.new (P.faults keeper.old) (P.faults keeper.new) }
     ensures valid { ValidState state.new }
+    ensures storable { IsStorable state.new }
     ensures stored { WhereTold (P.table keeper.new) (IsStoreOf state.new) }
     ensures counts { P.faults keeper.old ≤ P.faults keeper.new }
     ensures texts { FollowsIfAny state.new.registry texts.new }
@@ -133,7 +141,7 @@ fn submitted<P: Keeper>(
         return Outcome::Ended { count: u64::MAX };
     }
     match decide(alloc, state, &entry) {
-        Ok(Decision::Accepted) => accepted(alloc, state, texts, keeper, entry),
+        Ok(Decision::Accepted(owner)) => accepted(alloc, state, texts, keeper, owner, entry),
         Ok(Decision::Repeated(reply)) => Outcome::Done(reply.number),
         Ok(Decision::Refused(refusal)) => Outcome::Refused(refusal),
         Err(_) => Outcome::NoMemory,
@@ -141,17 +149,18 @@ fn submitted<P: Keeper>(
 }
 
 impl<P: Keeper, C: Clock> Desk<P, C> for PlainDesk {
-    ghost use Rattle.ixp_io.specs.Faults.{Rose};
     ghost use Rattle.ixp_io.specs.Told.{WhereTold};
     ghost use Rattle.ixp_store_words.specs.Answers.{IsStoreOf};
+    ghost use Rattle.ixp_store_words.specs.Storing.{IsStorable};
     ghost use Rattle.ixp_machine_steps.specs.States.{ValidState};
     ghost use Rattle.ixp_desk_plain.specs.Texts.{TextsFollow};
     ghost use Rattle.ixp_desk_plain.specs.Turns.{IsTurn};
 
-    ghost fits = { λ d p. ValidState d.state × WhereTold (P.table p) (IsStoreOf d.state) × TextsFollow d };
+    ghost fits = { λ d p. ValidState d.state × IsStorable d.state × WhereTold (P.table p) (IsStoreOf d.state) × TextsFollow d };
 
-    ghost turn = { λ d call o e. IsTurn d.0.state call o e.0.state (Rose (P.faults d.1) (P.faults e.1)) (C.given d.2) (C.given e.2) };
+    ghost turn = { λ d call o e. IsTurn d.0.state call o e.0.state (P.faults d.1) (P.faults e.1) (C.given d.2) (C.given e.2) };
 
+    #[tactic(auto, using(crate::proofs::NeverHead::never_head))]
     fn answer(&mut self, alloc: Global, store: &mut P, clock: &mut C, call: Call) -> Outcome {
         match call {
             Call::Edit(entry) => submitted(alloc, &mut self.state, &mut self.texts, store, entry),

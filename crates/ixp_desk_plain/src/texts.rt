@@ -1,7 +1,8 @@
 //! The texts that the desk keeps.
 ghost use Rattle.std.specs.Prelude.{◌≡◌, ◌<◌, None, IfOk, IfSome};
 ghost use Rattle.ixp_build.specs.Bundles.{IsOf};
-ghost use Rattle.ixp_build.specs.Pendings.{Follows, noted};
+ghost use Rattle.ixp_build.specs.Pendings.{Follows};
+ghost use Rattle.ixp_build_pending.specs.Pendings.{IsNoted};
 ghost use Rattle.ixp_machine_edits.specs.declared.edit.Edit.{Edit};
 ghost use Rattle.ixp_machine_edits.specs.Edits.{next, refusal, IsLawful};
 ghost use Rattle.ixp_registry.specs.declared.registry.Registry.{Registry};
@@ -38,9 +39,11 @@ fn with_touched(
     foreseen: Reached,
     after: &State,
 ) -> Result<Texts, AllocError>
-    ensures { IfOk result (λ t. t ≡ record texts { pending = noted after.now.accepted (with_after foreseen after.now.registry) texts.pending }) }
+    requires { 0 < after.now.accepted }
+    ensures bundle { IfOk result (λ t. t.bundle ≡ texts.bundle) }
+    ensures pending { IfOk result (λ t. IsNoted after.now.accepted (with_after foreseen after.now.registry) texts.pending t.pending) }
 {
-    let touch = foreseen.with_after(alloc, &after.registry)?;
+    let touch = foreseen.touch_after(alloc, &after.registry)?;
     texts.with_pending(alloc, &touch, after.accepted)
 }
 
@@ -52,7 +55,8 @@ pub(crate) fn followed(
     foreseen: Option<Reached>,
     after: &State,
 ) -> Option<Texts>
-    ensures { (r : Registry) (e : Edit) → Valid r → IsLawful e → refusal r e ≡ None → 0 < after.now.accepted → after.now.registry ≡ next r e → IfSome foreseen (λ x. x ≡ reached r e) → FollowsIfAny r texts → FollowsIfAny after.now.registry result }
+    requires { 0 < after.now.accepted }
+    ensures { (r : Registry) (e : Edit) → Valid r → IsLawful e → refusal r e ≡ None → after.now.registry ≡ next r e → IfSome foreseen (λ x. x ≡ reached r e) → FollowsIfAny r texts → FollowsIfAny after.now.registry result }
 {
     let Some(texts) = texts else {
         return None;

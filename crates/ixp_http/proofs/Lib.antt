@@ -6,3 +6,4 @@ pub mod Writes
 pub mod Found
 pub mod Readings
 pub mod Bodies
+pub mod Held

@@ -9,7 +9,7 @@ use Rattle.ixp_http.specs.Heads.{start_of}
 use Rattle.ixp_http.specs.Fields.{need_of}
 use Rattle.ixp_http.specs.Messages.{Reading, message, Begins, First, IsEnd, IsHead, parts_of, with_need, Messages, OneReading}
 
-head_unique : (bytes : List ℕ) (a b : Head) → IsHead bytes a → IsHead bytes b → a ≡ b
+pub head_unique : (bytes : List ℕ) (a b : Head) → IsHead bytes a → IsHead bytes b → a ≡ b
 head_unique bytes a b p q = p.2 ∙ ap parts_of (request_unique bytes p.0 q.0 [] [] p.1 q.1).0 ∙ sym q.2
 
 begins_unique : (bytes : List ℕ) (s : Start) (x y : Reading) → Begins bytes s x → Begins bytes s y → x ≡ y

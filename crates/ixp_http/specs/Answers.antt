@@ -1,5 +1,5 @@
 -- What a call that reads a request answers.
-use Rattle.std.specs.Prelude.{◌≡◌, ℕ, Option, List, ◌++◌, drop, ⊤, Result, Ok, Err}
+use Rattle.std.specs.Prelude.{◌≡◌, ℕ, ◌+◌, Option, List, ◌++◌, drop, ⊤, Result, Ok, Err}
 use Rattle.ixp_io.specs.Told.{Told}
 use Rattle.ixp_http.specs.declared.next.Next.{Next}
 use Rattle.ixp_http.specs.declared.next.Next.TheVariants.{Request as Found, End}
@@ -8,6 +8,8 @@ use Rattle.ixp_http.specs.declared.next.HttpFault.TheVariants.{Bad, Cut, ReadFau
 use Rattle.ixp_http.specs.declared.head.Start.TheVariants.{Headed}
 use Rattle.ixp_http.specs.declared.fields.Need.TheVariants.{Body}
 use Rattle.ixp_http.specs.declared.request.Head.{Head}
+use Rattle.ixp_http.specs.Fields.{body_limit}
+use Rattle.ixp_http.specs.Heads.{chunk, head_limit}
 use Rattle.ixp_http.specs.Messages.{Reading, First, Begins, with_need, closed, cut, bad, message}
 
 -- the bytes that were held and left are those that are held and left now
@@ -28,6 +30,10 @@ Tells P before now held holds (Err NoMemory) = ⊤
 -- what stands first in the bytes is answered
 abbrev pub AnswersOf : Option (List ℕ) → Option (List ℕ) → List ℕ → List ℕ → Result Next HttpFault → Type 0
 AnswersOf before now held holds result = Tells First before now held holds result
+
+-- what was read and not used yet is at most a message and what one read gives
+abbrev pub most_held : ℕ
+most_held = head_limit + body_limit + chunk
 
 -- a fault that says nothing of the bytes
 abbrev pub SaysNothing : HttpFault → Type 0

@@ -42,6 +42,10 @@ line_feeds (b ∷ bytes) = if b == 10 then line_feeds bytes + 1 else line_feeds 
 abbrev pub head_limit : ℕ
 head_limit = 16384
 
+-- one read of a link gives at most this many bytes
+abbrev pub chunk : ℕ
+chunk = 4096
+
 -- a request line, 64 fields and the empty line
 abbrev pub line_limit : ℕ
 line_limit = 66

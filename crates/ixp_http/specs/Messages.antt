@@ -1,5 +1,6 @@
 -- The messages that bytes hold (RFC 9112 sections 2, 3, 6 and 9.6).
 use Rattle.std.specs.Prelude.{◌≡◌, ℕ, ◌+◌, Bool, ◌||◌, ◌==◌, ◌⊎◌, nat_le, if◌then◌else◌, unwrap_or, List, [], ◌∷◌, length, map, take, drop, codes, ⊤}
+use Rattle.ixp_num_tables.specs.Tables.{same}
 use Rattle.httparse.specs.Grammar.{RequestHead, ReadsRequest, HasNoRequest}
 use Rattle.httparse.specs.Spans.{name_and_value, span_bytes, header_bytes}
 use Rattle.httparse.specs.declared.spans.HeaderSpan.{HeaderSpan}
@@ -40,9 +41,11 @@ head_at bytes headers places = record {
 abbrev pub IsHead : List ℕ → Head → Type 0
 IsHead bytes head = (h : RequestHead) × ReadsRequest bytes h [] × (head ≡ parts_of h)
 
--- The link is closed after the reply: the version is 1.0, or `close` is an item of a `Connection` field (RFC 9112 section 9.3).
+-- The link is closed after the reply: the version is 1.0, or `close` is an item of a `Connection` field (RFC 9112 section 9.3), or the
+-- method is HEAD, after whose reply a client expects no body (RFC 9110 section 9.3.2).
 abbrev pub closes_after : Head → Bool
-closes_after head = head.minor == 0 || any_has_item (codes "close") (values (codes "connection") head.fields)
+closes_after head =
+    head.minor == 0 || (same head.method (codes "HEAD") || any_has_item (codes "close") (values (codes "connection") head.fields))
 
 -- the request with these parts of its head and this body; its query is what follows the first `?` of the target
 abbrev pub request_of : Head → List ℕ → Request

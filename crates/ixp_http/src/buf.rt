@@ -1,5 +1,6 @@
 //! What was read of a link and not used yet.
-ghost use Rattle.std.specs.Prelude.{◌≡◌, ◌≤◌, ◌+◌, ◌++◌, List, ℕ, [], length, drop, IfOk, IfErr, OnOk, OnErr};
+ghost use Rattle.ixp_http.specs.Heads.{chunk};
+ghost use Rattle.std.specs.Prelude.{◌≡◌, ◌≢◌, ◌≤◌, ◌+◌, ◌++◌, List, ℕ, [], length, drop, IfOk, IfErr, OnOk, OnErr};
 ghost use Rattle.ixp_io.specs.Faults.{Rose};
 ghost use Rattle.ixp_io.specs.Told.{IsDone};
 ghost use Rattle.ixp_http.specs.Answers.{Together, SaysNothing};
@@ -53,7 +54,9 @@ impl Buf {
         ensures more { IfOk result (λ n. length self.new ≡ length self.old + n) }
         ensures still { result ≡ Ok 0 → self.new ≡ self.old }
         ensures done { result ≡ Ok 0 → IsDone (L.left link.new) }
+        ensures chunk { length self.new ≤ length self.old + chunk }
         ensures nothing { IfErr result SaysNothing }
+        ensures never { result ≢ Err HttpFault.WriteFault }
         ensures failed { result ≡ Err HttpFault.ReadFault → Rose (L.read_faults link.old) (L.read_faults link.new) }
         ensures counts { L.read_faults link.old ≤ L.read_faults link.new }
         ensures written { L.written link.new ≡ L.written link.old }

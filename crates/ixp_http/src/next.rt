@@ -1,10 +1,12 @@
 //! Reading the next request of a link.
-ghost use Rattle.std.specs.Prelude.{◌≡◌, ◌≤◌, ◌<◌, ◌+◌, ◌++◌, true, false, length, drop, IfOk, IfErr, OnOk};
+ghost use Rattle.std.specs.Prelude.{◌≡◌, ◌≢◌, ◌≤◌, ◌<◌, ◌+◌, ◌++◌, ℕ, List, true, false, length, drop, IfOk, IfErr, OnOk};
 ghost use Rattle.ixp_io.specs.Faults.{Rose};
 ghost use Rattle.ixp_io.specs.Told.{WhereTold, IsDone};
-ghost use Rattle.ixp_http.specs.Heads.{start_of, head_limit, IsPlaced};
+ghost use Rattle.ixp_http.specs.Heads.{chunk, is_open, start_of, head_limit, IsPlaced};
+ghost use Rattle.ixp_http.specs.declared.head.Start.TheVariants.{Headed};
+ghost use Rattle.ixp_http.specs.declared.request.Request.{Request};
 ghost use Rattle.ixp_http.specs.Fields.{body_limit};
-ghost use Rattle.ixp_http.specs.Messages.{OneReading};
+ghost use Rattle.ixp_http.specs.Messages.{Begins, First, OneReading, message};
 ghost use Rattle.ixp_http.specs.Answers as spec;
 
 use crate::buf::Buf;
@@ -54,7 +56,9 @@ fn read_line<L: Source>(link: &mut L, buf: &mut Buf) -> Result<bool, HttpFault>
     ensures together { OnOk result (spec.Together (L.left link.old) (L.left link.new) buf.old buf.new) }
     ensures grows { IfOk result (λ more. more ≡ true → length buf.old < length buf.new) }
     ensures done { IfOk result (λ more. more ≡ false → IsDone (L.left link.new)) }
+    ensures bounded { length buf.new < head_limit + chunk }
     ensures nothing { IfErr result spec.SaysNothing }
+    ensures never { result ≢ Err HttpFault.WriteFault }
     ensures failed { result ≡ Err HttpFault.ReadFault → Rose (L.read_faults link.old) (L.read_faults link.new) }
     ensures counts { L.read_faults link.old ≤ L.read_faults link.new }
     ensures written { L.written link.new ≡ L.written link.old }
@@ -78,7 +82,11 @@ fn fill_head<L: Source>(link: &mut L, buf: &mut Buf) -> Result<Start, HttpFault>
     ensures together { OnOk result (spec.Together (L.left link.old) (L.left link.new) buf.old buf.new) }
     ensures start { IfOk result (λ start. start ≡ start_of buf.new) }
     ensures settled { IfOk result (λ start. WhereTold (L.left link.new) (λ rest. start_of (buf.new ++ rest) ≡ start)) }
+    ensures still { is_open (start_of buf.old) ≡ false → L.left link.new ≡ L.left link.old }
+    ensures same { is_open (start_of buf.old) ≡ false → buf.new ≡ buf.old }
+    ensures bounded { length buf.old ≤ spec.most_held → length buf.new ≤ spec.most_held }
     ensures nothing { IfErr result spec.SaysNothing }
+    ensures never { result ≢ Err HttpFault.WriteFault }
     ensures failed { result ≡ Err HttpFault.ReadFault → Rose (L.read_faults link.old) (L.read_faults link.new) }
     ensures counts { L.read_faults link.old ≤ L.read_faults link.new }
     ensures written { L.written link.new ≡ L.written link.old }
@@ -101,7 +109,10 @@ fn fill_body<L: Source>(link: &mut L, buf: &mut Buf, size: usize) -> Result<bool
     ensures grows { OnOk result (length buf.old ≤ length buf.new) }
     ensures came { IfOk result (λ came. came ≡ true → size ≤ length buf.new) }
     ensures ended { IfOk result (λ came. came ≡ false → (length buf.new < size) × IsDone (L.left link.new)) }
+    ensures still { size ≤ length buf.old → L.left link.new ≡ L.left link.old }
+    ensures bounded { size + chunk ≤ spec.most_held → length buf.old ≤ spec.most_held → length buf.new ≤ spec.most_held }
     ensures nothing { IfErr result spec.SaysNothing }
+    ensures never { result ≢ Err HttpFault.WriteFault }
     ensures failed { result ≡ Err HttpFault.ReadFault → Rose (L.read_faults link.old) (L.read_faults link.new) }
     ensures counts { L.read_faults link.old ≤ L.read_faults link.new }
     ensures written { L.written link.new ≡ L.written link.old }
@@ -129,6 +140,9 @@ fn with_body<L: Source>(
     requires at { at ≤ length buf.old }
     requires size { size ≤ body_limit }
     ensures answers { spec.Tells (λ bytes x. spec.IsBodied head at size bytes x) (L.left link.old) (L.left link.new) buf.old buf.new result }
+    ensures still { at + size ≤ length buf.old → L.left link.new ≡ L.left link.old }
+    ensures bounded { length buf.old ≤ spec.most_held → length buf.new ≤ spec.most_held }
+    ensures never { result ≢ Err HttpFault.WriteFault }
     ensures failed { result ≡ Err HttpFault.ReadFault → Rose (L.read_faults link.old) (L.read_faults link.new) }
     ensures counts { L.read_faults link.old ≤ L.read_faults link.new }
     ensures written { L.written link.new ≡ L.written link.old }
@@ -153,6 +167,9 @@ fn with_head<L: Source>(
 ) -> Result<Next, HttpFault>
     requires placed { IsPlaced buf.old from len }
     ensures answers { spec.Tells (λ bytes x. spec.IsHeaded from len bytes x) (L.left link.old) (L.left link.new) buf.old buf.new result }
+    ensures still { (r : Request) (rest : List ℕ) → Begins buf.old (Headed from len) (message r rest) → L.left link.new ≡ L.left link.old }
+    ensures bounded { length buf.old ≤ spec.most_held → length buf.new ≤ spec.most_held }
+    ensures never { result ≢ Err HttpFault.WriteFault }
     ensures failed { result ≡ Err HttpFault.ReadFault → Rose (L.read_faults link.old) (L.read_faults link.new) }
     ensures counts { L.read_faults link.old ≤ L.read_faults link.new }
     ensures written { L.written link.new ≡ L.written link.old }
@@ -178,6 +195,12 @@ pub fn next_request<L: Source>(
     buf: &mut Buf,
 ) -> Result<Next, HttpFault>
     ensures answers { spec.AnswersOf (L.left link.old) (L.left link.new) buf.old buf.new result }
+
+    // Where a whole message is held nothing is read, and never more is held than a message and what one read gives.
+    ensures still { (r : Request) (rest : List ℕ) → First buf.old (message r rest) → L.left link.new ≡ L.left link.old }
+    ensures bounded { length buf.old ≤ spec.most_held → length buf.new ≤ spec.most_held }
+
+    ensures never { result ≢ Err HttpFault.WriteFault }
     ensures failed { result ≡ Err HttpFault.ReadFault → Rose (L.read_faults link.old) (L.read_faults link.new) }
     ensures counts { L.read_faults link.old ≤ L.read_faults link.new }
     ensures written { L.written link.new ≡ L.written link.old }

@@ -26,7 +26,7 @@ pub struct Request {
     /// The fields of the head, in their order.
     pub fields: Items<Field>,
     pub body: Items<u8>,
-    /// The link is closed after the reply.
+    /// The link is closed after the reply: so it is after each request by HEAD, whose reply has a body that a client doesn't expect.
     pub closes: bool,
 }
 
@@ -144,7 +144,9 @@ pub(crate) fn request_of(alloc: Global, head: Head, body: Items<u8>) -> Result<R
 {
     let path = Items::from_slice(alloc, path_of(head.target.as_slice()))?;
     let query = Items::from_slice(alloc, query_of(head.target.as_slice()))?;
-    let closes = head.minor == 0 || any_has_item(head.fields.as_slice(), b"connection", b"close");
+    let closes = head.minor == 0
+        || head.method.as_slice() == b"HEAD".as_slice()
+        || any_has_item(head.fields.as_slice(), b"connection", b"close");
     Ok(Request {
         method: head.method,
         path,

@@ -1,11 +1,14 @@
 //! What answers calls.
+ghost use Rattle.std.specs.Prelude.{◌≢◌, ℕ};
 ghost use Rattle.ixp_api.specs.declared.call.Call.{Call};
 ghost use Rattle.ixp_api_replies.specs.declared.outcome.Outcome.{Outcome};
+ghost use Rattle.ixp_api_replies.specs.declared.outcome.Outcome.TheVariants.{Head};
 
 use ixp_api::{Call, Outcome};
 use std::alloc::Global;
 
 /// What answers calls over a store and a clock, which stand beside it. An outcome of running out of memory ends the link.
+/// The head of a reply, which answers what is no request, is no answer to a call.
 pub trait Desk<P, C> {
     /// The store is the desk's.
     ghost fits: { Self → P → Type 0 };
@@ -16,5 +19,6 @@ pub trait Desk<P, C> {
     fn answer(&mut self, alloc: Global, store: &mut P, clock: &mut C, call: Call) -> Outcome
         requires { fits self.old store.old }
         ensures turn { turn (self.old, store.old, clock.old) call result (self.new, store.new, clock.new) }
+        ensures whole { (status : ℕ) → result ≢ Head status }
         ensures fits { fits self.new store.new };
 }

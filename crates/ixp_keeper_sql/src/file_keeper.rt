@@ -4,20 +4,25 @@ ghost use Rattle.std.specs.Prelude.{◌≡◌, ◌≤◌, None, IfOk};
 use crate::SqlKeeper;
 use crate::refusals::counted;
 use ixp_io::{Change, KeepFault, Keeper, Row, RowName};
-use sqlite::{Alter, Connection, Error, File, FileStore};
+use sqlite::{Alter, Connection, Error, ErrorCode, File, FileStore};
 use sqlite_trees::store::Store;
 use std::alloc::{AllocError, Global};
+use std::fs::OpenOptions;
+use std::os::unix::fs::OpenOptionsExt;
+use std::{fs, io};
 
 /// A keeper over the store at a path. It is generic so that it may go to another thread.
 pub struct PathKeeper<S: Alter> {
     rt: HostRuntime,
     path: String,
     open: Option<SqlKeeper<S>>,
+    /// A read found no file. Then a file that is there at the first commit is another program's.
+    is_absent: bool,
     faults: u64,
 }
 
-/// A keeper over the file at a path, and the log beside it, whose name ends in `-wal`. The file is made where it isn't
-/// there. Another program that has it open, a file that is no database and a database of another program are faults. The
+/// A keeper over the file at a path, and the log beside it, whose name ends in `-wal`. A file that isn't there has no rows; the first
+/// commit makes it, for its owner alone to read and write. Another program that has it open or made it in between, a file that is no database and a database of another program are faults. The
 /// file is opened once: where a commit that failed may stand in its log, it has to be read anew by a program that starts.
 pub type FileKeeper = PathKeeper<FileStore<File>>;
 
@@ -28,6 +33,7 @@ impl<S: Alter + Drop> Drop for PathKeeper<S> {
             rt: _,
             path: _,
             open: _,
+            is_absent: _,
             faults: _,
         } = self;
     }
@@ -41,6 +47,35 @@ fn opened(rt: &HostRuntime, path: &str, open: Option<Opened>) -> Result<Opened, 
         Some(keeper) => Ok(keeper),
         None => Ok(SqlKeeper::adopt(Connection::open(rt, path)?)),
     }
+}
+
+/// The store has API keys and passwords of sessions: nobody but its owner may read it.
+const OWNER_ALONE: u32 = 0o600;
+
+fn refusal_of(error: &io::Error) -> Error {
+    Error::SqliteFailure(match error.kind() {
+        io::ErrorKind::OutOfMemory => ErrorCode::OutOfMemory,
+        _ => ErrorCode::CannotOpen,
+    })
+}
+
+// Makes the file. Where it is there, that is a refusal if it wasn't there when it was read.
+fn make_file(rt: &HostRuntime, path: &str, is_absent: bool) -> Result<(), Error> {
+    let mut how = OpenOptions::new();
+    how.read(true)
+        .write(true)
+        .create_new(true)
+        .mode(OWNER_ALONE);
+    match how.open(rt, path) {
+        Ok(_) => Ok(()),
+        Err(error) if error.kind() == io::ErrorKind::AlreadyExists && !is_absent => Ok(()),
+        Err(error) => Err(refusal_of(&error)),
+    }
+}
+
+// Whether there is no file. Where that can't be told, opening it tells why.
+fn is_missing(rt: &HostRuntime, path: &str) -> bool {
+    matches!(fs::exists(rt, path), Ok(false))
 }
 
 // Copies the log into the file, and closes both.
@@ -59,6 +94,7 @@ impl PathKeeper<FileStore<File>> {
             rt: *rt,
             path: String::from_str(rt.alloc(), path)?,
             open: None,
+            is_absent: false,
             faults: 0,
         })
     }
@@ -69,6 +105,7 @@ impl PathKeeper<FileStore<File>> {
             rt: _,
             path: _,
             open,
+            is_absent: _,
             faults: _,
         } = self;
         if let Some(keeper) = open {
@@ -87,6 +124,12 @@ impl Keeper for PathKeeper<FileStore<File>> {
     fn commit(&mut self, alloc: Global, batch: &[Change]) -> Result<(), KeepFault> {
         if self.faults == u64::MAX {
             return Err(KeepFault::Failed);
+        }
+        if self.open.is_none() {
+            if let Err(refusal) = make_file(&self.rt, self.path.as_str(), self.is_absent) {
+                return Err(counted(&mut self.faults, &refusal));
+            }
+            self.is_absent = false;
         }
         match opened(&self.rt, self.path.as_str(), self.open.take()) {
             Ok(mut keeper) => {
@@ -108,6 +151,10 @@ impl Keeper for PathKeeper<FileStore<File>> {
     ) -> Result<Option<Row>, KeepFault> {
         if self.faults == u64::MAX {
             return Err(KeepFault::Failed);
+        }
+        if self.open.is_none() && is_missing(&self.rt, self.path.as_str()) {
+            self.is_absent = true;
+            return Ok(None);
         }
         match opened(&self.rt, self.path.as_str(), self.open.take()) {
             Ok(mut keeper) => {

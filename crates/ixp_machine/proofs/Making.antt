@@ -27,11 +27,6 @@ named r (AddRouter handle vlan family address x) ok =
     handle_is_name handle (holds (is_handle handle) (BadText Handle) t.1.0)
 named r e ok = refl
 
-pub somebody : (s : State) (e : Entry) → owner_of s.registry e.secret ≡ None → verdict s e ≡ Accepted → ⊥
-somebody s e found h =
-    let v : Refused NoKey ≡ Accepted = sym (ap (λ o. if_there o (Refused NoKey) (λ owner. verdict_of s owner e.number e.edit)) found) ∙ h in
-    let bad : ⊥ = cc in bad
-
 pub owners : (s : State) (e : Entry) (owner : Owner) → owner_of s.registry e.secret ≡ Some owner → verdict s e ≡ Accepted → verdict_of s owner e.number e.edit ≡ Accepted
 owners s e owner found h = sym (ap (λ o. if_there o (Refused NoKey) (λ owner. verdict_of s owner e.number e.edit)) found) ∙ h
 

@@ -24,10 +24,15 @@ Names k subject = ⊥
 
 -- what is answered to a request with the number
 abbrev pub Says : ℕ → Verdict → Decision → Type 0
-Says n Accepted d = d ≡ decision.Accepted
+Says n Accepted d = (owner : Owner) × (d ≡ decision.Accepted owner)
 Says n Repeated d = d ≡ decision.Repeated (record { number = n })
 Says n (Reused kind subject) d = (k : RowKey) × (d ≡ decision.Refused (KeyReused kind k)) × Names k subject
 Says n (Refused x) d = d ≡ decision.Refused x
+
+-- an edit that may be made is made for this owner
+abbrev pub IsFor : Option Owner → Decision → Type 0
+IsFor owner (decision.Accepted found) = owner ≡ Some found
+IsFor owner d = Unit {0}
 
 -- after how many accepted requests one with the number was accepted
 abbrev pub place_of : State → Owner → ℕ → Option ℕ

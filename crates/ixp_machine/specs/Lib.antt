@@ -1,4 +1,5 @@
 pub mod Decisions
 pub mod Keeping
+pub mod Others
 pub mod Prepared
 pub mod Questions

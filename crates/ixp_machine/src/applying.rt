@@ -1,5 +1,6 @@
 //! Accepted requests are made.
-ghost use Rattle.std.specs.Prelude.{◌≡◌, ◌<◌, ◌-◌, ◌^◌, IfOk, OnOk, OnErr};
+ghost use Rattle.std.specs.Prelude.{◌≡◌, ◌<◌, ◌-◌, ◌^◌, IfOk, OnOk, OnErr, Some};
+ghost use Rattle.ixp_members.specs.Owners.{owner_of};
 ghost use Rattle.ixp_machine_steps.specs.States.{ValidState};
 ghost use Rattle.ixp_machine_steps.specs.Steps.{Accepted, verdict, step};
 
@@ -7,6 +8,8 @@ use crate::decision::Reply;
 use crate::preparing::{carry_out, prepare};
 use ixp_io::{Change, KeepFault, Keeper, Row, RowName};
 use ixp_machine_steps::{Entry, State};
+use ixp_members::rights;
+use ixp_registry::Owner;
 use std::alloc::{AllocError, Global};
 
 /// Stores nothing, and never fails.
@@ -37,6 +40,28 @@ impl Keeper for NoStore {
     }
 }
 
+/// Makes the edit of an owner's request that is accepted, and keeps its number. Where memory runs out, the state is as before.
+pub(crate) fn apply_for(
+    alloc: Global,
+    state: &mut State,
+    owner: Owner,
+    entry: Entry,
+) -> Result<Reply, AllocError>
+    requires valid { ValidState state.old }
+    requires owner { owner_of state.old.registry entry.secret ≡ Some owner }
+    requires accepted { verdict state.old entry ≡ Accepted }
+    requires room { state.old.accepted < 2 ^ 64 - 1 }
+    ensures ok { OnOk result (state.new ≡ step state.old entry) }
+    ensures reply { IfOk result (λ r. r.number ≡ entry.number) }
+    ensures err { OnErr result (state.new ≡ state.old) }
+{
+    let prepared = prepare(alloc, state, owner, entry)?;
+    match carry_out(alloc, state, prepared, &mut NoStore, &[]) {
+        Ok(reply) => Ok(reply),
+        Err(_) => Err(AllocError),
+    }
+}
+
 /// Makes the edit of a request that is accepted, and keeps its number. Where memory runs out, the state is as before.
 pub fn apply(alloc: Global, state: &mut State, entry: Entry) -> Result<Reply, AllocError>
     requires valid { ValidState state.old }
@@ -46,9 +71,8 @@ pub fn apply(alloc: Global, state: &mut State, entry: Entry) -> Result<Reply, Al
     ensures reply { IfOk result (λ r. r.number ≡ entry.number) }
     ensures err { OnErr result (state.new ≡ state.old) }
 {
-    let prepared = prepare(alloc, state, entry)?;
-    match carry_out(alloc, state, prepared, &mut NoStore, &[]) {
-        Ok(reply) => Ok(reply),
-        Err(_) => Err(AllocError),
-    }
+    let Some(owner) = rights(&state.registry, entry.secret.as_slice()) else {
+        unreachable!();
+    };
+    apply_for(alloc, state, owner, entry)
 }

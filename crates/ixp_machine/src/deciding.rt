@@ -1,8 +1,10 @@
 //! What is decided of a request.
-ghost use Rattle.std.specs.Prelude.{◌≡◌, IfOk};
+ghost use Rattle.std.specs.Prelude.{◌≡◌, IfOk, Option, Some};
 ghost use Rattle.ixp_machine_steps.specs.States.{ValidState};
 ghost use Rattle.ixp_machine_steps.specs.Steps.{kept_says, verdict, verdict_of};
-ghost use Rattle.ixp_machine.specs.Decisions.{Says};
+ghost use Rattle.ixp_machine.specs.Decisions.{IsFor, Says};
+ghost use Rattle.ixp_members.specs.Owners.{owner_of};
+ghost use Rattle.ixp_registry.specs.declared.members.Owner.{Owner as By};
 
 use crate::decision::{Decision, Reply};
 use crate::kept::{floor_of, kept_number};
@@ -17,7 +19,8 @@ use std::alloc::{AllocError, Global};
 
 /// Of a request whose number is kept.
 fn repeated(kept: &KeptNumber, entry: &Entry) -> Decision
-    ensures { Says entry.now.number (kept_says entry.now.edit kept.now) result }
+    ensures decision { Says entry.now.number (kept_says entry.now.edit kept.now) result }
+    ensures unmade { (owner : Option By) → IsFor owner result }
 {
     if same_kind(kept.kind, kind_of(&entry.edit)) && is_about(&kept.subject, &entry.edit) {
         return Decision::Repeated(Reply {
@@ -38,7 +41,8 @@ fn decide_of(
     entry: &Entry,
 ) -> Result<Decision, AllocError>
     requires { ValidState state.now }
-    ensures { IfOk result (Says entry.now.number (verdict_of state.now owner entry.now.number entry.now.edit)) }
+    ensures decision { IfOk result (Says entry.now.number (verdict_of state.now owner entry.now.number entry.now.edit)) }
+    ensures owner { IfOk result (IsFor (Some owner)) }
 {
     let right = right_of(&entry.edit);
     if !has_right(owner, right) {
@@ -59,14 +63,15 @@ fn decide_of(
         &entry.edit,
     )? {
         Some(refusal) => Ok(Decision::Refused(refusal)),
-        None => Ok(Decision::Accepted),
+        None => Ok(Decision::Accepted(owner)),
     }
 }
 
-/// What is decided of a request. It changes nothing; its only error is want of memory.
+/// What is decided of a request. It changes nothing; its only error is that memory runs out.
 pub fn decide(alloc: Global, state: &State, entry: &Entry) -> Result<Decision, AllocError>
     requires { ValidState state.now }
-    ensures { IfOk result (Says entry.now.number (verdict state.now entry.now)) }
+    ensures decision { IfOk result (Says entry.now.number (verdict state.now entry.now)) }
+    ensures owner { IfOk result (IsFor (owner_of state.now.registry entry.now.secret)) }
 {
     match rights(&state.registry, entry.secret.as_slice()) {
         Some(owner) => decide_of(alloc, state, owner, entry),

@@ -29,7 +29,7 @@ pub use deciding::decide;
 pub use decision::{Decision, Reply};
 pub use kept::place_of;
 pub use lawful::read_edit;
-pub use laws::members_ask_of_their_own;
+pub use laws::{members_ask_of_their_own, members_leave_others};
 pub use preparing::{Prepared, carry_out, prepare};
 pub use question::{Answer, AskFault, Query};
 pub use turn::request;

@@ -1,8 +1,9 @@
 //! Requests that are accepted, ready to be made.
-ghost use Rattle.std.specs.Prelude.{◌≡◌, ◌≤◌, ◌<◌, ◌-◌, ◌^◌, IfOk, OnOk, OnErr, true};
+ghost use Rattle.std.specs.Prelude.{◌≡◌, ◌≤◌, ◌<◌, ◌-◌, ◌^◌, IfOk, OnOk, OnErr, Some, true};
 ghost use Rattle.ixp_machine_effects.specs.Names.{has_name};
 ghost use Rattle.ixp_machine_effects.specs.Saving.{Saves};
 ghost use Rattle.ixp_machine.specs.Prepared as spec;
+ghost use Rattle.ixp_members.specs.Owners.{owner_of};
 ghost use Rattle.ixp_machine_steps.specs.States.{ValidState};
 ghost use Rattle.ixp_machine_steps.specs.Steps.{Accepted, verdict, kept_entry, step};
 
@@ -14,7 +15,6 @@ use ixp_io::{Change, KeepFault, Keeper};
 use ixp_machine_effects::{RegistryChange, change_of};
 use ixp_machine_refusals::{prefixes_after, weight_after};
 use ixp_machine_steps::{Entry, KeptNumber, State};
-use ixp_members::rights;
 use ixp_registry::Owner;
 use std::alloc::{AllocError, Global};
 
@@ -43,18 +43,21 @@ fn kept_entry(alloc: Global, entry: &Entry, place: u64) -> Result<KeptNumber, Al
     })
 }
 
-/// Makes a request ready that is accepted: all that takes memory but a place in a table, with the state as it is.
-pub fn prepare(alloc: Global, state: &State, entry: Entry) -> Result<Prepared, AllocError>
+/// Makes a request of the owner ready that is accepted: all that takes memory but a place in a table, with the state as it is.
+pub fn prepare(
+    alloc: Global,
+    state: &State,
+    owner: Owner,
+    entry: Entry,
+) -> Result<Prepared, AllocError>
     requires valid { ValidState state.now }
+    requires owner { owner_of state.now.registry entry.secret ≡ Some owner }
     requires accepted { verdict state.now entry ≡ Accepted }
     requires room { state.now.accepted < 2 ^ 64 - 1 }
     ensures step { IfOk result (λ p. spec.prepared state.now p ≡ step state.now entry) }
     ensures number { IfOk result (λ p. p.kept.number ≡ entry.number) }
     ensures fresh { IfOk result (spec.IsFresh state.now) }
 {
-    let Some(owner) = rights(&state.registry, entry.secret.as_slice()) else {
-        unreachable!();
-    };
     let weight = weight_after(alloc, &state.registry, state.weight, &entry.edit)?;
     let prefixes = prefixes_after(&state.registry, state.prefixes, &entry.edit);
     let kept = kept_entry(alloc, &entry, state.accepted + 1)?;

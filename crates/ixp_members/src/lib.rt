@@ -4,5 +4,5 @@
 mod owners;
 mod statuses;
 
-pub use owners::rights;
+pub use owners::{owner_in, rights};
 pub use statuses::may_move;

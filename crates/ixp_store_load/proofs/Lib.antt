@@ -7,5 +7,3 @@ pub mod Reading
 pub mod RegistryRows
 pub mod RightStates
 pub mod RowsAgain
-pub mod Storable
-pub mod Subjects

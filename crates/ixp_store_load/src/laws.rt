@@ -1,5 +1,5 @@
 //! The laws. The functions do nothing: each is called for what it ensures.
-ghost use Rattle.std.specs.Prelude.{◌<◌, ◌≤◌, ◌^◌, ◌-◌, length};
+ghost use Rattle.std.specs.Prelude.{◌<◌, ◌≤◌, ◌^◌, ◌-◌, length, Result, Some};
 ghost use Rattle.ixp_machine_edits.specs.Edits.{IsLawful};
 ghost use Rattle.ixp_machine_steps.specs.Openings.{first_state};
 ghost use Rattle.ixp_registry.specs.declared.registry.Registry.{Registry};
@@ -8,11 +8,14 @@ ghost use Rattle.ixp_machine_steps.specs.declared.state.State.{State};
 ghost use Rattle.ixp_machine_steps.specs.States.{ValidState};
 ghost use Rattle.ixp_machine_steps.specs.Steps.{step};
 ghost use Rattle.ixp_store_rows.specs.States.{stored_rows};
+ghost use Rattle.ixp_store_words.specs.declared.fault.LoadFault.{LoadFault};
+ghost use Rattle.ixp_store_words.specs.Answers.{IsLoaded, IsStoreOf, LoadsAll};
 ghost use Rattle.ixp_store_words.specs.Storing.{IsStorable};
+ghost use Rattle.ixp_io.specs.Tables.{Table};
 
 /// States that requests lead to can be loaded again: the first state of a registry is one, and a request to one leaves one, as
 /// long as the count of accepted requests has room.
-#[tactic(auto, using(crate::proofs::Storable::first_storable, crate::proofs::Storable::still_storable))]
+#[tactic(auto, using(ixp_store_words::proofs::KeepStorable::first_storable, ixp_store_words::proofs::KeepStorable::still_storable))]
 pub fn requests_keep_states_storable()
     ensures first { (r : Registry) → IsStorable (first_state r) }
     ensures next { (s : State) (e : Entry) → ValidState s → IsStorable s → IsLawful e.edit → s.accepted < 2 ^ 64 - 1 → IsStorable (step s e) }
@@ -22,4 +25,10 @@ pub fn requests_keep_states_storable()
 #[tactic(auto, using(ixp_store_damage::proofs::FewRows::few_rows))]
 pub fn valid_states_have_few_rows()
     ensures { (s : State) → ValidState s → length (stored_rows s) ≤ 8000000 }
+{}
+
+/// The store of a valid state that may be stored is loaded as that state, unless memory runs out or the keeper fails. So what a session has stored
+/// is the state after its last turn.
+pub fn stores_are_loaded_as_their_states()
+    ensures { (s : State) (rows : Table) (r : Result State LoadFault) → ValidState s → IsStorable s → IsStoreOf s rows → LoadsAll (Some rows) r → IsLoaded s r }
 {}

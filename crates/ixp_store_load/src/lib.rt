@@ -16,5 +16,7 @@ mod laws;
 mod opened;
 
 pub use ixp_store_words::{Damage, LoadFault};
-pub use laws::{requests_keep_states_storable, valid_states_have_few_rows};
+pub use laws::{
+    requests_keep_states_storable, stores_are_loaded_as_their_states, valid_states_have_few_rows,
+};
 pub use opened::load;

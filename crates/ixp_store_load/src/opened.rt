@@ -20,7 +20,7 @@ ghost use Rattle.ixp_store_damage.specs.Loading.{kind_rows};
 ghost use Rattle.ixp_store_damage.specs.Damages.{AreAllRight, TellsRow};
 ghost use Rattle.ixp_store_words.specs.Opening.{AreAllRows, IsFirstOrOf, IsTold, SaysVersion, entry_name, is_count, is_old, is_version};
 ghost use Rattle.ixp_store_words.specs.Sorting.{Same};
-ghost use Rattle.ixp_store_words.specs.Storing.{IsStorable};
+ghost use Rattle.ixp_store_words.specs.Storing.{AreStorable, IsStorable};
 ghost use Rattle.ixp_store_words.specs.Keeping.{AreKept};
 ghost use Rattle.ixp_store_damage.specs.Walking.{FindsCount, IsCounted, LoadTellsRow, LoadTellsWrong, Reached, TellNoState, TellsFirst, TellsRegistry, TellsWrong};
 ghost use Rattle.ixp_store_words.specs.declared.fault.LoadFault.TheVariants.{KeeperFault};
@@ -154,10 +154,13 @@ fn have_owners(members: &Table<Member>, kept: &Table<KeptOwner>) -> bool
 }
 
 /// The state of a registry and what is kept of requests, if that is kept for owners that are there.
+#[tactic(auto, using(ixp_store_words::proofs::StorableStates::storable_by_kept))]
 fn joined(alloc: Global, registry: Registry, kept: Table<KeptOwner>, accepted: u64) -> Option<State>
     requires registry { Valid registry }
     requires kept { AreKept accepted kept }
+    requires storable { AreStorable kept }
     ensures valid { IfSome result ValidState }
+    ensures storable { IfSome result IsStorable }
     ensures complete { (s : Whole) → ValidState s → registry ≡ s.registry → kept ≡ s.kept → accepted ≡ s.accepted → result ≡ Some s }
 {
     if !have_owners(&registry.members, &kept) {
@@ -176,6 +179,7 @@ fn joined(alloc: Global, registry: Registry, kept: Table<KeptOwner>, accepted: u
 /// The state that rows tell, if they tell one.
 fn told_by(alloc: Global, rows: &[Row]) -> Result<Option<State>, AllocError>
     ensures valid { IfOk result (λ o. IfSome o ValidState) }
+    ensures storable { IfOk result (λ o. IfSome o IsStorable) }
     ensures complete { (s : Whole) → ValidState s → IsStorable s → AreAllRows s (map row_entry rows.now) → IfOk result (λ o. o ≡ Some s) }
 {
     let Some(registry) = registry_told(alloc, rows)? else {
@@ -257,6 +261,7 @@ fn empty_registry(alloc: Global) -> Registry
 /// The state that rows tell, if they are all its rows.
 fn confirmed(alloc: Global, rows: &[Row]) -> Result<Option<State>, AllocError>
     ensures valid { IfOk result (λ o. IfSome o ValidState) }
+    ensures storable { IfOk result (λ o. IfSome o IsStorable) }
     ensures same { IfOk result (λ o. IfSome o (λ s. IsPermutation (map set_row (stored_rows s)) (map set_row (map row_entry rows.now)))) }
     ensures complete { (s : Whole) → ValidState s → IsStorable s → AreAllRows s (map row_entry rows.now) → IfOk result (λ o. o ≡ Some s) }
 {
@@ -275,6 +280,7 @@ fn confirmed(alloc: Global, rows: &[Row]) -> Result<Option<State>, AllocError>
 /// The state whose rows these are.
 fn state_of(alloc: Global, rows: &[Row]) -> Result<State, NoState>
     ensures valid { IfOk result ValidState }
+    ensures storable { IfOk result IsStorable }
     ensures same { IfOk result (λ s. IsPermutation (map set_row (stored_rows s)) (map set_row (map row_entry rows.now))) }
     ensures complete { (s : Whole) → ValidState s → IsStorable s → AreAllRows s (map row_entry rows.now) → IsTold s result }
     ensures damage { Ascends entry_name (map row_entry rows.now) → IfErr result (TellsWrong (map row_entry rows.now)) }
@@ -300,9 +306,10 @@ fn is_old(rows: &[Row]) -> bool
 }
 
 /// The state whose rows these are. No row at all stands for the registry without rows.
-#[tactic(auto, using(ixp_rows::proofs::Gathered::no_rows))]
+#[tactic(auto, using(ixp_rows::proofs::Gathered::no_rows, ixp_store_words::proofs::KeepStorable::first_storable))]
 fn opened(alloc: Global, rows: &[Row], beyond: Option<RowName>) -> Result<State, LoadFault>
     ensures valid { IfOk result ValidState }
+    ensures storable { IfOk result IsStorable }
     ensures state { IfOk result (λ s. IsFirstOrOf s rows.now) }
     ensures whole { IsOk result → beyond ≡ None }
     ensures version { SaysVersion result rows.now }
@@ -334,6 +341,7 @@ fn opened(alloc: Global, rows: &[Row], beyond: Option<RowName>) -> Result<State,
 /// The valid state whose rows the keeper has. No row at all stands for the registry without rows.
 pub fn load<P: Keeper>(alloc: Global, keeper: &mut P) -> Result<State, LoadFault>
     ensures valid { IfOk result ValidState }
+    ensures storable { IfOk result IsStorable }
     ensures state { IfOk result (λ s. WhereTold (P.table keeper.old) (IsStoreOf s)) }
     ensures complete { (s : Whole) → ValidState s → IsStorable s → P.table keeper.old ≡ Some (tables s) → IsLoaded s result }
     ensures nothing { P.table keeper.old ≡ Some empty → IsLoaded (first_state empty_registry) result }

@@ -1,3 +1,6 @@
 pub mod Gathered
 pub mod Sorting
+pub mod KeepStorable
+pub mod StorableStates
+pub mod Subjects
 pub mod WordTexts

@@ -1,5 +1,5 @@
 -- Which states a store is proved to be loaded as: all that requests lead to.
-use Rattle.std.specs.Prelude.{◌≡◌, ◌≢◌, ◌<◌, ◌^◌, ◌⊎◌, true, []}
+use Rattle.std.specs.Prelude.{◌≡◌, ◌≢◌, ◌<◌, ◌^◌, ◌⊎◌, true, List, []}
 use Rattle.std.specs.List.{AllByRecursion}
 use Rattle.ixp_registry.specs.declared.edit_kind.EditKind.{EditKind}
 use Rattle.ixp_registry.specs.declared.edit_kind.EditKind.TheVariants as kind
@@ -42,6 +42,10 @@ HasSubject k = HasForm (form_of k.kind) k.subject
 -- something is kept for the owner
 abbrev pub KeepsSome : KeptOwner → Type 0
 KeepsSome o = (o.floor ≢ 0) ⊎ (o.numbers ≢ [])
+
+-- what is kept may stand in a store
+abbrev pub AreStorable : List KeptOwner → Type 0
+AreStorable ks = AllByRecursion (λ o. KeepsSome o × AllByRecursion HasSubject o.numbers) ks
 
 -- The count has 64 bits, something is kept for each owner who is there, and kept numbers have subjects of their kind.
 pub record IsStorable (s : State) : Type 0 where

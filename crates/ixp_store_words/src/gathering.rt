@@ -15,8 +15,9 @@ ghost use Rattle.ixp_num_tables.specs.Tables.{without};
 ghost use Rattle.ixp_store_words.specs.Gathering.{IsNoted, all_in, all_of, with_floor, with_number, with_row};
 ghost use Rattle.ixp_store_words.specs.Keeping.{AreKept, MayBeKept};
 ghost use Rattle.ixp_store_words.specs.Opening.{AreAllRows};
-ghost use Rattle.ixp_store_words.specs.Storing.{HasSubject, IsStorable};
+ghost use Rattle.ixp_store_words.specs.Storing.{AreStorable, HasSubject, IsStorable};
 
+use crate::storable::are_storable;
 use crate::words::{number_of, numbered_of, owner_of, request_of};
 use ixp_io::Row;
 use ixp_machine_steps::{KeptNumber, KeptOwner};
@@ -272,21 +273,25 @@ fn are_kept(kept: &[KeptOwner], accepted: u64) -> bool
 }
 
 /// What is kept of requests, by the rows of a store that say so, where so many were accepted.
+#[tactic(auto, using(crate::proofs::StorableStates::kept_of_storable))]
 pub fn kept_told(
     alloc: Global,
     rows: &[Row],
     accepted: u64,
 ) -> Result<Option<Table<KeptOwner>>, AllocError>
     ensures kept { IfOk result (λ o. IfSome o (AreKept accepted)) }
+    ensures storable { IfOk result (λ o. IfSome o AreStorable) }
     ensures complete { (s : Whole) → ValidState s → IsStorable s → accepted ≡ s.accepted → AreAllRows s (map row_entry rows.now) → IfOk result (λ o. o ≡ Some s.kept) }
 {
     match gathered(alloc, rows)? {
         Some(kept) => {
-            if are_kept(kept.as_slice(), accepted) {
-                Ok(Some(kept))
-            } else {
-                Ok(None)
+            if !are_kept(kept.as_slice(), accepted) {
+                return Ok(None);
             }
+            if !are_storable(kept.as_slice()) {
+                return Ok(None);
+            }
+            Ok(Some(kept))
         }
         None => Ok(None),
     }

@@ -6,6 +6,7 @@
 
 mod fault;
 mod gathering;
+mod storable;
 mod words;
 
 pub use fault::{Damage, LoadFault, NoState};

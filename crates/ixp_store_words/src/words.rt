@@ -221,7 +221,7 @@ pub enum Form {
     SharedList,
 }
 
-fn form_of(kind: EditKind) -> Form
+pub(crate) fn form_of(kind: EditKind) -> Form
     ensures { result ≡ form_of kind }
 {
     match kind {

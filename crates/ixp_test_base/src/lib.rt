@@ -1,4 +1,4 @@
-//! Tests of the lowest layer: lists, tables of rows, texts, the numbers of the trade, and the outside.
+//! Tests of the lowest layer: lists, tables of rows, texts, the numbers of the trade, a table of a million ROAs, and the outside.
 //!
 //! They stand here and not in the crates that they test, so that each of those is proved once and not once more with its
 //! tests. Each calls what allocates on its happy path, compares with values from outside, or makes a read or a write fail.
@@ -8,6 +8,8 @@
 mod keepers;
 #[cfg(test)]
 mod lists;
+#[cfg(test)]
+mod many_roas;
 #[cfg(test)]
 mod numbers;
 #[cfg(test)]

@@ -1,5 +1,6 @@
 //! Texts of route servers that follow edits: what each kind of edits touches, and that with it made anew they are those of full
 //! generation.
+ghost use Rattle.std.specs.Prelude.{◌<◌};
 ghost use Rattle.ixp_registry.specs.Valid.{Valid};
 ghost use Rattle.ixp_machine_steps.specs.States.{ValidState};
 
@@ -257,7 +258,8 @@ fn pend(
     change: Change,
     out: &mut Vec<u8>,
 ) -> Result<(), AllocError>
-    requires { ValidState state.old }
+    requires valid { ValidState state.old }
+    requires some { 0 < number }
     ensures { ValidState state.new }
 {
     let alloc = *out.allocator();
@@ -267,7 +269,7 @@ fn pend(
     let reached = reached_by(alloc, &state.registry, &edit)?;
     put_request(state, (STAFF, number, change), out)?;
     put(out, b"\n")?;
-    let touch = reached.with_after(alloc, &state.registry)?;
+    let touch = reached.touch_after(alloc, &state.registry)?;
     pending.note(alloc, &touch, number)
 }
 
@@ -279,8 +281,8 @@ impl Plays for Pended {
         pend(state, &mut pending, 2, self.1, out)?;
         put_touch(&pending.listed(alloc)?, out)?;
         put(out, b"later\n")?;
-        let later = pending.later(alloc, 1)?;
-        put_touch(&later.listed(alloc)?, out)
+        pending.settle(alloc, 1);
+        put_touch(&pending.listed(alloc)?, out)
     }
 }
 
@@ -319,5 +321,36 @@ fn pending_texts_have_counts(rt: HostRuntime) -> Result<(), Fail> {
         let have = told(rt.alloc(), LINES.as_bytes(), &Pended(first, second));
         is_wanted(&rt, have, wanted.as_bytes(), wanted);
     }
+    Ok(())
+}
+
+/// Builds where values that a worker and a reader share are lent to both.
+#[derive(Clone, Copy)]
+struct Lent;
+
+/// What may be lent to another thread, and be given to it.
+fn is_shared<T: Send + Sync>(_it: &T) {}
+
+impl Plays for Lent {
+    fn play(&self, state: &mut State, out: &mut Vec<u8>) -> Result<(), AllocError> {
+        let alloc = *out.allocator();
+        let bundle = Bundle::open(alloc, state)?;
+        let pending = Pending::new(alloc);
+        let touch = pending.listed(alloc)?;
+        let order = bundle.order(alloc, state, &touch)?;
+        is_shared(state);
+        is_shared(&bundle);
+        is_shared(&pending);
+        is_shared(&order);
+        let made = made_of(alloc, &bundle, state, &touch)?;
+        is_shared(&made);
+        put(out, b"lent")
+    }
+}
+
+#[test]
+fn states_and_builds_may_go_to_other_threads(rt: HostRuntime) -> Result<(), Fail> {
+    let have = told(rt.alloc(), LINES.as_bytes(), &Lent);
+    is_wanted(&rt, have, b"lent", "lent");
     Ok(())
 }

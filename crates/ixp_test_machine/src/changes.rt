@@ -1,5 +1,5 @@
 //! Edits as constants.
-use crate::lists::{Listed, origins_of, prefixes_of, public_of, rules_of};
+use crate::lists::{Listed, many, many_prefixes, origins_of, prefixes_of, public_of, rules_of};
 use ixp_machine_edits::{Edit, RouterSettings};
 use ixp_num::{Addr, Asn, Family, Items, Name, Prefix, read_addr, read_prefix};
 use ixp_registry::{Action, IfAddr, Status, Way};
@@ -27,6 +27,10 @@ pub enum Change {
     PutOrigins(u32, Family, &'static str),
     SetRules(u32, Option<Rule>, Option<Rule>),
     PutPublic(Listed, &'static str),
+    /// A list of so many items, of member 1 where it is a member's.
+    Many(Listed, u32),
+    /// So many IPv4 prefixes of a member.
+    ManyPrefixes(u32, u32),
 }
 
 fn text(alloc: Global, t: &str) -> Option<Items<u8>> {
@@ -173,6 +177,8 @@ fn of_lists(alloc: Global, change: Change) -> Option<Edit> {
         Change::PutPublic(listed, lines) => Some(Edit::PutPublic {
             list: public_of(alloc, listed, lines)?,
         }),
+        Change::Many(listed, count) => many(alloc, listed, count),
+        Change::ManyPrefixes(member, count) => many_prefixes(alloc, member, count),
         _ => None,
     }
 }

@@ -24,6 +24,19 @@ const CASES: &[(Change, &str)] = &[
     ),
     (Change::PutPublic(Listed::Roas, "10.0.0.0/8 7"), "X15 0"),
     (Change::PutPublic(Listed::Roas, "10.0.0.0/8 33"), "X15 0"),
+    (Change::ManyPrefixes(9, 300001), "X4 member 9"),
+    (
+        Change::Many(Listed::Prefixes, 300001),
+        "X16 prefix 300001 300000",
+    ),
+    (
+        Change::Many(Listed::Origins, 300001),
+        "X16 origin 300001 300000",
+    ),
+    (
+        Change::Many(Listed::Roas, 1000001),
+        "X16 roa 1000001 1000000",
+    ),
 ];
 
 #[test]

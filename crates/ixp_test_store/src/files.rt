@@ -5,6 +5,7 @@ use ixp_keeper_sql::FileKeeper;
 use sqlite::{Connection, Error, File, FileStore};
 use std::alloc::{AllocError, Global};
 use std::fs;
+use std::os::unix::fs::PermissionsExt;
 use std::test::Fail;
 
 /// A file and the log beside it.
@@ -237,4 +238,64 @@ fn a_keeper_may_go_to_another_thread(rt: HostRuntime) -> Result<(), Fail> {
     is_send(&keeper);
     keeper.close();
     Ok(())
+}
+
+const NEW: Names = ["new.db", "new.db-wal"];
+
+/// Who may do what with a file.
+fn mode_of(rt: &HostRuntime, path: &str) -> Option<u32> {
+    let found = fs::metadata(rt, path).ok()?;
+    Some(found.permissions().mode() & 0o777)
+}
+
+/// Whether there is a file after a read, and the modes of the file and its log after a commit.
+type Made = (Option<bool>, Option<u32>, Option<u32>);
+
+fn made_anew(rt: &HostRuntime, names: Names) -> Result<Made, KeepFault> {
+    let mut keeper = FileKeeper::new(rt, names[0])?;
+    let found = count(rt.alloc(), &mut keeper, 10);
+    let there = fs::exists(rt, names[0]).ok();
+    let done = commit(rt.alloc(), &mut keeper, 1);
+    let modes = (mode_of(rt, names[0]), mode_of(rt, names[1]));
+    keeper.close();
+    done?;
+    if found? != 0 {
+        return Err(KeepFault::Failed);
+    }
+    Ok((there, modes.0, modes.1))
+}
+
+#[test]
+fn the_first_commit_makes_a_file_for_its_owner_alone(rt: HostRuntime) {
+    clear(&rt, NEW);
+    let have = made_anew(&rt, NEW);
+    assert!(rt;
+        have == Ok((Some(false), Some(0o600), Some(0o600))),
+        "{have:?}"
+    );
+    clear(&rt, NEW);
+}
+
+const RACED: Names = ["raced.db", "raced.db-wal"];
+
+/// What a commit is answered by a keeper that saw no file, where another one has made it and let it go since.
+fn raced(rt: &HostRuntime, path: &str) -> Result<Option<KeepFault>, KeepFault> {
+    let mut late = FileKeeper::new(rt, path)?;
+    let found = count(rt.alloc(), &mut late, 10);
+    let other = made(rt, path, 1);
+    let done = commit(rt.alloc(), &mut late, 2);
+    late.close();
+    other?;
+    if found? != 0 {
+        return Err(KeepFault::Failed);
+    }
+    Ok(done.err())
+}
+
+#[test]
+fn a_file_that_came_in_between_is_a_fault(rt: HostRuntime) {
+    clear(&rt, RACED);
+    let have = raced(&rt, "raced.db");
+    assert!(rt; have == Ok(Some(KeepFault::Failed)), "{have:?}");
+    clear(&rt, RACED);
 }

@@ -52,7 +52,10 @@ fn words_of(rt: &HostRuntime) -> io::Result<Vec<String>> {
 fn show(rt: &HostRuntime, text: &str) -> u8 {
     match rt.print(text) {
         Ok(()) => 0,
-        Err(_) => 4,
+        Err(_) => {
+            let _ = rt.eprint("ixpm: write fault\n");
+            4
+        }
     }
 }
 

@@ -9,7 +9,7 @@ each-preserved c =
     let r = c.args.registry.now in
     let q = c.args.router.now in
     let left : c.each.left.now ≡ c.in-Some.interface.now ∷ c.in-Some.others.now = search rules in
-    ap (λ (t : List ℕ). t ++ sessions_text r q c.in-Some.others.now) c.in_ok-put_session.ensures
+    ap (λ (t : List ℕ). t ++ sessions_text r q c.in-Some.others.now) c.in_ok-put_session.ensures.part
     ∙ append_assoc c.each.out.items (part_text r q c.in-Some.interface.now) (sessions_text r q c.in-Some.others.now)
     ∙ ap (λ (t : List ℕ). c.each.out.items ++ t) (sym (one_more r q c.in-Some.interface.now c.in-Some.others.now))
     ∙ ap (λ (is : List Interface). c.each.out.items ++ sessions_text r q is) (sym left)

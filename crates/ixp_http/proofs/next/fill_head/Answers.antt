@@ -1,5 +1,5 @@
-use Rattle.std.proofs.Common.{◌≡◌, arith}
-use Rattle.ixp_http.specs.Heads.{start_of}
+use Rattle.std.proofs.Common.{◌≡◌, ℕ, Bool, true, false, List, sym, ap, ◌∙◌, arith}
+use Rattle.ixp_http.specs.Heads.{is_open, start_of}
 use Rattle.ixp_http.proofs.Starts.{settled, settled_done}
 use Rattle.ixp_http.proofs.Together.{together_then}
 use Rattle.ixp_http.proofs.next.fill_head.Goals as goal
@@ -19,3 +19,38 @@ pub returns-then-not-branch-clause-settled : goal.returns-then-not-branch-clause
 returns-then-not-branch-clause-settled g c =
     let is : c.start_of.result ≡ start_of c.read_line.new.buf = cc (c.start_of.ensures.exact, c.as_slice-then-not-branch.ensures) in
     settled_done (g.L.Stream.left c.read_line.new.link) c.read_line.new.buf c.start_of.result is (c.in_ok-read_line.ensures.done (grind arith))
+
+-- what is held was settled, and yet it is read on
+contradicts : {X : Type 0} (at now : List ℕ) → is_open (start_of now) ≡ true → (is_open (start_of at) ≡ false → now ≡ at) → is_open (start_of at) ≡ false → X
+contradicts at now going same closed =
+    let bad : true ≡ false = sym going ∙ (ap (λ (b : List ℕ). is_open (start_of b)) (same closed) ∙ closed) in
+    absurd (let none : ⊥ = cc in none)
+
+pub returns-then-not-is_open-clause-still : goal.returns-then-not-is_open-clause-still
+returns-then-not-is_open-clause-still g c = c.loop-start.invariant.still
+
+pub returns-then-not-is_open-clause-same : goal.returns-then-not-is_open-clause-same
+returns-then-not-is_open-clause-same g c = c.loop-start.invariant.same
+
+pub returns-then-not-is_open-clause-bounded : goal.returns-then-not-is_open-clause-bounded
+returns-then-not-is_open-clause-bounded g c = c.loop-start.invariant.bounded
+
+pub returns-in_err-read_line-clause-still : goal.returns-in_err-read_line-clause-still
+returns-in_err-read_line-clause-still g c =
+    let going : is_open (start_of c.loop-start.buf) ≡ true = cc (c.start_of-start.ensures.exact, c.as_slice.ensures, c.is_open.ensures, c.if-not-is_open.false) in
+    contradicts c.args.buf.now c.loop-start.buf going c.loop-start.invariant.same
+
+pub returns-in_err-read_line-clause-same : goal.returns-in_err-read_line-clause-same
+returns-in_err-read_line-clause-same g c =
+    let going : is_open (start_of c.loop-start.buf) ≡ true = cc (c.start_of-start.ensures.exact, c.as_slice.ensures, c.is_open.ensures, c.if-not-is_open.false) in
+    contradicts c.args.buf.now c.loop-start.buf going c.loop-start.invariant.same
+
+pub returns-then-not-branch-clause-still : goal.returns-then-not-branch-clause-still
+returns-then-not-branch-clause-still g c =
+    let going : is_open (start_of c.loop-start.buf) ≡ true = cc (c.start_of-start.ensures.exact, c.as_slice.ensures, c.is_open.ensures, c.if-not-is_open.false) in
+    contradicts c.args.buf.now c.loop-start.buf going c.loop-start.invariant.same
+
+pub returns-then-not-branch-clause-same : goal.returns-then-not-branch-clause-same
+returns-then-not-branch-clause-same g c =
+    let going : is_open (start_of c.loop-start.buf) ≡ true = cc (c.start_of-start.ensures.exact, c.as_slice.ensures, c.is_open.ensures, c.if-not-is_open.false) in
+    contradicts c.args.buf.now c.loop-start.buf going c.loop-start.invariant.same

@@ -1,9 +1,10 @@
-use Rattle.std.proofs.Common.{◌≡◌, ◌++◌, ◌∙◌, refl, sym, subst}
+use Rattle.std.proofs.Common.{◌≡◌, ◌++◌, ◌∙◌, ℕ, List, refl, sym, subst}
 use Rattle.ixp_http.specs.declared.head.Start.{Start}
 use Rattle.ixp_http.specs.declared.head.Start.TheVariants.{Headed}
 use Rattle.ixp_io.specs.Told.{WhereTold}
 use Rattle.ixp_http.specs.Heads.{start_of}
-use Rattle.ixp_http.specs.Messages.{Begins, bad, cut}
+use Rattle.ixp_http.specs.Messages.{Begins, First, bad, cut, message}
+use Rattle.ixp_http.proofs.Held.{message_settled}
 use Rattle.ixp_http.proofs.Starts.{placed}
 use Rattle.ixp_http.proofs.Bodies.{first_plain, first_headed}
 use Rattle.ixp_http.proofs.next.next_request.Goals as goal
@@ -31,3 +32,24 @@ returns-in-Headed-clause-answers g c =
     (subst (λ (s : Start). WhereTold (told.left c.fill_head.new.link) (λ rest. start_of (c.fill_head.new.buf ++ rest) ≡ s)) c.in-Headed.is
     c.in_ok-start.ensures.settled)
     c.with_head.ensures.answers
+
+pub returns-in_err-start-clause-still : goal.returns-in_err-start-clause-still
+returns-in_err-start-clause-still g c r rest first = c.fill_head.ensures.still (message_settled c.args.buf.now r rest first)
+
+pub returns-in-Over-clause-still : goal.returns-in-Over-clause-still
+returns-in-Over-clause-still g c r rest first = c.fill_head.ensures.still (message_settled c.args.buf.now r rest first)
+
+pub returns-in-Between-clause-still : goal.returns-in-Between-clause-still
+returns-in-Between-clause-still g c r rest first = c.fill_head.ensures.still (message_settled c.args.buf.now r rest first)
+
+pub returns-in-Inside-clause-still : goal.returns-in-Inside-clause-still
+returns-in-Inside-clause-still g c r rest first = c.fill_head.ensures.still (message_settled c.args.buf.now r rest first)
+
+pub returns-in-Headed-clause-still : goal.returns-in-Headed-clause-still
+returns-in-Headed-clause-still g c r rest first =
+    let settled = message_settled c.args.buf.now r rest first in
+    let is : start_of c.fill_head.new.buf ≡ Headed c.in-Headed.from c.in-Headed.len = sym c.in_ok-start.ensures.start ∙ c.in-Headed.is in
+    c.with_head.ensures.still r rest
+    (subst (λ (s : Start). Begins c.fill_head.new.buf s (message r rest)) is
+    (subst (λ (b : List ℕ). First b (message r rest)) (sym (c.fill_head.ensures.same settled)) first))
+    ∙ c.fill_head.ensures.still settled

@@ -1,5 +1,6 @@
-use Rattle.std.proofs.Common.{◌≡◌, ◌≤◌, ◌-◌, length}
+use Rattle.std.proofs.Common.{◌≡◌, ◌≤◌, ◌<◌, ◌+◌, ◌-◌, length}
 use Rattle.ixp_http.specs.Answers.{Together}
+use Rattle.ixp_http.specs.Heads.{chunk, head_limit}
 use Rattle.ixp_http.proofs.next.read_line.Given as goal
 
 abbrev pub invariant-loop-buf : goal.invariant-loop-buf
@@ -8,6 +9,7 @@ invariant-loop-buf g l =
     record {
       together : Together (told.left l.fn.link) (told.left l.link) l.fn.buf l.buf;
       grows : length l.fn.buf ≤ length l.buf;
+      bounded : length l.buf < head_limit + chunk;
       counts : told.read_faults l.fn.link ≤ told.read_faults l.link;
       written : told.written l.link ≡ told.written l.fn.link;
       write_faults : told.write_faults l.link ≡ told.write_faults l.fn.link;

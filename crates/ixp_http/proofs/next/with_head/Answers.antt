@@ -3,6 +3,7 @@ use Rattle.std.proofs.lemmas.Grind.{common_steps}
 use Rattle.ixp_http.specs.declared.fields.Need.TheVariants.{Body, Refused}
 use Rattle.ixp_http.specs.Fields.{need_of}
 use Rattle.ixp_http.proofs.Bodies.{head_bodied, head_refused, found_is}
+use Rattle.ixp_http.proofs.Held.{body_held}
 use Rattle.ixp_http.proofs.next.with_head.Goals as goal
 
 pub returns-in-Body-clause-answers : goal.returns-in-Body-clause-answers
@@ -26,3 +27,12 @@ returns-in-Refused-clause-answers g c =
 
 pub with_body-requires-clause-size : goal.with_body-requires-clause-size
 with_body-requires-clause-size g c = c.need_of.ensures.small c.in-Body.size c.in-Body.is
+
+pub returns-in-Body-clause-still : goal.returns-in-Body-clause-still
+returns-in-Body-clause-still g c r rest begins =
+    let need : need_of c.in-Some.head.fields ≡ Body c.in-Body.size = cc (c.need_of.ensures.need, c.as_slice-2.ensures, c.in-Body.is) in
+    c.with_body.ensures.still
+    (body_held c.args.buf.now c.args.from c.args.len c.in-Body.size c.in-Some.head r rest
+    (found_is c.in_ok-found.found c.in-Some.head (take c.args.len (drop c.args.from c.args.buf.now)) _ c.in-Some.is
+    (grind (arith, common_steps, c.as_slice.ensures)) c.in_ok-found.ensures)
+    need c.requires.placed.fits begins)

@@ -9,27 +9,27 @@ pub weight_after-requires-clause-unrefused : goal.weight_after-requires-clause-u
 weight_after-requires-clause-unrefused c =
     let s = c.args.state.now in
     let e = c.args.entry in
-    let found : owner_of s.registry e.secret ≡ Some c.in-Some.owner = search rules in
-    unrefused s e c.in-Some.owner found c.requires.accepted
+    let found : owner_of s.registry e.secret ≡ Some c.args.owner = c.requires.owner in
+    unrefused s e c.args.owner found c.requires.accepted
 
 pub kept_entry-requires : goal.kept_entry-requires
 kept_entry-requires c =
     let s = c.args.state.now in
     let e = c.args.entry in
-    let found : owner_of s.registry e.secret ≡ Some c.in-Some.owner = search rules in
-    named s.registry e.edit (unrefused s e c.in-Some.owner found c.requires.accepted)
+    let found : owner_of s.registry e.secret ≡ Some c.args.owner = c.requires.owner in
+    named s.registry e.edit (unrefused s e c.args.owner found c.requires.accepted)
 
 pub change_of-requires-clause-name : goal.change_of-requires-clause-name
 change_of-requires-clause-name c =
     let s = c.args.state.now in
     let e = c.args.entry in
-    let found : owner_of s.registry e.secret ≡ Some c.in-Some.owner = search rules in
-    named s.registry e.edit (unrefused s e c.in-Some.owner found c.requires.accepted)
+    let found : owner_of s.registry e.secret ≡ Some c.args.owner = c.requires.owner in
+    named s.registry e.edit (unrefused s e c.args.owner found c.requires.accepted)
 
 pub returns-clause-fresh : goal.returns-clause-fresh
 returns-clause-fresh c =
     let s = c.args.state.now in
     let e = c.args.entry in
-    let found : owner_of s.registry e.secret ≡ Some c.in-Some.owner = search rules in
+    let found : owner_of s.registry e.secret ≡ Some c.args.owner = c.requires.owner in
     let number : c.in_ok-kept.kept.number ≡ e.number = search rules in
-    subst (λ (n : ℕ). find kept_key (n ∷ []) (kept_of s.kept c.in-Some.owner).numbers ≡ None) (sym number) (fresh s e c.in-Some.owner found c.requires.accepted)
+    subst (λ (n : ℕ). find kept_key (n ∷ []) (kept_of s.kept c.args.owner).numbers ≡ None) (sym number) (fresh s e c.args.owner found c.requires.accepted)

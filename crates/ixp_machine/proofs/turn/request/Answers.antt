@@ -8,5 +8,5 @@ pub returns-in_ok-_reply-in-Accepted-clause-valid : goal.returns-in_ok-_reply-in
 returns-in_ok-_reply-in-Accepted-clause-valid c =
     let s = c.args.state.now in
     let e = c.args.entry in
-    let made : c.apply.new.state ≡ step s e = search rules in
+    let made : c.apply_for.new.state ≡ step s e = search rules in
     subst ValidState (sym made) (still_a_state s e c.requires.valid c.read_edit.ensures)

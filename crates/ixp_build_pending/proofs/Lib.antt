@@ -1,0 +1,6 @@
+pub mod NameOrder
+pub mod Keys
+pub mod Room
+pub mod Filters
+pub mod Noting
+pub mod Listing
