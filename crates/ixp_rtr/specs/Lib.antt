@@ -1,0 +1,7 @@
+pub mod Headers
+pub mod Queries
+pub mod Pdus
+pub mod Caches
+pub mod Changes
+pub mod Answers
+pub mod Clients
