@@ -10,7 +10,8 @@ pub enum Call {
     Edit(Entry),
     /// A question, by who has the secret.
     Ask(Items<u8>, Query),
-    /// The configuration of a router, for who has the secret, which is to show the reader's edit of that number.
+    /// The configuration of a router, for who has the secret, which is to show the reader's edit of that
+    /// number.
     Published(Items<u8>, Name, Option<u64>),
     Explain(ExplainCall),
 }

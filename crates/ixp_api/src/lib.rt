@@ -1,7 +1,7 @@
 //! The calls of the HTTP interface: which call a request is, or why it is none, and the replies.
 //!
-//! [`route`] reads a request. `specs/Calls.antt` says which call a request is: its path is tested first, then its method, its
-//! number or what it has seen, and its body last.
+//! [`route`] reads a request. `specs/Calls.antt` says which call a request is: its path is tested first, then
+//! its method, its number or what it has seen, and its body last.
 #![tactic(auto)]
 
 mod call;

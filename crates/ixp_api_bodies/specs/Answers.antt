@@ -1,4 +1,4 @@
--- What a reader of bodies may answer: what is said of the body, or want of memory.
+-- What a reader of bodies may answer: what is said of the body, or running out of memory.
 use Rattle.std.specs.Prelude.{◌≡◌, Bool, true, false, Option, Some, None, Result, Ok, Err}
 use Rattle.serde_json.specs.Data.{Data}
 use Rattle.serde_json.specs.View.{view}
@@ -13,7 +13,7 @@ is_memory NoMethod = false
 is_memory (BadBody pointer) = false
 is_memory NoMemory = true
 
--- The answer is one of which this is said, or want of memory, which is free.
+-- The answer is one of which this is said, or running out of memory, which is free.
 abbrev pub Gives : {A : Type 0} → (Result A CallFault → Type 0) → Result A CallFault → Type 0
 Gives Says (Ok x) = Says (Ok x)
 Gives Says (Err e) = is_memory e ≡ false → Says (Err e)

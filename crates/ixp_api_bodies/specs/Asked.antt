@@ -69,7 +69,8 @@ abbrev pub of_family : Prefix → Option Addr → Option Addr
 of_family net None = None
 of_family net (Some a) = if same_family net.family a.family then Some a else None
 
--- A route and the peers, with this net and this next hop, where they are said. The fields are tested in this order.
+-- A route and the peers, with this net and this next hop, where they are said. The fields are tested in this
+-- order.
 abbrev pub asked : Option Prefix → Option Addr → Data → Result RouteAsked CallFault
 asked said hop d =
     read_then (must (At field.Net) said) (λ net.

@@ -15,7 +15,8 @@ use Rattle.ixp_api_bodies.specs.Lists.{PutIrr, PutOrigins, PutPublic}
 abbrev pub Object : List ℕ → (Data → Said → Type 0) → Said → Type 0
 Object body Says r = ThenSays (object_of body) Says r
 
--- The edit that the body says, with what stands in the path, or what is wrong with it. Where an edit has no body, none is read.
+-- The edit that the body says, with what stands in the path, or what is wrong with it. Where an edit has no
+-- body, none is read.
 abbrev pub SaysEdit : EditKind → Args → List ℕ → Said → Type 0
 SaysEdit kind.AddMember args body r = Object body (λ d x. x ≡ add_member d) r
 SaysEdit kind.RenameMember args body r = Object body (λ d x. x ≡ rename_member args d) r

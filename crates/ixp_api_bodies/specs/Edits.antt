@@ -1,5 +1,5 @@
--- What a body says, kind by kind: the fields are tested in the order in which they stand here, and the first that isn't of its
--- kind is the fault. Further fields don't matter.
+-- What a body says, kind by kind: the fields are tested in the order in which they stand here, and the first
+-- that isn't of its kind is the fault. Further fields don't matter.
 use Rattle.std.specs.Prelude.{◌≡◌, ℕ, List, Option, Some, None, Result, Ok, Err}
 use Rattle.serde_json.specs.Data.{Data}
 use Rattle.ixp_num.specs.declared.addr.Addr.{Addr}

@@ -1,6 +1,7 @@
 //! The bodies of requests: which edit a body says, or what is wrong with it.
 //!
-//! [`edit_of`] reads a body for a kind of edits, and [`route_asked`] the body of who asks what becomes of a route (`specs/Asked.antt`). `specs/Edits.antt` says which fields each kind has, in which order they are
+//! [`edit_of`] reads a body for a kind of edits, and [`route_asked`] the body of who asks what becomes of a
+//! route (`specs/Asked.antt`). `specs/Edits.antt` says which fields each kind has, in which order they are
 //! tested, and what a body says; `specs/Values.antt` what a field's value says.
 #![tactic(auto)]
 

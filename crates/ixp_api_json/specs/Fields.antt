@@ -49,8 +49,9 @@ word_of field.Pairs = codes "pairs"
 word_of field.Triples = codes "triples"
 word_of field.Peers = codes "peers"
 
--- The text of a pointer (RFC 6901): a field, a field of an item or an item of a field, which are counted from 0; a line that is no item of a list,
--- which are counted from 1, or how many items there are; what stands beside the body.
+-- The text of a pointer (RFC 6901): a field, a field of an item or an item of a field, which are counted from
+-- 0; a line that is no item of a list, which are counted from 1, or how many items there are; what stands
+-- beside the body.
 abbrev pub pointer_text : Pointer → List ℕ
 pointer_text Whole = []
 pointer_text (At f) = codes "/" ++ word_of f

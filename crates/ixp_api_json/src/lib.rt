@@ -1,4 +1,5 @@
-//! JSON of the HTTP interface: the names of fields, pointers into bodies, words, and the texts of rows (RFC 8259, RFC 6901).
+//! JSON of the HTTP interface: the names of fields, pointers into bodies, words, and the texts of rows (RFC
+//! 8259, RFC 6901).
 #![tactic(auto)]
 
 mod field;

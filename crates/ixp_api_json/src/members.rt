@@ -16,7 +16,8 @@ fn put_name(out: &mut Vec<u8>, mark: &[u8], name: &[u8]) -> Result<(), AllocErro
     put(out, b":")
 }
 
-/// Adds a member that is a number, behind a mark: `{` or `,`. Where memory runs out, a first part of it may be there.
+/// Adds a member that is a number, behind a mark: `{` or `,`. Where memory runs out, a first part of it may
+/// be there.
 #[tactic(auto, unfolding(crate::specs::Members::number_member))]
 pub fn put_number_member(
     out: &mut Vec<u8>,

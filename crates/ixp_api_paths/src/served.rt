@@ -95,7 +95,7 @@ fn found_of(method: &[u8], hit: Option<(Entry, Args)>) -> Found
 }
 
 impl Paths {
-    /// The router of all paths. It fails for want of memory.
+    /// The router of all paths. It fails where memory runs out.
     pub fn new(alloc: Global) -> Result<Paths, InsertError> {
         let mut router = Router::new(alloc);
         for place in 0..PATHS {

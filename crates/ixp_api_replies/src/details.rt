@@ -73,14 +73,17 @@ fn put_move(out: &mut Vec<u8>, from: Status, to: Status) -> Result<(), AllocErro
 }
 
 fn put_limit(out: &mut Vec<u8>, table: Limited, have: u64, limit: u64) -> Result<(), AllocError>
-    ensures { OnOk result (out.new.items ≡ out.old.items ++ spec.pair (limited_word table) (spec.pair (decimal have) (decimal limit))) }
+    ensures { OnOk result
+        (out.new.items ≡ out.old.items
+        ++ spec.pair (limited_word table) (spec.pair (decimal have) (decimal limit))) }
 {
     put_word(out, table.word().as_bytes())?;
     put_numbers(out, have, limit)
 }
 
 fn put_use(out: &mut Vec<u8>, kind: EditKind, subject: &RowKey) -> Result<(), AllocError>
-    ensures { OnOk result (out.new.items ≡ out.old.items ++ spec.pair (edit_word kind) (spec.key_text subject.now)) }
+    ensures { OnOk result
+        (out.new.items ≡ out.old.items ++ spec.pair (edit_word kind) (spec.key_text subject.now)) }
 {
     put_word(out, kind.word().as_bytes())?;
     put_key(out, subject)

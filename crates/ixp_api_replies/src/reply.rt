@@ -196,7 +196,8 @@ fn head(alloc: Global, status: u16) -> Result<HttpReply, AllocError>
 }
 
 fn seat_count(alloc: Global, seat: u64, kept: u64) -> Result<HttpReply, AllocError>
-    ensures { IfOk result (λ r. r ≡ spec.refused 500 (codes "Y4") (details.pair (decimal seat) (decimal kept))) }
+    ensures { IfOk result
+        (λ r. r ≡ spec.refused 500 (codes "Y4") (details.pair (decimal seat) (decimal kept))) }
 {
     let mut detail = Vec::new(alloc);
     put_numbers(&mut detail, seat, kept)?;

@@ -1,4 +1,5 @@
--- The book that keeps a history, which exists in proofs alone: its rule, and what a step on its one word tells.
+-- The book that keeps a history, which exists in proofs alone: its rule, and what a step on its one word
+-- tells.
 use Rattle.std.specs.Prelude.{◌≡◌, ℕ, ◌==◌, true, List, [], ◌∷◌, ◌++◌, length, MatchBool}
 use Rattle.logbook.specs.Pages.{Cell, Step, View, Book, Named}
 use Rattle.ixp_board.specs.declared.entry.Entry.{Entry}

@@ -88,8 +88,9 @@ pub type Log<S> = Seen<Entry<<S as Story>::First, <S as Story>::Op>, u64, Law<S>
 /// The word that counts the turns of the history.
 pub type Head<S> = Word<Entry<<S as Story>::First, <S as Story>::Op>, u64, Law<S>>;
 
-/// Which board it is. Seats, notes and pens of two boards differ in their types, by this parameter. The function that opens a
-/// board is generic in it and is called at [`Brand`]; the caller picks the board that it has begun.
+/// Which board it is. Seats, notes and pens of two boards differ in their types, by this parameter. The
+/// function that opens a board is generic in it and is called at [`Brand`]; the caller picks the board that
+/// it has begun.
 pub trait BoardName {
     ghost use Rattle.logbook.specs.Pages.{Book};
 
@@ -117,7 +118,8 @@ impl<S: Story, N: BoardName> Model for Front<S, N> {
 
     ghost view = { λ f. f.seen.log };
 
-    ghost invariant = { λ f. (f.turns ≡ length (turns_of f.seen.log)) × IsLegal S.legal f.seen.log × (f.seen.book ≡ N.book) };
+    ghost invariant = { λ f. (f.turns ≡ length (turns_of f.seen.log)) × IsLegal S.legal f.seen.log
+        × (f.seen.book ≡ N.book) };
 }
 
 impl<S: Story, N: BoardName> Front<S, N> {

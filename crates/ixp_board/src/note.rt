@@ -8,7 +8,8 @@ use left_right::Absorb;
 use std::alloc::{AllocError, Global};
 use std::marker::Model;
 
-/// The view of a history, as the pen publishes it or tells it. Contracts see it as the history. A seat learns it.
+/// The view of a history, as the pen publishes it or tells it. Contracts see it as the history. A seat learns
+/// it.
 #[derive(Drop)]
 pub struct Note<S: Story, N: BoardName> {
     alloc: Global,

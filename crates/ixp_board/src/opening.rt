@@ -43,7 +43,8 @@ impl<S: Story> Model for Opened<S> {
 
     ghost view = { λ o. (o.seen.book, o.seen.log) };
 
-    ghost invariant = { λ o. IsViewOf S.legal S.fold o.seen.log o.view × (turns_of o.seen.log ≡ []) × (o.head ≡ head_of o.seen.book) };
+    ghost invariant = { λ o. IsViewOf S.legal S.fold o.seen.log o.view × (turns_of o.seen.log ≡ [])
+        × (o.head ≡ head_of o.seen.book) };
 }
 
 /// Begins a board with a first state, whose view it takes. It does not allocate.
@@ -62,8 +63,8 @@ pub fn begin<S: Story>(first: &S::First, view: S::View) -> Opened<S>
     Opened { view, seen, head }
 }
 
-/// Opens a board: its pen, and its seats, each of which has seen the first state without turns. Where memory runs out the
-/// board comes back as it was begun.
+/// Opens a board: its pen, and its seats, each of which has seen the first state without turns. Where memory
+/// runs out the board comes back as it was begun.
 pub fn open<S: Story, N: BoardName>(
     alloc: Global,
     opened: Opened<S>,

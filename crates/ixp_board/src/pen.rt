@@ -57,8 +57,8 @@ impl<S: Story, N: BoardName, W: Publish<Note<S, N>>> Pen<S, N, W> {
         self.last.view()
     }
 
-    /// Makes a turn, and publishes its view. It takes its memory first: where memory runs out, the turn isn't made. It waits
-    /// for seats that are just looking at the view before the last one.
+    /// Makes a turn, and publishes its view. It takes its memory first: where memory runs out, the turn isn't
+    /// made. It waits for seats that are just looking at the view before the last one.
     pub fn put<R: Wait>(&mut self, rt: &R, op: &S::Op) -> Result<Note<S, N>, AllocError>
         requires { IsLegal S.legal (with_turn self.old op.now) }
         ensures ok { OnOk result (self.new ≡ with_turn self.old op.now) }
@@ -78,8 +78,9 @@ impl<S: Story, N: BoardName, W: Publish<Note<S, N>>> Pen<S, N, W> {
         self.last.apart()
     }
 
-    /// Whether the history is all that there is; then it begins with what the seat has seen. As the pen alone makes turns, it
-    /// is. But what a book is known to hold says nothing of who writes, so that no clause can exclude the answer `false`.
+    /// Whether the history is all that there is; then it begins with what the seat has seen. As the pen alone
+    /// makes turns, it is. But what a book is known to hold says nothing of who writes, so that no clause can
+    /// exclude the answer `false`.
     pub fn covers(&self, seat: &Seat<S, N>) -> bool
         ensures { IsTrue result → IsPrefix seat.now self.now }
     {

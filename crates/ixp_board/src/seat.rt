@@ -16,7 +16,8 @@ type NoteReader<S, N> = Reader<Note<S, N>, (), Unruled>;
 
 /// A reader of the board. Contracts see it as the history that it has seen.
 ///
-/// Each look writes in its seat. So that seats which lie side by side don't slow each other, the next one begins 128 bytes later.
+/// Each look writes in its seat. So that seats which lie side by side don't slow each other, the next one
+/// begins 128 bytes later.
 #[derive(Drop)]
 #[repr(C)]
 pub struct Seat<S: Story, N: BoardName> {
@@ -65,7 +66,8 @@ impl<S: Story, N: BoardName> Seat<S, N> {
         self.last.view()
     }
 
-    /// Sees what the note tells, if that is more than what it has seen. It does not allocate, and waits for nobody.
+    /// Sees what the note tells, if that is more than what it has seen. It does not allocate, and waits for
+    /// nobody.
     pub fn learn(&mut self, note: Note<S, N>)
         ensures one { (self.new ≡ self.old) ⊎ (self.new ≡ note) }
         ensures this { IsPrefix self.old self.new }
@@ -76,9 +78,9 @@ impl<S: Story, N: BoardName> Seat<S, N> {
         }
     }
 
-    /// Looks at what was published last, and gives its view, or that of what the seat has seen where that is more. The view is a share
-    /// of the seat's own, so that its owners are counted in memory that no other seat writes. It waits for nobody. Where memory
-    /// runs out nothing was seen.
+    /// Looks at what was published last, and gives its view, or that of what the seat has seen where that is
+    /// more. The view is a share of the seat's own, so that its owners are counted in memory that no other
+    /// seat writes. It waits for nobody. Where memory runs out nothing was seen.
     pub fn look(&mut self) -> Result<S::View, AllocError>
         ensures view { IfOk result (λ view. IsViewOf S.legal S.fold self.new view) }
         ensures seen { IsPrefix self.old self.new }
@@ -96,9 +98,9 @@ impl<S: Story, N: BoardName> Seat<S, N> {
         Ok(view)
     }
 
-    /// Looks at what was published last without a share of its own: `view` lends it afterwards. Where nothing is new it writes
-    /// nothing that readers share, so it doesn't get slower the more they are. It waits for nobody. Where memory runs out
-    /// nothing was seen.
+    /// Looks at what was published last without a share of its own: `view` lends it afterwards. Where nothing
+    /// is new it writes nothing that readers share, so it doesn't get slower the more they are. It waits for
+    /// nobody. Where memory runs out nothing was seen.
     pub fn refresh(&mut self) -> Result<(), AllocError>
         ensures seen { IsPrefix self.old self.new }
         ensures legal { IsLegal S.legal self.new }

@@ -80,7 +80,8 @@ fn look<N: BoardName>(seat: &mut Seat<Again, N>, way: Way, times: u64) -> bool {
     true
 }
 
-/// Looks in as many threads as there are seats, and counts the readers that are done and those that wanted memory.
+/// Looks in as many threads as there are seats, and counts the readers that are done and those that wanted
+/// memory.
 fn look_all<N: BoardName + Send + Sync, R: Threads + Sync>(
     rt: &R,
     seats: &mut [Seat<Again, N>],

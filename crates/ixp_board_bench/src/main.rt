@@ -1,8 +1,9 @@
 //! Looks at a board beside its pen, for `bench/board` to time.
 //!
-//! Its words are how many readers look at once, how often each looks, how many bytes the view holds, 1 where the seats lend the view
-//! or 0 where they give shares of it, and for how many microseconds the pen rests after each turn. The pen makes turns for as long as
-//! they look, and the program writes how many on its standard error.
+//! Its words are how many readers look at once, how often each looks, how many bytes the view holds, 1 where
+//! the seats lend the view or 0 where they give shares of it, and for how many microseconds the pen rests
+//! after each turn. The pen makes turns for as long as they look, and the program writes how many on its
+//! standard error.
 #![tactic(auto)]
 
 ghost use Rattle.std.specs.Prelude.{◌<◌};

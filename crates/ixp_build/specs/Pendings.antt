@@ -15,7 +15,8 @@ pub record Follows (t : Texts) (r : Registry) : Type 0 where
   pub parts : (h : List ℕ) (n : ℕ) → session_count t.pending h n ≡ 0 → part_in t.bundle.texts h n ≡ part_wanted r h n
   pub roas : t.pending.roas ≡ 0 → t.bundle.roas ≡ r.public.roas
 
--- What no edit after this count touched is wanted of both registries alike: of that of the version with the count, and of the present one.
+-- What no edit after this count touched is wanted of both registries alike: of that of the version with the
+-- count, and of the present one.
 pub record AlikeUpto (upto : ℕ) (p : Pending) (was now : Registry) : Type 0 where
   pub heads : (h : List ℕ) → header_count p h ≤ upto → head_wanted was h ≡ head_wanted now h
   pub parts : (h : List ℕ) (n : ℕ) → session_count p h n ≤ upto → part_wanted was h n ≡ part_wanted now h n

@@ -14,8 +14,8 @@ use ixp_num::{Items, Name, Roa};
 use ixp_num_tables::{Held, Table};
 use std::alloc::{AllocError, Global};
 
-/// The texts of all routers of a registry, part by part, and its ROAs. Only [`Bundle::open`] and [`Bundle::share`] give a bundle, and
-/// only [`Bundle::install`] changes one.
+/// The texts of all routers of a registry, part by part, and its ROAs. Only [`Bundle::open`] and
+/// [`Bundle::share`] give a bundle, and only [`Bundle::install`] changes one.
 #[derive(Drop)]
 pub struct Bundle {
     /// How many edits were accepted before the version whose texts these are.
@@ -77,7 +77,8 @@ impl Bundle {
         self.roas.shared()
     }
 
-    /// An equal bundle. It takes the memory of a few words for each router: texts, and lists of parts, have one more owner.
+    /// An equal bundle. It takes the memory of a few words for each router: texts, and lists of parts, have
+    /// one more owner.
     pub fn share(&self, alloc: Global) -> Result<Bundle, AllocError>
         ensures { IfOk result (λ b. b ≡ self.now) }
     {
@@ -125,8 +126,8 @@ fn made_after(bundle: &Bundle, made: &Made) -> u64
 }
 
 impl Bundle {
-    /// Puts made texts in their places. The bundle has to be the one that the order was taken for: `Stale` is answered exactly where
-    /// others were installed since. After a fault the bundle is as before.
+    /// Puts made texts in their places. The bundle has to be the one that the order was taken for: `Stale` is
+    /// answered exactly where others were installed since. After a fault the bundle is as before.
     pub fn install(&mut self, alloc: Global, made: Made) -> Result<(), InstallFault>
         ensures answer { Installs (built_of self.old) made.from result }
         ensures ok { OnOk result (self.new ≡ installed self.old made) }

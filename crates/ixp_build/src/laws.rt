@@ -21,9 +21,11 @@ pub fn bundles_have_full_texts()
     ensures { (b : Bundle) (r : Registry) (h : List ℕ) → Valid r → IsOf b r → text_of b h ≡ full_text r h }
 {}
 
-/// After an accepted edit a bundle has what the registry wants but for what was pending and what the edit touches.
+/// After an accepted edit a bundle has what the registry wants but for what was pending and what the edit
+/// touches.
 pub fn edits_are_pending()
-    ensures { (t : Touch) (b : Bundle) (r : Registry) (e : Edit) → Valid r → IsLawful e → refusal r e ≡ None → AgreesBut t b r → AgreesBut (joined (touch r (next r e) e) t) b (next r e) }
+    ensures { (t : Touch) (b : Bundle) (r : Registry) (e : Edit) → Valid r → IsLawful e → refusal r e ≡ None
+        → AgreesBut t b r → AgreesBut (joined (touch r (next r e) e) t) b (next r e) }
 {}
 
 /// What may be listed otherwise, so long as nothing is left out.
@@ -33,7 +35,8 @@ pub fn listed_otherwise()
 
 /// With all that is pending ordered, made and installed, a bundle is the registry's.
 pub fn installed_bundles_are_whole()
-    ensures { (t : Touch) (b : Bundle) (r : Registry) (upto : ℕ) → AgreesBut t b r → IsOf (installed b (made_from (order_of b.built upto r t))) r }
+    ensures { (t : Touch) (b : Bundle) (r : Registry) (upto : ℕ) → AgreesBut t b r
+        → IsOf (installed b (made_from (order_of b.built upto r t))) r }
 {}
 
 /// An order of a valid registry has the bounds that `make` asks for.
@@ -41,26 +44,38 @@ pub fn orders_have_bounds()
     ensures { (t : Touch) (from upto : ℕ) (r : Registry) → Valid r → HasBounds (order_of from upto r t) }
 {}
 
-/// After any accepted edits, with what they touched ordered of the registry that they made, made and installed, a bundle that was the
-/// registry's before them gives each router's text as full generation does after them.
+/// After any accepted edits, with what they touched ordered of the registry that they made, made and
+/// installed, a bundle that was the registry's before them gives each router's text as full generation does
+/// after them.
 pub fn incremental_builds_are_full()
-    ensures { (b : Bundle) (r : Registry) (es : List Edit) (upto : ℕ) (h : List ℕ) → Valid r → AllAccepted r es → IsOf b r → text_of (installed b (made_from (order_of b.built upto (after_all r es) (pending untouched r es)))) h ≡ full_text (after_all r es) h }
+    ensures { (b : Bundle) (r : Registry) (es : List Edit) (upto : ℕ) (h : List ℕ) → Valid r
+        → AllAccepted r es → IsOf b r
+        → text_of (installed b
+        (made_from (order_of b.built upto (after_all r es) (pending untouched r es)))) h
+        ≡ full_text (after_all r es) h }
 {}
 
 /// After an accepted edit, with what it touched noted, texts that followed the registry follow the next one.
 pub fn texts_follow_edits()
-    ensures { (t u : Texts) (r : Registry) (e : Edit) (c : ℕ) → Valid r → IsLawful e → refusal r e ≡ None → 0 < c → Follows t r → u.bundle ≡ t.bundle → IsNoted c (with_after (reached r e) (next r e)) t.pending u.pending → Follows u (next r e) }
+    ensures { (t u : Texts) (r : Registry) (e : Edit) (c : ℕ) → Valid r → IsLawful e → refusal r e ≡ None
+        → 0 < c → Follows t r → u.bundle ≡ t.bundle
+        → IsNoted c (with_after (reached r e) (next r e)) t.pending u.pending → Follows u (next r e) }
 {}
 
-/// What no edit after a count touched is wanted as it was: at first, since the registry is the same, and then after each accepted edit
-/// with a greater count.
+/// What no edit after a count touched is wanted as it was: at first, since the registry is the same, and then
+/// after each accepted edit with a greater count.
 pub fn wanted_texts_stay()
     ensures first { (upto : ℕ) (p : Pending) (r : Registry) → AlikeUpto upto p r r }
-    ensures next { (upto : ℕ) (p q : Pending) (was r : Registry) (e : Edit) (c : ℕ) → Valid r → IsLawful e → refusal r e ≡ None → upto < c → AlikeUpto upto p was r → IsNoted c (with_after (reached r e) (next r e)) p q → AlikeUpto upto q was (next r e) }
+    ensures next { (upto : ℕ) (p q : Pending) (was r : Registry) (e : Edit) (c : ℕ) → Valid r → IsLawful e
+        → refusal r e ≡ None → upto < c → AlikeUpto upto p was r
+        → IsNoted c (with_after (reached r e) (next r e)) p q → AlikeUpto upto q was (next r e) }
 {}
 
-/// An order may be installed after later edits: with what is later still pending, the texts follow the present registry. The order is all that
-/// was pending of a registry that the texts followed then.
+/// An order may be installed after later edits: with what is later still pending, the texts follow the
+/// present registry. The order is all that was pending of a registry that the texts followed then.
 pub fn older_orders_may_be_installed()
-    ensures { (t u v : Texts) (was now : Registry) (listed : Touch) (upto : ℕ) → Follows t was → IsListed t.pending listed → u.bundle ≡ t.bundle → AlikeUpto upto u.pending was now → v.bundle ≡ installed u.bundle (made_from (order_of t.bundle.built upto was listed)) → IsLater upto u.pending v.pending → Follows v now }
+    ensures { (t u v : Texts) (was now : Registry) (listed : Touch) (upto : ℕ) → Follows t was
+        → IsListed t.pending listed → u.bundle ≡ t.bundle → AlikeUpto upto u.pending was now
+        → v.bundle ≡ installed u.bundle (made_from (order_of t.bundle.built upto was listed))
+        → IsLater upto u.pending v.pending → Follows v now }
 {}

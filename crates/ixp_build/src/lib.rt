@@ -1,9 +1,10 @@
 //! The texts of all route servers, regenerated only where edits touched them.
 //!
-//! A [`Bundle`] holds, for each router of a registry, the text of its head and of each session's part, and the ROAs. [`Bundle::order`]
-//! takes from the registry what touched texts depend on, [`make`] makes these texts, and [`Bundle::install`] puts them in their places. After
-//! any edits, with what they touched ordered, made and installed, the bundle's texts are those of full generation: the laws of
-//! `laws.rt` say so. To share a bundle costs the same however long its texts are.
+//! A [`Bundle`] holds, for each router of a registry, the text of its head and of each session's part, and
+//! the ROAs. [`Bundle::order`] takes from the registry what touched texts depend on, [`make`] makes these
+//! texts, and [`Bundle::install`] puts them in their places. After any edits, with what they touched ordered,
+//! made and installed, the bundle's texts are those of full generation: the laws of `laws.rt` say so. To
+//! share a bundle costs the same however long its texts are.
 #![tactic(auto)]
 
 mod bundle;

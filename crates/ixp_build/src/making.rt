@@ -23,7 +23,8 @@ pub struct Made {
     pub upto: u64,
     /// The texts of heads by handles of routers; None for a router that is gone.
     pub headers: Items<(Name, Option<Held<Items<u8>>>)>,
-    /// The texts of sessions' parts by handles of routers and numbers of interfaces; None for a session that is gone.
+    /// The texts of sessions' parts by handles of routers and numbers of interfaces; None for a session that
+    /// is gone.
     pub sessions: Items<(Name, u32, Option<Held<Items<u8>>>)>,
     /// None where the ROAs weren't touched.
     pub roas: Option<Held<Items<Roa>>>,
@@ -100,7 +101,8 @@ fn held_roas(
     }
 }
 
-/// Makes the texts of an order; the registry isn't needed any more. An order of a valid registry has the bounds that are asked for.
+/// Makes the texts of an order; the registry isn't needed any more. An order of a valid registry has the
+/// bounds that are asked for.
 pub fn make(alloc: Global, order: Order) -> Result<Made, AllocError>
     requires { HasBounds order }
     ensures { IfOk result (λ m. m ≡ made_from order) }

@@ -73,7 +73,8 @@ impl Texts {
         }
     }
 
-    /// The text of the router with the handle, as the bundle has it; None where its version has no such router.
+    /// The text of the router with the handle, as the bundle has it; None where its version has no such
+    /// router.
     pub fn text(&self, alloc: Global, router: &Name) -> Result<Option<Vec<u8>>, AllocError>
         ensures { IfOk result (λ o. option_map (λ v. v.items) o ≡ text_of self.now.bundle router.now) }
     {

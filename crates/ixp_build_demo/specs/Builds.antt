@@ -1,4 +1,5 @@
--- How many parts of the demo exchange's text are regenerated, when the rules of one member after the other are set.
+-- How many parts of the demo exchange's text are regenerated, when the rules of one member after the other
+-- are set.
 use Rattle.std.specs.Prelude.{ℕ, zero, suc, ◌+◌, ◌%◌, min, Bool, true, false, List, [], ◌∷◌, ◌++◌, None, codes, length}
 use Rattle.std.proofs.Common.{lit<, refl}
 use Rattle.std.proofs.Math.Nat.{lt_of_le_of_lt, mod-lt, zero-lt-suc}

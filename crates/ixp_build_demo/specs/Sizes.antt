@@ -1,5 +1,5 @@
--- How the program counts: by the rows of a session, and interface by interface. Nobody needs to believe it, since the counts are
--- proved to be those of Counts.
+-- How the program counts: by the rows of a session, and interface by interface. Nobody needs to believe it,
+-- since the counts are proved to be those of Counts.
 use Rattle.std.specs.Prelude.{ℕ, ◌+◌, List, length, is_none, if◌then◌else◌}
 use Rattle.ixp_num.specs.declared.prefix.Prefix.{Prefix}
 use Rattle.ixp_num.specs.Families.{bits_of}

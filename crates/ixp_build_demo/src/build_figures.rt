@@ -24,9 +24,11 @@ fn put_equal(text: &mut Vec<u8>, is_equal: bool) -> Result<(), AllocError>
     }
 }
 
-/// Adds what came of the edits, in two lines: `rebuilt` with the number of parts, and `equal` with `yes` or `no`.
+/// Adds what came of the edits, in two lines: `rebuilt` with the number of parts, and `equal` with `yes` or
+/// `no`.
 pub fn put_builds(out: &mut Vec<u8>, builds: &Builds) -> Result<(), AllocError>
-    ensures ok { OnOk result (out.new.items ≡ out.old.items ++ builds_text builds.now.rebuilt builds.now.is_equal) }
+    ensures ok { OnOk result
+        (out.new.items ≡ out.old.items ++ builds_text builds.now.rebuilt builds.now.is_equal) }
     ensures err { OnErr result (out.new.items ≡ out.old.items) }
 {
     let mut text = Vec::new(*out.allocator());

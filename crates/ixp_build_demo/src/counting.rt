@@ -29,7 +29,8 @@ fn router_sessions(registry: &Registry, router: &Router) -> u64
 fn router_patterns(alloc: Global, registry: &Registry, router: &Router) -> Result<u64, AllocError>
     requires valid { Valid registry.now }
     requires router { ValidRouter router.now }
-    ensures exact { IfOk result (λ n. n ≡ total (patterns_at registry.now router.now) registry.now.interfaces) }
+    ensures exact { IfOk result
+        (λ n. n ≡ total (patterns_at registry.now router.now) registry.now.interfaces) }
     ensures small { IfOk result (λ n. n ≤ 619200000000) }
 {
     let mut patterns = 0;
@@ -44,7 +45,8 @@ fn router_patterns(alloc: Global, registry: &Registry, router: &Router) -> Resul
 /// How many sessions all routers have.
 fn all_sessions(registry: &Registry) -> u64
     requires { Valid registry.now }
-    ensures { result ≡ total (λ q. total (sessions_at registry.now q) registry.now.interfaces) registry.now.routers }
+    ensures { result ≡ total
+        (λ q. total (sessions_at registry.now q) registry.now.interfaces) registry.now.routers }
 {
     let mut sessions = 0;
     let mut left = registry.routers.as_slice();
@@ -58,7 +60,9 @@ fn all_sessions(registry: &Registry) -> u64
 /// How many patterns the merged sets of all routers' sessions have.
 fn all_patterns(alloc: Global, registry: &Registry) -> Result<u64, AllocError>
     requires { Valid registry.now }
-    ensures { IfOk result (λ n. n ≡ total (λ q. total (patterns_at registry.now q) registry.now.interfaces) registry.now.routers) }
+    ensures { IfOk result
+        (λ n. n ≡ total (λ q. total
+        (patterns_at registry.now q) registry.now.interfaces) registry.now.routers) }
 {
     let mut patterns = 0;
     let mut left = registry.routers.as_slice();

@@ -2,7 +2,13 @@
 ghost use Rattle.std.specs.Prelude.{◌≡◌, ◌≤◌, ◌<◌, ◌-◌, ◌^◌, true, length, IfOk, OnOk};
 ghost use Rattle.ixp_build.specs.Bundles.{AgreesBut, IsOf};
 ghost use Rattle.ixp_registry_demo.specs.Demo.{demo};
-ghost use Rattle.ixp_build_demo.specs.Builds.{demo_requests, parts_made, parts_touched, rebuilt, requests_from};
+ghost use Rattle.ixp_build_demo.specs.Builds.{
+  demo_requests,
+  parts_made,
+  parts_touched,
+  rebuilt,
+  requests_from,
+};
 ghost use Rattle.ixp_registry.specs.Valid.{Valid};
 ghost use Rattle.ixp_machine_steps.specs.States.{ValidState};
 ghost use Rattle.ixp_machine_steps.specs.Steps.{step};

@@ -1,11 +1,13 @@
 //! How large a demo exchange is, and how the text of its route server follows edits.
 //!
-//! [`counts`] counts the members, the sessions and the patterns of prefix sets by the rows of a valid registry, without making
-//! a text: `specs/Counts.antt` says that the patterns are those of the texts. [`put_counts`] writes them in three lines.
+//! [`counts`] counts the members, the sessions and the patterns of prefix sets by the rows of a valid
+//! registry, without making a text: `specs/Counts.antt` says that the patterns are those of the texts.
+//! [`put_counts`] writes them in three lines.
 //!
-//! [`builds`] shows that a text follows edits. After all texts are made, the staff sets the rules of one member after the
-//! other, of a hundred at most. After each edit the parts that it touches are regenerated; `specs/Builds.antt` says how many
-//! these are. In the end the text is compared with that of full generation. [`put_builds`] writes both in two lines.
+//! [`builds`] shows that a text follows edits. After all texts are made, the staff sets the rules of one
+//! member after the other, of a hundred at most. After each edit the parts that it touches are regenerated;
+//! `specs/Builds.antt` says how many these are. In the end the text is compared with that of full generation.
+//! [`put_builds`] writes both in two lines.
 #![tactic(auto)]
 
 mod build_figures;

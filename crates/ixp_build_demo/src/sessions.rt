@@ -29,7 +29,8 @@ fn mode_of(more: bool) -> Mode
     if more { Mode::More } else { Mode::Exact }
 }
 
-/// How many patterns the set of the nets has that the prefixes cover; none where the router has no next hop of routes to be dropped.
+/// How many patterns the set of the nets has that the prefixes cover; none where the router has no next hop
+/// of routes to be dropped.
 fn covered_len(alloc: Global, router: &Router, prefixes: &[Prefix]) -> Result<u64, AllocError>
     requires { length prefixes.now ≤ 300000 }
     ensures exact { IfOk result (λ n. n ≡ covered_size router.now prefixes.now) }

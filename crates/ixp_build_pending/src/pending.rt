@@ -8,8 +8,8 @@ use crate::rows::{PendingText, PendingTexts};
 use crate::touch::Touch;
 use std::alloc::{AllocError, Global};
 
-/// The texts that edits touched, each with the count of the last edit that touched it. It grows with the number of texts, and not with
-/// that of edits.
+/// The texts that edits touched, each with the count of the last edit that touched it. It grows with the
+/// number of texts, and not with that of edits.
 #[derive(Drop)]
 pub struct Pending {
     /// Headers and sessions' parts.
@@ -61,8 +61,8 @@ impl Pending {
         }
     }
 
-    /// Adds what an edit touched, with its count. Where memory runs out, what was pending is pending, and nothing else.
-
+    /// Adds what an edit touched, with its count. Where memory runs out, what was pending is pending, and
+    /// nothing else.
     pub fn note(&mut self, alloc: Global, touch: &Touch, count: u64) -> Result<(), AllocError>
         requires { 0 < count }
         ensures ok { OnOk result (IsNoted count touch.now self.old self.new) }
@@ -77,7 +77,6 @@ impl Pending {
     }
 
     /// All that is pending, each text once, those of one router side by side.
-
     pub fn listed(&self, alloc: Global) -> Result<Touch, AllocError>
         ensures { IfOk result (IsListed self.now) }
     {
@@ -91,9 +90,8 @@ impl Pending {
         })
     }
 
-    /// Drops what no edit after this count touched: that which is settled when texts of the version with this count are installed. It
-    /// doesn't allocate.
-
+    /// Drops what no edit after this count touched: that which is settled when texts of the version with this
+    /// count are installed. It doesn't allocate.
     pub fn settle(&mut self, alloc: Global, upto: u64)
         ensures { IsLater upto self.old self.new }
     {

@@ -3,7 +3,15 @@ ghost use Rattle.std.specs.Prelude.{◌≡◌, true, [], IfOk, OnOk, OnErr, filt
 ghost use Rattle.std.specs.List.{AllByRecursion};
 ghost use Rattle.ixp_num_tables.specs.Tables.{Ascends};
 ghost use Rattle.ixp_build_pending.specs.Names.{row_key};
-ghost use Rattle.ixp_build_pending.specs.Rows.{HasRow, HasText, all_put, header_in, is_later, is_pending, part_in};
+ghost use Rattle.ixp_build_pending.specs.Rows.{
+  HasRow,
+  HasText,
+  all_put,
+  header_in,
+  is_later,
+  is_pending,
+  part_in,
+};
 ghost use Rattle.ixp_build_pending.specs.declared.name.TextName.{TextName};
 
 use crate::name::TextName;
@@ -40,7 +48,8 @@ impl Row for PendingText {
     }
 }
 
-/// Texts that were touched, each once. Contracts see those whose count isn't 0: a row with the count 0 is room for one that comes.
+/// Texts that were touched, each once. Contracts see those whose count isn't 0: a row with the count 0 is
+/// room for one that comes.
 #[derive(Drop)]
 pub struct PendingTexts {
     rows: Table<PendingText>,
@@ -114,7 +123,8 @@ impl PendingTexts {
         }
     }
 
-    /// Puts rows in, each instead of the one of its text if there is one. Where memory runs out the texts are as before.
+    /// Puts rows in, each instead of the one of its text if there is one. Where memory runs out the texts are
+    /// as before.
     pub(crate) fn put_all(
         &mut self,
         alloc: Global,

@@ -43,8 +43,9 @@ reach_of_list (Bogons xs) = Nowhere
 reach_of_list (BogonAs xs) = Nowhere
 reach_of_list (Roas xs) = Nowhere
 
--- The sessions that an edit of the registry reaches, for each kind. A member's name, macro, contacts and keys, switches, ports and
--- VLANs stand in no text; an interface that is new or goes, or gets another address, changes what its member's sessions beside it say.
+-- The sessions that an edit of the registry reaches, for each kind. A member's name, macro, contacts and
+-- keys, switches, ports and VLANs stand in no text; an interface that is new or goes, or gets another
+-- address, changes what its member's sessions beside it say.
 abbrev pub reach : Registry → Edit → Reach
 reach r (AddMember number asn name) = Nowhere
 reach r (RenameMember member name) = Nowhere

@@ -1,4 +1,5 @@
--- Which texts an edit touches. A header is named by its router's handle, a session's part by that and the interface's number.
+-- Which texts an edit touches. A header is named by its router's handle, a session's part by that and the
+-- interface's number.
 use Rattle.std.specs.Prelude.{ℕ, ◌&&◌, not, Bool, false, List, [], ◌∷◌, ◌++◌, Option, Some, None, filter, filter_map, flat_map, if◌then◌else◌}
 use Rattle.std.specs.Option.{is_some}
 use Rattle.ixp_num_tables.specs.Tables.{find, if_there}
@@ -62,7 +63,8 @@ touch before after e = record {
   roas = touches_roas e;
 }
 
--- The same in two steps, for who makes the edit in place: what is reached before it, and then what there is after it.
+-- The same in two steps, for who makes the edit in place: what is reached before it, and then what there is
+-- after it.
 
 -- what an edit reaches in the registry that it meets
 abbrev pub reached : Registry → Edit → Reached

@@ -35,7 +35,8 @@ fn has_router(registry: &Registry, handle: &Name) -> bool
 
 /// Adds those of routers that weren't there before.
 fn add_new(before: &Registry, more: Vec<Name>, handles: &mut Vec<Name>) -> Result<(), AllocError>
-    ensures { OnOk result (handles.new.items ≡ handles.old.items ++ filter (λ h. not (has_router before.now h)) more.items) }
+    ensures { OnOk result
+        (handles.new.items ≡ handles.old.items ++ filter (λ h. not (has_router before.now h)) more.items) }
 {
     let mut left = more.into_iter();
     'each: while let Some(handle) = left.next() {

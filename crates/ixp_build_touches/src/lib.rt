@@ -1,8 +1,8 @@
 //! Which texts of route servers an edit touches.
 //!
-//! `specs/Reaches.antt` says for each kind of edits how far it reaches, `specs/Touched.antt` which headers and sessions that are, of
-//! the registry before the edit and of the one after it. What an accepted edit of a valid registry doesn't list stays the
-//! same: that is the contract of the functions of `laws`.
+//! `specs/Reaches.antt` says for each kind of edits how far it reaches, `specs/Touched.antt` which headers
+//! and sessions that are, of the registry before the edit and of the one after it. What an accepted edit of a
+//! valid registry doesn't list stays the same: that is the contract of the functions of `laws`.
 #![tactic(auto)]
 
 mod headers;

@@ -3,7 +3,19 @@ ghost use Rattle.std.specs.Prelude.{◌≡◌, [], ◌∷◌, IfOk};
 ghost use Rattle.ixp_num_tables.specs.Tables.{find};
 ghost use Rattle.ixp_registry.specs.Keys.{interface_key};
 ghost use Rattle.ixp_build_touches.specs.declared.reach.Reach.TheVariants.{OfRouter};
-ghost use Rattle.ixp_build_touches.specs.Reaches.{beside, header_reach, header_reach_of_list, is_roas, may_bring, may_take_in, reach, reach_of_list, takes_header, takes_in, touches_roas};
+ghost use Rattle.ixp_build_touches.specs.Reaches.{
+  beside,
+  header_reach,
+  header_reach_of_list,
+  is_roas,
+  may_bring,
+  may_take_in,
+  reach,
+  reach_of_list,
+  takes_header,
+  takes_in,
+  touches_roas,
+};
 
 use ixp_machine_edits::{Edit, PublicList};
 use ixp_num::{Family, Items};

@@ -31,7 +31,9 @@ fn add_at(
     interface: &Interface,
     keys: &mut Vec<(Name, u32)>,
 ) -> Result<(), AllocError>
-    ensures { OnOk result (keys.new.items ≡ keys.old.items ++ filter_map (key_within reach.now registry.now interface.now) registry.now.routers) }
+    ensures { OnOk result
+        (keys.new.items ≡ keys.old.items
+        ++ filter_map (key_within reach.now registry.now interface.now) registry.now.routers) }
 {
     let mut left = registry.routers.as_slice();
     'each: while let Some((router, others)) = left.split_first() {
@@ -52,7 +54,9 @@ fn add_reached(
     interface: &Interface,
     keys: &mut Vec<(Name, u32)>,
 ) -> Result<(), AllocError>
-    ensures { OnOk result (keys.new.items ≡ keys.old.items ++ filter_map (key_within reach.now registry.now interface.now) registry.now.routers) }
+    ensures { OnOk result
+        (keys.new.items ≡ keys.old.items
+        ++ filter_map (key_within reach.now registry.now interface.now) registry.now.routers) }
 {
     if reach.may_take_in(interface) {
         add_at(alloc, registry, reach, interface, keys)?;
@@ -97,7 +101,8 @@ fn add_new(
     more: Vec<(Name, u32)>,
     keys: &mut Vec<(Name, u32)>,
 ) -> Result<(), AllocError>
-    ensures { OnOk result (keys.new.items ≡ keys.old.items ++ filter (λ k. not (has_session before.now k)) more.items) }
+    ensures { OnOk result
+        (keys.new.items ≡ keys.old.items ++ filter (λ k. not (has_session before.now k)) more.items) }
 {
     let mut left = more.into_iter();
     'each: while let Some(key) = left.next() {
@@ -115,7 +120,9 @@ fn sessions_of_both(
     after: &Registry,
     reach: &Reach,
 ) -> Result<Items<(Name, u32)>, AllocError>
-    ensures { IfOk result (λ keys. keys ≡ sessions_within reach.now before.now ++ filter (λ k. not (has_session before.now k)) (sessions_within reach.now after.now)) }
+    ensures { IfOk result
+        (λ keys. keys ≡ sessions_within reach.now before.now
+        ++ filter (λ k. not (has_session before.now k)) (sessions_within reach.now after.now)) }
 {
     let mut keys = sessions_within(alloc, before, reach)?;
     let more = sessions_within(alloc, after, reach)?;

@@ -11,8 +11,8 @@ use ixp_num::{Items, Name};
 use ixp_registry::Registry;
 use std::alloc::{AllocError, Global};
 
-/// What an edit touches, where it makes of one registry the other, each text listed once. It goes over the interfaces once in each registry, and not at all
-/// where the edit reaches no session.
+/// What an edit touches, where it makes of one registry the other, each text listed once. It goes over the
+/// interfaces once in each registry, and not at all where the edit reaches no session.
 pub fn touched(
     alloc: Global,
     before: &Registry,
@@ -44,8 +44,8 @@ pub struct Reached {
     pub before: Touch,
 }
 
-/// What an edit is going to reach, of the registry before it. It goes over the interfaces once, and not at all where the edit reaches
-/// no session.
+/// What an edit is going to reach, of the registry before it. It goes over the interfaces once, and not at
+/// all where the edit reaches no session.
 pub fn reached_by(alloc: Global, before: &Registry, edit: &Edit) -> Result<Reached, AllocError>
     ensures { IfOk result (λ x. x ≡ reached before.now edit.now) }
 {
@@ -102,8 +102,9 @@ fn copied_sessions(
 }
 
 impl Reached {
-    /// What the edit touched, once it is made: the same with what it reaches of the registry after it. What it lists are the texts that
-    /// [`touched`] lists, some of them twice. Where memory runs out it may be asked again.
+    /// What the edit touched, once it is made: the same with what it reaches of the registry after it. What
+    /// it lists are the texts that [`touched`] lists, some of them twice. Where memory runs out it may be
+    /// asked again.
     pub fn touch_after(&self, alloc: Global, after: &Registry) -> Result<Touch, AllocError>
         ensures { IfOk result (λ t. t ≡ with_after self.now after.now) }
     {

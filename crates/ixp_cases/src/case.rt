@@ -42,7 +42,8 @@ pub struct Run {
     pub second: u64,
     /// The most bytes that one write takes.
     pub most_written: u64,
-    /// The numbers of the reads, of the writes of the output and of the calls of the store that fail, counted from 1.
+    /// The numbers of the reads, of the writes of the output and of the calls of the store that fail, counted
+    /// from 1.
     pub failing_reads: Vec<u64>,
     pub failing_writes: Vec<u64>,
     pub failing_calls: Vec<u64>,
@@ -163,7 +164,8 @@ impl Run {
         self.want(line, part, text)
     }
 
-    /// Takes the reply that is wanted: its status, `closes` where the link is to end with it, and its body, which may be the block.
+    /// Takes the reply that is wanted: its status, `closes` where the link is to end with it, and its body,
+    /// which may be the block.
     fn take_reply(&mut self, alloc: Global, texts: &Texts, field: &Field) -> Result<(), Flaw> {
         let mut text = plain(alloc, field.value.as_str())?;
         if !field.block.is_empty() {
@@ -218,7 +220,8 @@ impl Run {
         !self.wants.iter().any(|want| want.part == part)
     }
 
-    /// Wants what each run is to give where its fields don't say otherwise: status 0, no errors, and no output.
+    /// Wants what each run is to give where its fields don't say otherwise: status 0, no errors, and no
+    /// output.
     fn complete(&mut self, alloc: Global) -> Result<(), Flaw> {
         let line = self.line;
         if self.is_free(Part::Status) {

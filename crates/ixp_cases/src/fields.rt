@@ -2,8 +2,8 @@
 use crate::flaw::Flaw;
 use std::alloc::{AllocError, Global};
 
-/// A field: the number of its line, its name, what stands behind the name, and the indented lines below it without the two blanks before
-/// each.
+/// A field: the number of its line, its name, what stands behind the name, and the indented lines below it
+/// without the two blanks before each.
 #[derive(Drop)]
 pub struct Field {
     pub line: usize,
@@ -12,8 +12,8 @@ pub struct Field {
     pub block: Vec<String>,
 }
 
-/// The name and the value on the line of a field: one of the signs `>`, `<` and `|`, or what stands before a colon, and the rest. A line
-/// without either is a field of that name.
+/// The name and the value on the line of a field: one of the signs `>`, `<` and `|`, or what stands before a
+/// colon, and the rest. A line without either is a field of that name.
 fn parts_of(line: &str) -> (&str, &str) {
     for sign in [">", "<", "|"] {
         if let Some(value) = line.strip_prefix(sign) {
@@ -49,8 +49,8 @@ fn put_indented(
     Ok(())
 }
 
-/// The fields of a file in their order. A line that begins with `#` says nothing, and an empty line counts where an indented one stands
-/// behind it.
+/// The fields of a file in their order. A line that begins with `#` says nothing, and an empty line counts
+/// where an indented one stands behind it.
 pub fn fields_of(alloc: Global, text: &str) -> Result<Vec<Field>, Flaw> {
     let mut fields = Vec::new(alloc);
     let mut empty = 0usize;

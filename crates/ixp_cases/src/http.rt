@@ -11,7 +11,8 @@ fn field_named(word: &str) -> Result<&'static str, Flaw> {
     }
 }
 
-/// Adds a request: method and target, and then a key behind `as` and the request's number behind `number`, where it has them.
+/// Adds a request: method and target, and then a key behind `as` and the request's number behind `number`,
+/// where it has them.
 pub fn put_request(input: &mut String, asked: &str, body: &str) -> Result<(), Flaw> {
     for (place, word) in asked.split_whitespace().enumerate() {
         match place {
@@ -39,7 +40,8 @@ fn length_in(head: &str) -> usize {
     }
 }
 
-/// The status of the first reply in an output, with ` closes` where the link is to end with it; its body; and what stands behind it.
+/// The status of the first reply in an output, with ` closes` where the link is to end with it; its body; and
+/// what stands behind it.
 fn next_reply(output: &str) -> Option<(&str, &str, &str, &str)> {
     let (head, rest) = output.strip_prefix("HTTP/1.1 ")?.split_once("\r\n\r\n")?;
     let closes = if head.contains("Connection: close") {

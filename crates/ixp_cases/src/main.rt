@@ -1,6 +1,6 @@
-//! The program `ixp_cases`: it runs commands over objects in memory, as files of cases tell, and compares what comes of each run
-//! with what the case wants. The words are the files, in the order in which they are read: texts (`.txt`), which cases begin with, and
-//! files of cases. `docs/CASES.md` has their form.
+//! The program `ixp_cases`: it runs commands over objects in memory, as files of cases tell, and compares
+//! what comes of each run with what the case wants. The words are the files, in the order in which they are
+//! read: texts (`.txt`), which cases begin with, and files of cases. `docs/CASES.md` has their form.
 #![tactic(auto)]
 
 mod case;

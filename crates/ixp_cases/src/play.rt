@@ -2,10 +2,9 @@
 use crate::case::{Case, Part, Run, Want};
 use crate::http::{Replies, replies_in};
 use ixp_cli::run;
-use ixp_io::{FreeGate, Keeper, MemDoor, MemKeeper, MemSink, MemSource, Plan, RowName, SetClock};
+use ixp_io::{Keeper, MemKeeper, MemSink, MemSource, Plan, RowName, SetClock};
 use ixp_num_tables::Items;
 use std::alloc::{AllocError, Global};
-use std::collections::VecDeque;
 
 /// A difference, and the line of the field that it is from.
 #[derive(Drop)]
@@ -42,7 +41,6 @@ fn play_run(
     let mut output = MemSink::new(alloc, writes).in_pieces((asked.most_written as usize).max(1));
     let mut errors = MemSink::new(alloc, Plan::smooth(alloc));
     let status = run(
-        &FreeGate,
         alloc,
         words.as_slice(),
         &mut input,
@@ -50,8 +48,6 @@ fn play_run(
         &mut errors,
         keeper,
         &mut SetClock::new(asked.second),
-        &mut MemDoor::new(VecDeque::new(alloc), Plan::smooth(alloc)),
-        &FreeGate,
     );
     given_of(alloc, status, output.written(), errors.written())
 }
@@ -122,7 +118,8 @@ fn first_difference(alloc: Global, wanted: &str, had: &str) -> Result<Option<Str
     }
 }
 
-/// How a text differs from what is wanted, in which three dots stand for anything. Behind a last line of three dots no line feed is wanted.
+/// How a text differs from what is wanted, in which three dots stand for anything. Behind a last line of
+/// three dots no line feed is wanted.
 fn difference_by_dots(
     alloc: Global,
     wanted: &str,

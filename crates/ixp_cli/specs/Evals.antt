@@ -57,7 +57,8 @@ pub record Evaluates (input output : List ℕ) : Type 0 where
   pub is_trial : IsTrial configuration input trial
   pub is_outcome : IsOutcome configuration trial output
 
--- why a configuration can't take a trial: the session's family isn't the route's, or else a line stands behind the route's
+-- why a configuration can't take a trial: the session's family isn't the route's, or else a line stands
+-- behind the route's
 abbrev pub IsRefused : List ItemTree → Trial → TrialFault → Type 0
 IsRefused configuration t fault =
     (IsOfOtherFamily configuration t × (fault ≡ trial_fault.BadRoute t.line code.Family))
@@ -67,7 +68,8 @@ IsRefused configuration t fault =
 abbrev pub IsNoText : List ℕ → Cause → Type 0
 IsNoText input cause = (fault : ReadFault) × (text.cause_of fault ≡ Some cause) × (t : List ℕ) × IsFilterText input t × ConfigAnswer t (Err fault)
 
--- why what is behind the filter text is no trial of the configuration: it is no trial, or one that the configuration can't take
+-- why what is behind the filter text is no trial of the configuration: it is no trial, or one that the
+-- configuration can't take
 abbrev pub IsNoTrial : List ItemTree → List ℕ → Cause → Type 0
 IsNoTrial configuration input cause =
     (fault : TrialFault) × (trial.cause_of fault ≡ Some cause)

@@ -1,4 +1,5 @@
--- What `fate` makes of an input: the dump of a registry, and the line of a route that a session of one of its routers brings.
+-- What `fate` makes of an input: the dump of a registry, and the line of a route that a session of one of its
+-- routers brings.
 use Rattle.std.specs.Prelude.{◌≡◌, ◌≢◌, ◌⊎◌, ◌+◌, ℕ, List, ◌++◌, length, drop, None, Some, Result, Ok, Err}
 use Rattle.ixp_num.specs.declared.cause.Cause.{Cause}
 use Rattle.ixp_num.specs.declared.cause.Code.TheVariants.{E2, E5}
@@ -40,7 +41,8 @@ abbrev pub HasFate : Registry → Router → SessionRoute → Fate → Type 0
 HasFate registry router route fate =
     (sender : Session) → session registry router route.interface ≡ Some sender → fate ≡ fate_of registry router route.route sender
 
--- The output is the text of the router that is asked for, which does what the rules say, and the text of the fate that they give the route.
+-- The output is the text of the router that is asked for, which does what the rules say, and the text of the
+-- fate that they give the route.
 pub record IsFate (registry : Registry) (route : SessionRoute) (output : List ℕ) : Type 0 where
   pub router : Router
   pub is_there : find router_key route.router registry.routers ≡ Some router
@@ -48,7 +50,8 @@ pub record IsFate (registry : Registry) (route : SessionRoute) (output : List �
   pub is_text : output ≡ Gen registry router ++ fate_text (fate_of registry router route.route is_sent.sender) (Some router.asn)
   pub is_right : Right (Gen registry router) registry router
 
--- The input is the dump of a valid registry, followed by the line of a route that a session of one of its routers brings.
+-- The input is the dump of a valid registry, followed by the line of a route that a session of one of its
+-- routers brings.
 pub record Fates (input output : List ℕ) : Type 0 where
   pub registry : Registry
   pub has_registry : HasRegistry input registry
@@ -56,7 +59,8 @@ pub record Fates (input output : List ℕ) : Type 0 where
   pub has_route : HasRoute input (Ok route)
   pub is_fate : IsFate registry route output
 
--- why a router has no fate for a route: the interface is no session of it, or else the route is of another family
+-- why a router has no fate for a route: the interface is no session of it, or else the route is of another
+-- family
 abbrev pub IsStray : Registry → Router → SessionRoute → Cause → Type 0
 IsStray registry router route cause =
     ((session registry router route.interface ≡ None) × (cause ≡ record { code = E5; place = Line route.line }))
@@ -71,7 +75,8 @@ IsAstray registry route cause = (router : Router) × (find router_key route.rout
 abbrev pub IsNoRoute : List ℕ → Cause → Type 0
 IsNoRoute input cause = (fault : TrialFault) × (trial.cause_of fault ≡ Some cause) × HasRoute input (Err fault)
 
--- why an input is refused: for its dump, or else for what follows that, or else since the router has no fate for the route
+-- why an input is refused: for its dump, or else for what follows that, or else since the router has no fate
+-- for the route
 abbrev pub IsNoFate : List ℕ → Cause → Type 0
 IsNoFate input cause =
     IsNoDump (dump_part input) cause

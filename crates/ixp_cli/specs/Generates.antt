@@ -7,8 +7,8 @@ use Rattle.ixp_registry.specs.Keys.{router_key}
 use Rattle.ixp_rows.specs.Dumps.{RegistryAnswer, version_in}
 use Rattle.ixp_compile_laws.specs.Right.{Gen, Right}
 
--- The input is the dump of a valid registry, and a router of it has the handle. The output is that router's text, which does
--- what the rules say.
+-- The input is the dump of a valid registry, and a router of it has the handle. The output is that router's
+-- text, which does what the rules say.
 pub record Generates (handle input output : List ℕ) : Type 0 where
   pub registry : Registry
   pub is_dump : RegistryAnswer (version_in input) input (Ok registry)

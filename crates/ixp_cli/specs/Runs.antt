@@ -143,13 +143,14 @@ error_text (Damaged what) = codes "ixpm: damaged " ++ (what ++ 10 ∷ [])
 error_text (OldVersion found) = codes "ixpm: old store " ++ (decimal found ++ 10 ∷ [])
 error_text (BadLink code requests) = codes "ixpm: bad input " ++ (code_word code ++ (32 ∷ (decimal requests ++ 10 ∷ [])))
 
--- what a source or a sink tells at a moment: the bytes that are left, or those that were written, and how many calls failed
+-- what a source or a sink tells at a moment: the bytes that are left, or those that were written, and how
+-- many calls failed
 pub record Flow : Type 0 where
   pub bytes : Option (List ℕ)
   pub faults : ℕ
 
--- What the objects of the outside tell at a moment. Beside what is read and written, the keeper tells its rows and how many calls
--- failed, the clock the last second that it gave.
+-- What the objects of the outside tell at a moment. Beside what is read and written, the keeper tells its
+-- rows and how many calls failed, the clock the last second that it gave.
 pub record Outside : Type 0 where
   pub input : Flow
   pub output : Flow
@@ -186,8 +187,9 @@ abbrev pub IsRefused : (List ℕ → Cause → Type 0) → Flow → Flow → Cau
 IsRefused refuses before after cause =
     ((cause ≡ too_long) × IsTooLong before after) ⊎ ((input : List ℕ) × ReadsAll before after input × refuses input cause)
 
--- How a question ends. It reads all of its input, and then writes all that it has to say. Where it doesn't come to writing, the
--- output is as it was; where a write fails, the output took a first part of what the question says.
+-- How a question ends. It reads all of its input, and then writes all that it has to say. Where it doesn't
+-- come to writing, the output is as it was; where a write fails, the output took a first part of what the
+-- question says.
 abbrev pub QuestionEnds : Question → Flow → Flow → Flow → Flow → End → Type 0
 QuestionEnds question input input' output output' Done =
     (read written : List ℕ) × ReadsAll input input' read × Answers question read (Ok written) × Takes output.bytes output'.bytes written
@@ -213,8 +215,9 @@ NotRead before after no.ReadFault = Rose before.faults after.faults × ReadsSome
 NotRead before after (no.Bad cause) = IsRefused IsNoDump before after cause
 NotRead before after no.NoMemory = ReadsSome before after
 
--- How `restore` ends. It reads all of its input, a registry's dump, puts the rows of that registry into the keeper, which has to
--- have none, and writes how many lines they are. Where it doesn't come to writing, keeper and output are as they were.
+-- How `restore` ends. It reads all of its input, a registry's dump, puts the rows of that registry into the
+-- keeper, which has to have none, and writes how many lines they are. Where it doesn't come to writing,
+-- keeper and output are as they were.
 abbrev pub RestoreEnds : Flow → Flow → Flow → Flow → Store → Store → End → Type 0
 RestoreEnds input input' output output' store store' Done =
     (r : Registry) × ReadsDump input input' r × Fills r store store' × Takes output.bytes output'.bytes (Restores r)
@@ -236,9 +239,10 @@ RestoreEnds input input' output output' store store' (Damaged what) = ⊥
 RestoreEnds input input' output output' store store' (OldVersion found) = ⊥
 RestoreEnds input input' output output' store store' (BadLink code requests) = ⊥
 
--- The store couldn't be loaded: nothing was read or written, and its rows are as they were. A fault of the store came in this run; an older version is told
--- where the row of the version says so, and damage nowhere there, nor where the rows are those of a state that requests lead to, or none. The row that is
--- told is the first that is wrong, or the one that breaks a rule.
+-- The store couldn't be loaded: nothing was read or written, and its rows are as they were. A fault of the
+-- store came in this run; an older version is told where the row of the version says so, and damage nowhere
+-- there, nor where the rows are those of a state that requests lead to, or none. The row that is told is the
+-- first that is wrong, or the one that breaks a rule.
 abbrev pub NotLoaded : Flow → Flow → Flow → Flow → Store → Store → End → Type 0
 NotLoaded input input' output output' store store' end =
     (input' ≡ input) × (output' ≡ output) × (store'.rows ≡ store.rows)
@@ -278,8 +282,9 @@ Kept = State × ℕ × Option ℕ
 abbrev pub TurnOf : Kept → Call → Outcome → Kept → Type 0
 TurnOf d call o e = IsTurn d.0 call o e.0 d.1 e.1 d.2 e.2
 
--- A session: the store was loaded, and its state answers the requests of the input, one after the other; the replies go to the output.
--- The store has the rows of the state after them. The session ends as its link does. The clock is asked by requests for the export alone.
+-- A session: the store was loaded, and its state answers the requests of the input, one after the other; the
+-- replies go to the output. The store has the rows of the state after them. The session ends as its link
+-- does. The clock is asked by requests for the export alone.
 pub record Serving (input input' output output' : Flow) (store store' : Store) (given given' : Option ℕ) (end : End) : Type 0 where
   pub before : State
   pub holds : Holds store before
@@ -301,8 +306,8 @@ abbrev pub ExportEnds : Flow → Flow → Flow → Flow → Option ℕ → Optio
 ExportEnds input input' output output' given given' end =
     (second : ℕ) × Told given given' (λ before last. last ≡ second) × QuestionEnds (Export second) input input' output output' end
 
--- How a run ends. Words that are no command end as usage, with nothing read or written. A question leaves the keeper alone. `ixf` and
--- `session` alone ask the clock, of which it is said what it gave last.
+-- How a run ends. Words that are no command end as usage, with nothing read or written. A question leaves the
+-- keeper alone. `ixf` and `session` alone ask the clock, of which it is said what it gave last.
 abbrev pub Ends : Option Command → Flow → Flow → Flow → Flow → Store → Store → Option ℕ → Option ℕ → End → Type 0
 Ends None input input' output output' store store' given given' end =
     (end ≡ Usage) × (input' ≡ input) × (output' ≡ output) × (store' ≡ store) × (given' ≡ given)
@@ -365,14 +370,16 @@ reads_whole Dump = false
 reads_whole (Demo members) = false
 reads_whole Session = false
 
--- how a run ends whose input is longer than the limit: it is refused as such, or a read failed, or memory ran out
+-- how a run ends whose input is longer than the limit: it is refused as such, or a read failed, or memory ran
+-- out
 abbrev pub IsLongEnd : End → Type 0
 IsLongEnd (BadInput cause) = cause ≡ too_long
 IsLongEnd ReadFault = Unit {0}
 IsLongEnd NoMemory = Unit {0}
 IsLongEnd end = ⊥
 
--- how a run ends whose input the question answers so: the output took the answer, or memory ran out, or a read or a write failed
+-- how a run ends whose input the question answers so: the output took the answer, or memory ran out, or a
+-- read or a write failed
 abbrev pub IsAnswered : List ℕ → Flow → Flow → Flow → Flow → End → Type 0
 IsAnswered answer input input' output output' Done = Takes output.bytes output'.bytes answer
 IsAnswered answer input input' output output' ReadFault = Rose input.faults input'.faults
@@ -380,8 +387,8 @@ IsAnswered answer input input' output output' WriteFault = Rose output.faults ou
 IsAnswered answer input input' output output' NoMemory = Unit {0}
 IsAnswered answer input input' output output' end = ⊥
 
--- how `restore` ends with the dump of this registry and an empty keeper: that has the registry's rows, or memory ran out, or a read, a write or the
--- keeper failed
+-- how `restore` ends with the dump of this registry and an empty keeper: that has the registry's rows, or
+-- memory ran out, or a read, a write or the keeper failed
 abbrev pub IsRestored : Registry → Outside → Outside → End → Type 0
 IsRestored r before after Done = Fills r before.store after.store × Takes before.output.bytes after.output.bytes (Restores r)
 IsRestored r before after ReadFault = Rose before.input.faults after.input.faults

@@ -12,8 +12,9 @@ pub record IsUnloaded (before after : Outside) (status : Option ℕ) : Type 0 wh
   pub clock : after.second ≡ before.second
   pub told : IsTold end before.errors after.errors status
 
--- The store was loaded, and the input was served as one link. Where nothing fails, the input's bytes alone say how the link ends, how many requests are
--- answered, and which ones; and where they are whole requests that go on to the end, each of them gets its reply.
+-- The store was loaded, and the input was served as one link. Where nothing fails, the input's bytes alone
+-- say how the link ends, how many requests are answered, and which ones; and where they are whole requests
+-- that go on to the end, each of them gets its reply.
 pub record IsServed (before after : Outside) (status : Option ℕ) (bytes : List ℕ) : Type 0 where
   pub end : End
   pub serving : Serving before.input after.input before.output after.output before.store after.store before.second after.second end

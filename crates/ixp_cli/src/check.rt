@@ -34,7 +34,8 @@ fn ok_text(alloc: Global, rows: usize) -> Result<Vec<u8>, AllocError>
     Ok(text)
 }
 
-/// What `check` writes for an input: `ok` and the number of its rows, where it is the dump of a valid registry.
+/// What `check` writes for an input: `ok` and the number of its rows, where it is the dump of a valid
+/// registry.
 pub(crate) fn check(alloc: Global, input: &[u8]) -> Result<Vec<u8>, NoAnswer>
     ensures output { IfOk result (λ out. Checks input.now out.items) }
     ensures cause { IfErr result (Refused (IsNoDump input.now)) }

@@ -1,10 +1,45 @@
 //! The top calls: a command by its words, over the objects that the caller supplies.
-ghost use Rattle.std.specs.Prelude.{◌≡◌, ◌↔◌, ◌≤◌, List, ℕ, map, option_map, Option, Some, None, Ok, Err, IsSome, IsTrue, IfOk, IfErr, IfSome};
+ghost use Rattle.std.specs.Prelude.{
+  ◌≡◌,
+  ◌↔◌,
+  ◌≤◌,
+  List,
+  ℕ,
+  map,
+  option_map,
+  Option,
+  Some,
+  None,
+  Ok,
+  Err,
+  IsSome,
+  IsTrue,
+  IfOk,
+  IfErr,
+  IfSome,
+};
 ghost use Rattle.ixp_cli.specs.declared.command.Command.TheVariants.{Ask, Demo};
 ghost use Rattle.ixp_cli.specs.declared.command.Question.TheVariants.{Generate as AskFor};
 ghost use Rattle.ixp_cli.specs.Demos.{members_in};
 ghost use Rattle.ixp_cli.specs.Restores.{Store};
-ghost use Rattle.ixp_cli.specs.Runs.{Answers, AsksInVain, Flow, IsQuestion, IsSized, IsStatus, Outside, PlainEnds, PlainRuns, QuestionEnds, RefusedOr, Runs, command_by, command_in, command_with, too_long};
+ghost use Rattle.ixp_cli.specs.Runs.{
+  Answers,
+  AsksInVain,
+  Flow,
+  IsQuestion,
+  IsSized,
+  IsStatus,
+  Outside,
+  PlainEnds,
+  PlainRuns,
+  QuestionEnds,
+  RefusedOr,
+  Runs,
+  command_by,
+  command_in,
+  command_with,
+  too_long,
+};
 
 use crate::check::check;
 use crate::demo::run_demo;
@@ -16,7 +51,7 @@ use crate::fate::fate;
 use crate::generation::router_text;
 use crate::restore::run_restore;
 use crate::session::run_session;
-use ixp_io::{Clock, Door, Gate, Keeper, Sink, Source, WholeFault, read_whole, write_all};
+use ixp_io::{Clock, Keeper, Sink, Source, WholeFault, read_whole, write_all};
 use ixp_num::{Cause, Code, Name, Place};
 use ixp_num_tables::number_upto;
 use ixp_registry::is_handle;
@@ -143,7 +178,8 @@ fn command_in(alloc: Global, words: &[&str]) -> Result<Option<Command>, AllocErr
 #[tactic(auto, using(crate::proofs::Refusals::no_router_asked))]
 fn answer(alloc: Global, question: Question, input: &[u8]) -> Result<Vec<u8>, NoAnswer>
     ensures output { IfOk result (λ out. Answers question input.now (Ok out.items)) }
-    ensures refusal { IfErr result (RefusedOr (λ cause. Answers question input.now (Err cause)) (AsksInVain question input.now)) }
+    ensures refusal { IfErr result
+        (RefusedOr (λ cause. Answers question input.now (Err cause)) (AsksInVain question input.now)) }
 {
     match question {
         Question::Check => check(alloc, input),
@@ -205,12 +241,14 @@ fn run_words<S: Source, K: Sink, P: Keeper, C: Clock>(
     keeper: &mut P,
     clock: &mut C,
 ) -> Option<End>
-    ensures { PlainEnds (command_in (map (λ w. w.now) words.now)) (record { bytes = S.left input.old; faults = S.read_faults input.old })
+    ensures { PlainEnds (command_in (map (λ w. w.now) words.now))
+        (record { bytes = S.left input.old; faults = S.read_faults input.old })
         (record { bytes = S.left input.new; faults = S.read_faults input.new })
         (record { bytes = K.written output.old; faults = K.write_faults output.old })
         (record { bytes = K.written output.new; faults = K.write_faults output.new })
         (record { rows = P.table keeper.old; faults = P.faults keeper.old })
-        (record { rows = P.table keeper.new; faults = P.faults keeper.new }) (C.given clock.old) (C.given clock.new) result }
+        (record { rows = P.table keeper.new; faults = P.faults keeper.new }) (C.given clock.old)
+        (C.given clock.new) result }
 {
     match command_in(alloc, words) {
         Ok(Some(Command::Ask { question })) => {
@@ -229,12 +267,13 @@ fn run_words<S: Source, K: Sink, P: Keeper, C: Clock>(
     }
 }
 
-/// Runs the command that the words are, and tells its exit status: 0 where the work is done, 1 where the words are no
-/// command, 2 where the input isn't of the command's form or is longer than 268,435,456 bytes, 3 and 4 where a read
-/// or a write failed, 5 where the keeper failed, 8 where memory ran out, 9 where no router has the handle, 11 where the
-/// store that is to be filled has a row, 6 where the store's rows are no registry's, 10 where the store has the form of an older
-/// version. A status other than 0 has a line on `errors`, as far as that takes it. None stands for `session`, which [`run`] alone
-/// runs; nothing is read or written then.
+/// Runs the command that the words are, and tells its exit status: 0 where the work is done, 1 where the
+/// words are no command, 2 where the input isn't of the command's form or is longer than 268,435,456 bytes, 3
+/// and 4 where a read or a write failed, 5 where the keeper failed, 8 where memory ran out, 9 where no router
+/// has the handle, 11 where the store that is to be filled has a row, 6 where the store's rows are no
+/// registry's, 10 where the store has the form of an older version. A status other than 0 has a line on
+/// `errors`, as far as that takes it. None stands for `session`, which [`run`] alone runs; nothing is read or
+/// written then.
 pub fn run_plain<S: Source, K: Sink, E: Sink, P: Keeper, C: Clock>(
     alloc: Global,
     words: &[&str],
@@ -271,11 +310,10 @@ pub fn run_plain<S: Source, K: Sink, E: Sink, P: Keeper, C: Clock>(
     Some(status)
 }
 
-/// Runs the command that the words are: `session` over the input and the output as one link, and all others as [`run_plain`] does.
-/// With `session` the status is 0 where the link closed, 2 where its input held what is no request or ended inside one, or the link
-/// had all the requests that it may have.
-pub fn run<R, S: Source, K: Sink, E: Sink, P: Keeper, C: Clock, D: Door, G: Gate>(
-    _rt: &R,
+/// Runs the command that the words are: `session` over the input and the output as one link, and all others
+/// as [`run_plain`] does. With `session` the status is 0 where the link closed, 2 where its input held what
+/// is no request or ended inside one, or the link had all the requests that it may have.
+pub fn run<S: Source, K: Sink, E: Sink, P: Keeper, C: Clock>(
     alloc: Global,
     words: &[&str],
     input: &mut S,
@@ -283,8 +321,6 @@ pub fn run<R, S: Source, K: Sink, E: Sink, P: Keeper, C: Clock, D: Door, G: Gate
     errors: &mut E,
     keeper: &mut P,
     clock: &mut C,
-    door: &mut D,
-    _gate: &G,
 ) -> u8
     ensures runs { Runs (command_in (map (λ w. w.now) words.now))
         (record {
@@ -303,8 +339,6 @@ pub fn run<R, S: Source, K: Sink, E: Sink, P: Keeper, C: Clock, D: Door, G: Gate
         }) (Some result) }
     ensures usage { (result ≡ 1) ↔ (command_in (map (λ w. w.now) words.now) ≡ None) }
     ensures statuses { IsStatus (Some result) }
-    ensures links { D.links door.new ≡ D.links door.old }
-    ensures door_faults { D.faults door.new ≡ D.faults door.old }
 {
     match run_plain(alloc, words, input, output, errors, keeper, clock) {
         Some(status) => status,

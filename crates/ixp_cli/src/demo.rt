@@ -23,7 +23,8 @@ fn demo_text(alloc: Global, members: u32) -> Result<Vec<u8>, AllocError>
     Ok(text)
 }
 
-/// Makes the demo exchange with so many members, edits it, and writes how large it is and what was regenerated.
+/// Makes the demo exchange with so many members, edits it, and writes how large it is and what was
+/// regenerated.
 pub(crate) fn run_demo<K: Sink>(alloc: Global, output: &mut K, members: u32) -> End
     requires { members ≤ 4000 }
     ensures { DemoEnds members (record { bytes = K.written output.old; faults = K.write_faults output.old })

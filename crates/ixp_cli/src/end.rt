@@ -141,8 +141,10 @@ fn write_number<E: Sink>(errors: &mut E, number: u64) -> Result<(), Failed>
 /// Writes a text and a number behind it.
 #[tactic(auto, using(crate::proofs::Telling::telling))]
 fn write_with<E: Sink>(errors: &mut E, before: &[u8], number: u64) -> Result<(), Failed>
-    ensures ok { OnOk result (Takes (E.written errors.old) (E.written errors.new) (before.now ++ decimal number)) }
-    ensures err { OnErr result (TakesPart (E.written errors.old) (E.written errors.new) (before.now ++ decimal number)) }
+    ensures ok { OnOk result
+        (Takes (E.written errors.old) (E.written errors.new) (before.now ++ decimal number)) }
+    ensures err { OnErr result
+        (TakesPart (E.written errors.old) (E.written errors.new) (before.now ++ decimal number)) }
     ensures counts { E.write_faults errors.old ≤ E.write_faults errors.new }
     ensures cause { OnErr result (Rose (E.write_faults errors.old) (E.write_faults errors.new)) }
 {
@@ -154,8 +156,12 @@ fn write_with<E: Sink>(errors: &mut E, before: &[u8], number: u64) -> Result<(),
 /// Writes a blank, a broken rule and the line that breaks it.
 #[tactic(auto, using(crate::proofs::Telling::telling))]
 fn write_rule<E: Sink>(errors: &mut E, rule: u32, line: u64) -> Result<(), Failed>
-    ensures ok { OnOk result (Takes (E.written errors.old) (E.written errors.new) ((32 ∷ 81 ∷ decimal rule) ++ (32 ∷ decimal line))) }
-    ensures err { OnErr result (TakesPart (E.written errors.old) (E.written errors.new) ((32 ∷ 81 ∷ decimal rule) ++ (32 ∷ decimal line))) }
+    ensures ok { OnOk result
+        (Takes (E.written errors.old) (E.written errors.new)
+        ((32 ∷ 81 ∷ decimal rule) ++ (32 ∷ decimal line))) }
+    ensures err { OnErr result
+        (TakesPart (E.written errors.old) (E.written errors.new)
+        ((32 ∷ 81 ∷ decimal rule) ++ (32 ∷ decimal line))) }
     ensures counts { E.write_faults errors.old ≤ E.write_faults errors.new }
     ensures cause { OnErr result (Rose (E.write_faults errors.old) (E.write_faults errors.new)) }
 {
@@ -167,7 +173,8 @@ fn write_rule<E: Sink>(errors: &mut E, rule: u32, line: u64) -> Result<(), Faile
 /// Writes a blank and a place.
 fn write_place<E: Sink>(errors: &mut E, place: Place) -> Result<(), Failed>
     ensures ok { OnOk result (Takes (E.written errors.old) (E.written errors.new) (32 ∷ place_text place)) }
-    ensures err { OnErr result (TakesPart (E.written errors.old) (E.written errors.new) (32 ∷ place_text place)) }
+    ensures err { OnErr result
+        (TakesPart (E.written errors.old) (E.written errors.new) (32 ∷ place_text place)) }
     ensures counts { E.write_faults errors.old ≤ E.write_faults errors.new }
     ensures cause { OnErr result (Rose (E.write_faults errors.old) (E.write_faults errors.new)) }
 {
@@ -194,8 +201,10 @@ fn write_cause<E: Sink>(errors: &mut E, cause: Cause) -> Result<(), Failed>
 /// Writes a code, a place and the line's end.
 #[tactic(auto, using(crate::proofs::Telling::telling))]
 fn write_cause_line<E: Sink>(errors: &mut E, cause: Cause) -> Result<(), Failed>
-    ensures ok { OnOk result (Takes (E.written errors.old) (E.written errors.new) (cause_text cause ++ 10 ∷ [])) }
-    ensures err { OnErr result (TakesPart (E.written errors.old) (E.written errors.new) (cause_text cause ++ 10 ∷ [])) }
+    ensures ok { OnOk result
+        (Takes (E.written errors.old) (E.written errors.new) (cause_text cause ++ 10 ∷ [])) }
+    ensures err { OnErr result
+        (TakesPart (E.written errors.old) (E.written errors.new) (cause_text cause ++ 10 ∷ [])) }
     ensures counts { E.write_faults errors.old ≤ E.write_faults errors.new }
     ensures cause { OnErr result (Rose (E.write_faults errors.old) (E.write_faults errors.new)) }
 {
@@ -207,8 +216,11 @@ fn write_cause_line<E: Sink>(errors: &mut E, cause: Cause) -> Result<(), Failed>
 /// Writes a text, a code and a place, and the line's end.
 #[tactic(auto, using(crate::proofs::Telling::telling))]
 fn write_refusal<E: Sink>(errors: &mut E, before: &[u8], cause: Cause) -> Result<(), Failed>
-    ensures ok { OnOk result (Takes (E.written errors.old) (E.written errors.new) (before.now ++ (cause_text cause ++ 10 ∷ []))) }
-    ensures err { OnErr result (TakesPart (E.written errors.old) (E.written errors.new) (before.now ++ (cause_text cause ++ 10 ∷ []))) }
+    ensures ok { OnOk result
+        (Takes (E.written errors.old) (E.written errors.new) (before.now ++ (cause_text cause ++ 10 ∷ []))) }
+    ensures err { OnErr result
+        (TakesPart (E.written errors.old) (E.written errors.new)
+        (before.now ++ (cause_text cause ++ 10 ∷ []))) }
     ensures counts { E.write_faults errors.old ≤ E.write_faults errors.new }
     ensures cause { OnErr result (Rose (E.write_faults errors.old) (E.write_faults errors.new)) }
 {
@@ -221,7 +233,8 @@ fn write_refusal<E: Sink>(errors: &mut E, before: &[u8], cause: Cause) -> Result
 #[tactic(auto, using(crate::proofs::Telling::telling))]
 fn write_name_line<E: Sink>(errors: &mut E, name: &[u8]) -> Result<(), Failed>
     ensures ok { OnOk result (Takes (E.written errors.old) (E.written errors.new) (name.now ++ 10 ∷ [])) }
-    ensures err { OnErr result (TakesPart (E.written errors.old) (E.written errors.new) (name.now ++ 10 ∷ [])) }
+    ensures err { OnErr result
+        (TakesPart (E.written errors.old) (E.written errors.new) (name.now ++ 10 ∷ [])) }
     ensures counts { E.write_faults errors.old ≤ E.write_faults errors.new }
     ensures cause { OnErr result (Rose (E.write_faults errors.old) (E.write_faults errors.new)) }
 {
@@ -233,8 +246,10 @@ fn write_name_line<E: Sink>(errors: &mut E, name: &[u8]) -> Result<(), Failed>
 /// Writes a text, a name and the line's end.
 #[tactic(auto, using(crate::proofs::Telling::telling))]
 fn write_named<E: Sink>(errors: &mut E, before: &[u8], name: &[u8]) -> Result<(), Failed>
-    ensures ok { OnOk result (Takes (E.written errors.old) (E.written errors.new) (before.now ++ (name.now ++ 10 ∷ []))) }
-    ensures err { OnErr result (TakesPart (E.written errors.old) (E.written errors.new) (before.now ++ (name.now ++ 10 ∷ []))) }
+    ensures ok { OnOk result
+        (Takes (E.written errors.old) (E.written errors.new) (before.now ++ (name.now ++ 10 ∷ []))) }
+    ensures err { OnErr result
+        (TakesPart (E.written errors.old) (E.written errors.new) (before.now ++ (name.now ++ 10 ∷ []))) }
     ensures counts { E.write_faults errors.old ≤ E.write_faults errors.new }
     ensures cause { OnErr result (Rose (E.write_faults errors.old) (E.write_faults errors.new)) }
 {
@@ -246,8 +261,10 @@ fn write_named<E: Sink>(errors: &mut E, before: &[u8], name: &[u8]) -> Result<()
 /// Writes a number and the line's end.
 #[tactic(auto, using(crate::proofs::Telling::telling))]
 fn write_number_line<E: Sink>(errors: &mut E, number: u64) -> Result<(), Failed>
-    ensures ok { OnOk result (Takes (E.written errors.old) (E.written errors.new) (decimal number ++ 10 ∷ [])) }
-    ensures err { OnErr result (TakesPart (E.written errors.old) (E.written errors.new) (decimal number ++ 10 ∷ [])) }
+    ensures ok { OnOk result
+        (Takes (E.written errors.old) (E.written errors.new) (decimal number ++ 10 ∷ [])) }
+    ensures err { OnErr result
+        (TakesPart (E.written errors.old) (E.written errors.new) (decimal number ++ 10 ∷ [])) }
     ensures counts { E.write_faults errors.old ≤ E.write_faults errors.new }
     ensures cause { OnErr result (Rose (E.write_faults errors.old) (E.write_faults errors.new)) }
 {
@@ -259,8 +276,11 @@ fn write_number_line<E: Sink>(errors: &mut E, number: u64) -> Result<(), Failed>
 /// Writes a text, a number and the line's end.
 #[tactic(auto, using(crate::proofs::Telling::telling))]
 fn write_counted<E: Sink>(errors: &mut E, before: &[u8], number: u64) -> Result<(), Failed>
-    ensures ok { OnOk result (Takes (E.written errors.old) (E.written errors.new) (before.now ++ (decimal number ++ 10 ∷ []))) }
-    ensures err { OnErr result (TakesPart (E.written errors.old) (E.written errors.new) (before.now ++ (decimal number ++ 10 ∷ []))) }
+    ensures ok { OnOk result
+        (Takes (E.written errors.old) (E.written errors.new) (before.now ++ (decimal number ++ 10 ∷ []))) }
+    ensures err { OnErr result
+        (TakesPart (E.written errors.old) (E.written errors.new)
+        (before.now ++ (decimal number ++ 10 ∷ []))) }
     ensures counts { E.write_faults errors.old ≤ E.write_faults errors.new }
     ensures cause { OnErr result (Rose (E.write_faults errors.old) (E.write_faults errors.new)) }
 {
@@ -272,8 +292,12 @@ fn write_counted<E: Sink>(errors: &mut E, before: &[u8], number: u64) -> Result<
 /// Writes a word, a blank, a number and the line's end.
 #[tactic(auto, using(crate::proofs::Telling::telling))]
 fn write_word<E: Sink>(errors: &mut E, word: &[u8], number: u64) -> Result<(), Failed>
-    ensures ok { OnOk result (Takes (E.written errors.old) (E.written errors.new) (word.now ++ (32 ∷ (decimal number ++ 10 ∷ [])))) }
-    ensures err { OnErr result (TakesPart (E.written errors.old) (E.written errors.new) (word.now ++ (32 ∷ (decimal number ++ 10 ∷ [])))) }
+    ensures ok { OnOk result
+        (Takes (E.written errors.old) (E.written errors.new)
+        (word.now ++ (32 ∷ (decimal number ++ 10 ∷ [])))) }
+    ensures err { OnErr result
+        (TakesPart (E.written errors.old) (E.written errors.new)
+        (word.now ++ (32 ∷ (decimal number ++ 10 ∷ [])))) }
     ensures counts { E.write_faults errors.old ≤ E.write_faults errors.new }
     ensures cause { OnErr result (Rose (E.write_faults errors.old) (E.write_faults errors.new)) }
 {
@@ -290,8 +314,12 @@ fn write_link<E: Sink>(
     word: &[u8],
     requests: u32,
 ) -> Result<(), Failed>
-    ensures ok { OnOk result (Takes (E.written errors.old) (E.written errors.new) (before.now ++ (word.now ++ (32 ∷ (decimal requests ++ 10 ∷ []))))) }
-    ensures err { OnErr result (TakesPart (E.written errors.old) (E.written errors.new) (before.now ++ (word.now ++ (32 ∷ (decimal requests ++ 10 ∷ []))))) }
+    ensures ok { OnOk result
+        (Takes (E.written errors.old) (E.written errors.new)
+        (before.now ++ (word.now ++ (32 ∷ (decimal requests ++ 10 ∷ []))))) }
+    ensures err { OnErr result
+        (TakesPart (E.written errors.old) (E.written errors.new)
+        (before.now ++ (word.now ++ (32 ∷ (decimal requests ++ 10 ∷ []))))) }
     ensures counts { E.write_faults errors.old ≤ E.write_faults errors.new }
     ensures cause { OnErr result (Rose (E.write_faults errors.old) (E.write_faults errors.new)) }
 {

@@ -4,7 +4,19 @@ ghost use Rattle.ixp_lang.specs.declared.fate.Fate.{Fate as FateValue};
 ghost use Rattle.ixp_lang.specs.Faults.{Fault};
 ghost use Rattle.ixp_lang.specs.Views.{config_view};
 ghost use Rattle.ixp_eval.specs.Answers.{Gives};
-ghost use Rattle.ixp_cli.specs.Evals.{Evaluates, IsConfiguration, IsNoEval, IsNoText, IsNoTrial, IsOfOtherFamily, IsOutcome, IsRefused, IsTaken, IsTrial, outcome_text};
+ghost use Rattle.ixp_cli.specs.Evals.{
+  Evaluates,
+  IsConfiguration,
+  IsNoEval,
+  IsNoText,
+  IsNoTrial,
+  IsOfOtherFamily,
+  IsOutcome,
+  IsRefused,
+  IsTaken,
+  IsTrial,
+  outcome_text,
+};
 ghost use Rattle.ixp_cli.specs.Runs.{Refused, no_answer};
 ghost use Rattle.ixp_eval_trial.specs.Causes.{cause_of};
 
@@ -47,10 +59,11 @@ fn is_of_other_family(config: &Config, trial: &Trial) -> bool
     }
 }
 
-/// Why the configuration can't take the trial: the session is of another family than the route, or else a line stands
-/// behind the route's.
+/// Why the configuration can't take the trial: the session is of another family than the route, or else a
+/// line stands behind the route's.
 fn refusal(config: &Config, trial: &Trial) -> Option<TrialFault>
-    ensures { MatchOption result (IsTaken (config_view config.now) trial.now) (IsRefused (config_view config.now) trial.now) }
+    ensures { MatchOption result (IsTaken (config_view config.now) trial.now)
+        (IsRefused (config_view config.now) trial.now) }
 {
     if is_of_other_family(config, trial) {
         return Some(TrialFault::BadRoute {
@@ -92,7 +105,8 @@ fn trial_of(alloc: Global, input: &[u8], config: &Config) -> Result<Trial, NoAns
 
 /// Adds the text of what a walk gives.
 fn put_outcome(outcome: &Result<Fate, EvalFault>, out: &mut Vec<u8>) -> Result<(), AllocError>
-    ensures { (given : Result FateValue Fault) → Gives outcome.now given → OnOk result (out.new.items ≡ out.old.items ++ outcome_text given) }
+    ensures { (given : Result FateValue Fault) → Gives outcome.now given
+        → OnOk result (out.new.items ≡ out.old.items ++ outcome_text given) }
 {
     match outcome {
         Ok(fate) => print_fate(fate, None, out),

@@ -9,7 +9,8 @@ use crate::end::NoAnswer;
 use ixp_ixf::ixf_text;
 use std::alloc::Global;
 
-/// What `ixf` writes for an input: the member export of the registry whose dump it is, at a second since 1970.
+/// What `ixf` writes for an input: the member export of the registry whose dump it is, at a second since
+/// 1970.
 pub(crate) fn export(alloc: Global, second: u64, input: &[u8]) -> Result<Vec<u8>, NoAnswer>
     ensures output { IfOk result (λ out. Exports second input.now out.items) }
     ensures cause { IfErr result (Refused (IsNoDump input.now)) }

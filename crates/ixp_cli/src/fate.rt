@@ -11,7 +11,18 @@ ghost use Rattle.ixp_eval.specs.declared.fault.EvalFault.TheVariants.{NoMemory a
 ghost use Rattle.ixp_read.specs.declared.fault.ReadFault.TheVariants.{NoMemory as no_room};
 ghost use Rattle.ixp_read.specs.Answers.{SpellsText};
 ghost use Rattle.ixp_compile_laws.specs.Right.{Gen};
-ghost use Rattle.ixp_cli.specs.Fates.{Fates, HasFate, HasNoRouter, HasRoute, IsAstray, IsFate, IsNoFate, IsNoRoute, IsOfSession, IsStray};
+ghost use Rattle.ixp_cli.specs.Fates.{
+  Fates,
+  HasFate,
+  HasNoRouter,
+  HasRoute,
+  IsAstray,
+  IsFate,
+  IsNoFate,
+  IsNoRoute,
+  IsOfSession,
+  IsStray,
+};
 ghost use Rattle.ixp_cli.specs.Runs.{Refused, RefusedOr};
 
 use crate::check::registry_of;
@@ -45,7 +56,8 @@ fn route_of(alloc: Global, input: &[u8]) -> Result<SessionRoute, NoAnswer>
 
 /// Why the router has no fate for the route, if it has none.
 fn astray(registry: &Registry, router: &Router, route: &SessionRoute) -> Option<Cause>
-    ensures { MatchOption result (IsOfSession registry.now router.now route.now) (IsStray registry.now router.now route.now) }
+    ensures { MatchOption result (IsOfSession registry.now router.now route.now)
+        (IsStray registry.now router.now route.now) }
 {
     let place = Place::Line { line: route.line };
     match session(registry, router, route.interface) {
@@ -147,7 +159,9 @@ fn text_with_fate(
     requires valid { Valid registry.now }
     requires there { find router_key route.now.router registry.now.routers ≡ Some router.now }
     requires sender { IsOfSession registry.now router.now route.now }
-    ensures { IfOk result (λ out. MatchOption out (find router_key route.now.router registry.now.routers ≡ None) (λ text. IsFate registry.now route.now text.items)) }
+    ensures { IfOk result
+        (λ out. MatchOption out (find router_key route.now.router registry.now.routers ≡ None)
+        (λ text. IsFate registry.now route.now text.items)) }
 {
     let Some(mut text) = text_of(alloc, registry, &route.router)? else {
         return Ok(None);
@@ -161,7 +175,10 @@ fn text_with_fate(
 fn fate_in(alloc: Global, registry: &Registry, route: SessionRoute) -> Result<Vec<u8>, NoAnswer>
     requires { Valid registry.now }
     ensures output { IfOk result (λ out. IsFate registry.now route out.items) }
-    ensures refusal { IfErr result (RefusedOr (IsAstray registry.now route) (λ handle. (handle ≡ route.router) × (find router_key route.router registry.now.routers ≡ None))) }
+    ensures refusal { IfErr result
+        (RefusedOr (IsAstray registry.now route)
+        (λ handle. (handle ≡ route.router)
+        × (find router_key route.router registry.now.routers ≡ None))) }
 {
     let Some(router) = registry.routers.find(&route.router) else {
         return Err(NoAnswer::Unknown {
@@ -180,7 +197,8 @@ fn fate_in(alloc: Global, registry: &Registry, route: SessionRoute) -> Result<Ve
     }
 }
 
-/// What `fate` writes for an input: the text of the router that is asked for, and the fate of the route by that text.
+/// What `fate` writes for an input: the text of the router that is asked for, and the fate of the route by
+/// that text.
 #[tactic(auto, using(crate::proofs::Fating::fating))]
 pub(crate) fn fate(alloc: Global, input: &[u8]) -> Result<Vec<u8>, NoAnswer>
     ensures output { IfOk result (λ out. Fates input.now out.items) }

@@ -10,11 +10,13 @@ use ixp_compile_laws::text_of;
 use ixp_num::Name;
 use std::alloc::Global;
 
-/// What `generate` writes for an input: the text of the router with the handle, where the input is the dump of a valid registry.
+/// What `generate` writes for an input: the text of the router with the handle, where the input is the dump
+/// of a valid registry.
 #[tactic(auto, using(crate::proofs::Generating::generating, crate::proofs::Refusals::no_router_asked))]
 pub(crate) fn router_text(alloc: Global, router: Name, input: &[u8]) -> Result<Vec<u8>, NoAnswer>
     ensures output { IfOk result (λ out. Generates router input.now out.items) }
-    ensures refusal { IfErr result (RefusedOr (IsNoDump input.now) (λ handle. (handle ≡ router) × IsUnknown router input.now)) }
+    ensures refusal { IfErr result
+        (RefusedOr (IsNoDump input.now) (λ handle. (handle ≡ router) × IsUnknown router input.now)) }
 {
     let registry = registry_of(alloc, input)?;
     match text_of(alloc, &registry, &router) {

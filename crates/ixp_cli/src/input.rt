@@ -22,7 +22,8 @@ fn first_line(text: &[u8]) -> &[u8]
     }
 }
 
-/// The dump in an input of `fate`: up to the first line that begins with `end` and a blank, and that line with it.
+/// The dump in an input of `fate`: up to the first line that begins with `end` and a blank, and that line
+/// with it.
 pub fn dump_part(text: &[u8]) -> &[u8]
     ensures part { result.now ≡ dump_part text.now }
     ensures front { take (length result.now) text.now ≡ result.now }

@@ -2,7 +2,10 @@
 ghost use Rattle.std.specs.Prelude.{◌≡◌, OnOk, OnErr, IfOk, IfErr, IsErrOf};
 ghost use Rattle.ixp_io.specs.Faults.{Rose};
 ghost use Rattle.ixp_registry.specs.Valid.{Valid};
-ghost use Rattle.ixp_store_rows.specs.declared.filling.FillFault.TheVariants.{Failed as KeeperFailed, NotEmpty as SomeRow};
+ghost use Rattle.ixp_store_rows.specs.declared.filling.FillFault.TheVariants.{
+  Failed as KeeperFailed,
+  NotEmpty as SomeRow,
+};
 ghost use Rattle.ixp_cli.specs.Restores.{Fills, IsDumpOf, IsFilled, IsUndumped, Restores, Store};
 ghost use Rattle.ixp_cli.specs.Runs.{Flow, NotRead, ReadsDump, RestoreEnds};
 
@@ -54,9 +57,11 @@ fn dumped(alloc: Global, text: &[u8]) -> Result<Registry, NoDump>
 
 /// Reads all of the input, the dump of a registry.
 fn read_registry<S: Source>(alloc: Global, input: &mut S) -> Result<Registry, NoDump>
-    ensures read { IfOk result (ReadsDump (record { bytes = S.left input.old; faults = S.read_faults input.old })
+    ensures read { IfOk result
+        (ReadsDump (record { bytes = S.left input.old; faults = S.read_faults input.old })
         (record { bytes = S.left input.new; faults = S.read_faults input.new })) }
-    ensures unread { IfErr result (NotRead (record { bytes = S.left input.old; faults = S.read_faults input.old })
+    ensures unread { IfErr result
+        (NotRead (record { bytes = S.left input.old; faults = S.read_faults input.old })
         (record { bytes = S.left input.new; faults = S.read_faults input.new })) }
     ensures valid { IfOk result Valid }
 {
@@ -81,10 +86,12 @@ fn store_registry<P: Keeper>(
     registry: Registry,
 ) -> Result<(), FillFault>
     requires { Valid registry }
-    ensures filled { OnOk result (Fills registry (record { rows = P.table keeper.old; faults = P.faults keeper.old })
+    ensures filled { OnOk result
+        (Fills registry (record { rows = P.table keeper.old; faults = P.faults keeper.old })
         (record { rows = P.table keeper.new; faults = P.faults keeper.new })) }
     ensures kept { OnErr result (P.table keeper.new ≡ P.table keeper.old) }
-    ensures full { IsErrOf result SomeRow → IsFilled (record { rows = P.table keeper.old; faults = P.faults keeper.old }) }
+    ensures full { IsErrOf result SomeRow
+        → IsFilled (record { rows = P.table keeper.old; faults = P.faults keeper.old }) }
     ensures cause { IsErrOf result KeeperFailed → Rose (P.faults keeper.old) (P.faults keeper.new) }
 {
     let state = first_state(alloc, registry);

@@ -1,4 +1,5 @@
-//! The command `session`: it answers the HTTP requests of the input, one after the other, and writes the replies to the output.
+//! The command `session`: it answers the HTTP requests of the input, one after the other, and writes the
+//! replies to the output.
 ghost use Rattle.std.specs.Prelude.{◌≡◌};
 ghost use Rattle.ixp_cli.specs.Restores.{Store};
 ghost use Rattle.ixp_cli.specs.Runs.{Flow, SessionEnds};
@@ -65,7 +66,8 @@ pub(crate) fn run_session<S: Source, K: Sink, P: Keeper, C: Clock>(
         (record { bytes = K.written output.old; faults = K.write_faults output.old })
         (record { bytes = K.written output.new; faults = K.write_faults output.new })
         (record { rows = P.table keeper.old; faults = P.faults keeper.old })
-        (record { rows = P.table keeper.new; faults = P.faults keeper.new }) (C.given clock.old) (C.given clock.new) result }
+        (record { rows = P.table keeper.new; faults = P.faults keeper.new }) (C.given clock.old)
+        (C.given clock.new) result }
 {
     let state = match load(alloc, keeper) {
         Ok(state) => state,

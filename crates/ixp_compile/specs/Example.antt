@@ -1,5 +1,5 @@
--- A router's text on a small example, line by line: a router of AS 65500 with a blackhole address and a bound on communities,
--- and one session of it, whose member is held to its lists and has four rules.
+-- A router's text on a small example, line by line: a router of AS 65500 with a blackhole address and a bound
+-- on communities, and one session of it, whose member is held to its lists and has four rules.
 use Rattle.std.specs.Prelude.{ℕ, true, false, List, [], ◌∷◌, ◌++◌, Some, None, codes, refl}
 use Rattle.std.proofs.Common.{lit<, lit≤}
 use Rattle.ixp_num.specs.declared.addr.Addr.{Addr}

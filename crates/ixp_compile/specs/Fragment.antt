@@ -1,4 +1,5 @@
--- A session's part of a route server's text: its table, the member's lists, its filters, and its two protocols.
+-- A session's part of a route server's text: its table, the member's lists, its filters, and its two
+-- protocols.
 use Rattle.std.specs.Prelude.{ℕ, ◌==◌, true, List, [], ◌∷◌, ◌++◌, Option, Some, None, is_none, codes, if◌then◌else◌}
 use Rattle.ixp_num.specs.declared.addr.Addr.{Addr}
 use Rattle.ixp_num.specs.declared.asn.Asn.{Asn}
@@ -51,7 +52,8 @@ pipe_name n = numbered (codes "pp_") n
 abbrev pub bgp_name : ℕ → List ℕ
 bgp_name n = numbered (codes "b_") n
 
--- The member's lists: `irr` and `blackholes` are the sets of nets that its prefixes allow, and allow for blackhole routes.
+-- The member's lists: `irr` and `blackholes` are the sets of nets that its prefixes allow, and allow for
+-- blackhole routes.
 
 abbrev pub if_held : Inputs → List ItemTree → List ItemTree
 if_held i items = if i.address.irr then items else []
@@ -68,8 +70,8 @@ member_sets i irr blackholes =
     ∷ if_blackholes i (defined (blackhole_name i.interface) set.Prefixes blackholes)
     ∷ []))
 
--- The import filter: it takes the route server's own communities off, tells what it finds, and accepts every route; one that
--- is refused stays in the session's table, with its number.
+-- The import filter: it takes the route server's own communities off, tells what it finds, and accepts every
+-- route; one that is refused stays in the session's table, with its number.
 
 -- the next hop is the session's address, or else another one of the member's
 abbrev pub next_hop_test : Inputs → StmtTree
@@ -166,7 +168,8 @@ up_body i =
     ++ accept
     ∷ []
 
--- the way down: what the receiver's rules let in and the sender's communities send, with the sender's number in front
+-- the way down: what the receiver's rules let in and the sender's communities send, with the sender's number
+-- in front
 abbrev pub down_body : Inputs → List StmtTree
 down_body i =
     when (negation (call (receive_name i.interface) (exprs []))) (reject ∷ [])

@@ -34,8 +34,8 @@ joined_to first last [] = (first, last) ∷ []
 joined_to first last (r ∷ rs) =
     if nat_le r.0.0 last then joined_to first (max last r.1.0) rs else (first, last) ∷ joined_to r.0.0 r.1.0 rs
 
--- Ranges of AS numbers, which ascend by their first numbers, without overlaps: a set of numbers is held as a tree of ranges,
--- in which one that overlaps another may not be found.
+-- Ranges of AS numbers, which ascend by their first numbers, without overlaps: a set of numbers is held as a
+-- tree of ranges, in which one that overlaps another may not be found.
 abbrev pub joined_ranges : List (Asn × Asn) → List (ℕ × ℕ)
 joined_ranges [] = []
 joined_ranges (r ∷ rs) = joined_to r.0.0 r.1.0 rs

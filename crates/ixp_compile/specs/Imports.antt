@@ -20,7 +20,8 @@ pub record Sees (r : Registry) (router : Router) (s : Session) (env : Environmen
   pub from : env.from ≡ s.address.addr
   pub roas : roas_named env.roas (roas router.family) ≡ r.public.roas
 
--- The sets of nets match what the member's prefixes allow: `irr` the nets that the router takes, `blackholes` single addresses.
+-- The sets of nets match what the member's prefixes allow: `irr` the nets that the router takes, `blackholes`
+-- single addresses.
 pub record Allows (router : Router) (s : Session) (irr blackholes : List Pattern) : Type 0 where
   pub registered : (route : Route) → route.net.family ≡ router.family → nat_le route.net.len router.high ≡ true
       → is_in_set irr route.net ≡ is_registered s route

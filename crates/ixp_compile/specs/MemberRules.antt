@@ -1,5 +1,5 @@
--- A member's rules as filter text. Its advertise rules rewrite the communities that steer the route, its receive rules say
--- whose routes it is sent.
+-- A member's rules as filter text. Its advertise rules rewrite the communities that steer the route, its
+-- receive rules say whose routes it is sent.
 use Rattle.std.specs.Prelude.{ℕ, ◌+◌, ◌==◌, ◌&&◌, Bool, true, not, nat_le, List, [], ◌∷◌, ◌++◌, Option, Some, None, map, filter, flat_map, reverse, if◌then◌else◌}
 use Rattle.ixp_num.specs.declared.asn.Asn.{Asn}
 use Rattle.ixp_num.specs.declared.family.Family.{Family}

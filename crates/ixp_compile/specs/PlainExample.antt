@@ -1,6 +1,6 @@
--- What is left out of a router's text: an IPv6 router whose AS number fits no community of two parts, without a blackhole address,
--- bounds and public lists, and a session of it whose member isn't held to its lists. And the import filter of a member that is held to
--- its lists and has none.
+-- What is left out of a router's text: an IPv6 router whose AS number fits no community of two parts, without
+-- a blackhole address, bounds and public lists, and a session of it whose member isn't held to its lists. And
+-- the import filter of a member that is held to its lists and has none.
 use Rattle.std.specs.Prelude.{ℕ, true, false, List, [], ◌∷◌, Some, None, codes}
 use Rattle.std.proofs.Common.{lit<}
 use Rattle.ixp_num.specs.declared.addr.Addr.{Addr}

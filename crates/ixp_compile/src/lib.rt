@@ -1,7 +1,7 @@
 //! The text of a route server by the rows of a registry, as trees, and what each part of it does.
 //!
-//! `specs/Header.antt`, `specs/Fragment.antt` and `specs/MemberRules.antt` have the text, `specs/Generated.antt` the whole of it
-//! by the rows. Each law is the contract of a function without a body.
+//! `specs/Header.antt`, `specs/Fragment.antt` and `specs/MemberRules.antt` have the text,
+//! `specs/Generated.antt` the whole of it by the rows. Each law is the contract of a function without a body.
 #![tactic(auto)]
 
 mod example_laws;

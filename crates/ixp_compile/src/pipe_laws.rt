@@ -19,12 +19,14 @@ ghost use Rattle.ixp_compile.specs.MemberRules.{receive_body};
 ghost use Rattle.ixp_compile.specs.Rewriting.{AreLawful, rewritten};
 ghost use Rattle.ixp_compile.specs.Shared.{Shared};
 
-/// `up_N` rejects a route of the session's table where the import table refused it, and else accepts it with what the member's
-/// advertise rules write on it.
+/// `up_N` rejects a route of the session's table where the import table refused it, and else accepts it with
+/// what the member's advertise rules write on it.
 pub fn up_passes()
-    ensures { (env : Environment) (k : Known) (r : Registry) (router : Router) (s : Session) (route : Route) → route.net.family ≡ router.family →
+    ensures { (env : Environment) (k : Known) (r : Registry) (router : Router) (s : Session) (route : Route)
+        → route.net.family ≡ router.family →
         body_of env k [] (stmts (up_body (inputs r router s))) (tagged r router s route)
-        ≡ (if passes r router s route then accepts (rewritten router.asn.0 s.rules (tagged r router s route)) else rejects) }
+        ≡ (if passes r router s route then accepts (rewritten router.asn.0 s.rules (tagged r router s route))
+        else rejects) }
 {}
 
 /// What advertise rules write, the last one first, asks for every receiver what the first one about it says.
@@ -35,15 +37,18 @@ pub fn rules_decide()
 
 /// `rx_N` is whether the receiver's rules let the route in.
 pub fn receive_is_receives()
-    ensures { (env : Environment) (k : Known) (receiver : Session) (family : Family) (route : Route) → route.net.family ≡ family →
+    ensures { (env : Environment) (k : Known) (receiver : Session) (family : Family) (route : Route)
+        → route.net.family ≡ family →
         body_of env k [] (stmts (receive_body family receiver.rules)) route
         ≡ returns (Bool (receives receiver.rules route.net (first_of route.path))) route }
 {}
 
-/// `down_N` passes a route on where the receiver's rules let it in and its communities send it, with the sender's number in
-/// front as often as they ask.
+/// `down_N` passes a route on where the receiver's rules let it in and its communities send it, with the
+/// sender's number in front as often as they ask.
 pub fn down_passes_on()
-    ensures { (env : Environment) (k : Known) (r : Registry) (router : Router) (receiver : Session) (route : Route) →
+    ensures { (env : Environment) (k : Known) (r : Registry) (router : Router) (receiver : Session)
+        (route : Route) →
         Shared r router k → LetsIn router receiver k → route.net.family ≡ router.family →
-        body_of env k [] (stmts (down_body (inputs r router receiver))) route ≡ passed_on (times_down router receiver route) route }
+        body_of env k [] (stmts (down_body (inputs r router receiver))) route
+        ≡ passed_on (times_down router receiver route) route }
 {}

@@ -11,9 +11,36 @@ ghost use Rattle.ixp_registry.specs.declared.registry.Registry.{Registry};
 ghost use Rattle.ixp_registry.specs.declared.router.Router.{Router};
 ghost use Rattle.ixp_policy.specs.Blackholes.{is_blackhole};
 ghost use Rattle.ixp_compile.specs.Generated.{header_inputs};
-ghost use Rattle.ixp_compile.specs.Header.{blackhole_body, bogon_as_body, bogons_of, count_body, drop_body, header, joined_ranges, net_body, out_body, pad_body, sends_body, transit_body};
+ghost use Rattle.ixp_compile.specs.Header.{
+  blackhole_body,
+  bogon_as_body,
+  bogons_of,
+  count_body,
+  drop_body,
+  header,
+  joined_ranges,
+  net_body,
+  out_body,
+  pad_body,
+  sends_body,
+  transit_body,
+};
 ghost use Rattle.ixp_compile.specs.Pieces.{numbers};
-ghost use Rattle.ixp_compile.specs.Shared.{Drops, HasNoReports, HeadStands, IsNamed, Shared, TellsBlackholes, bogon_as_refusal, cleaned, net_refusal, padded, refused_with, stops, transit_refusal};
+ghost use Rattle.ixp_compile.specs.Shared.{
+  Drops,
+  HasNoReports,
+  HeadStands,
+  IsNamed,
+  Shared,
+  TellsBlackholes,
+  bogon_as_refusal,
+  cleaned,
+  net_refusal,
+  padded,
+  refused_with,
+  stops,
+  transit_refusal,
+};
 
 /// `ixp_drop` tells the number on the route, and ends the filter.
 pub fn drop_refuses()
@@ -23,13 +50,15 @@ pub fn drop_refuses()
 
 /// `ixp_bh` is whether the route is a blackhole route of a router that has an address for such ones.
 pub fn blackhole_is_blackhole()
-    ensures { (env : Environment) (k : Known) (router : Router) (route : Route) → is_some router.blackhole ≡ true → route.net.family ≡ router.family →
+    ensures { (env : Environment) (k : Known) (router : Router) (route : Route)
+        → is_some router.blackhole ≡ true → route.net.family ≡ router.family →
         body_of env k [] (stmts (blackhole_body router.family)) route ≡ returns (Bool (is_blackhole router route)) route }
 {}
 
 /// `ixp_net` refuses by the first of the lines on the net and on lengths.
 pub fn net_refuses()
-    ensures { (env : Environment) (k : Known) (r : Registry) (router : Router) (route : Route) → HeadStands r router →
+    ensures { (env : Environment) (k : Known) (r : Registry) (router : Router) (route : Route)
+        → HeadStands r router →
         Drops router.asn.0 k → TellsBlackholes router k → IsNamed k (codes "ixp_bogons") Prefixes (bogons_of (header_inputs r router)) →
         route.net.family ≡ router.family → HasNoReports router.asn.0 route →
         body_of env k [] (stmts (net_body (header_inputs r router))) route ≡ stops router.asn.0 (net_refusal r router route) route }
@@ -37,9 +66,11 @@ pub fn net_refuses()
 
 /// `ixp_as` refuses a path with a number that may stand in none.
 pub fn bogon_as_refuses()
-    ensures { (env : Environment) (k : Known) (r : Registry) (router : Router) (route : Route) → HeadStands r router →
+    ensures { (env : Environment) (k : Known) (r : Registry) (router : Router) (route : Route)
+        → HeadStands r router →
         Drops router.asn.0 k → IsNamed k (codes "ixp_bogon_as") Ints (joined_ranges r.public.bogon_as) →
-        body_of env k [] (stmts (bogon_as_body (header_inputs r router))) route ≡ stops router.asn.0 (bogon_as_refusal r route) route }
+        body_of env k [] (stmts (bogon_as_body (header_inputs r router))) route
+        ≡ stops router.asn.0 (bogon_as_refusal r route) route }
 {}
 
 /// `ixp_transit` refuses a path with a network that buys no transit.
@@ -69,7 +100,8 @@ pub fn pad_pads()
 
 /// `ixp_out` takes away what no receiver gets, and gives a blackhole route its next hop.
 pub fn out_cleans()
-    ensures { (env : Environment) (k : Known) (router : Router) (route : Route) → TellsBlackholes router k → route.net.family ≡ router.family →
+    ensures { (env : Environment) (k : Known) (router : Router) (route : Route) → TellsBlackholes router k
+        → route.net.family ≡ router.family →
         body_of env k [] (stmts (out_body router.asn.0 router.blackhole)) route ≡ accepts (cleaned router route) }
 {}
 

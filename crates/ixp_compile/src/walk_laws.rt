@@ -20,8 +20,8 @@ ghost use Rattle.ixp_compile.specs.Generated.{generated, own_part, roa_tables};
 ghost use Rattle.ixp_compile.specs.Rewriting.{rewritten};
 ghost use Rattle.ixp_compile.specs.Whole.{own_fate};
 
-/// The walk of a router's text from a session is the route's fate, for every session of every router of a valid registry and
-/// every route of the router's family, and never a fault.
+/// The walk of a router's text from a session is the route's fate, for every session of every router of a
+/// valid registry and every route of the router's family, and never a fault.
 pub fn walk_is_fate()
     ensures { (r : Registry) (handle : List ℕ) (router : Router) (n : ℕ) (s : Session) (route : Route) →
         Valid r → find router_key handle r.routers ≡ Some router → session r router n ≡ Some s →
@@ -29,23 +29,28 @@ pub fn walk_is_fate()
         walk (generated r router) (roa_tables r) (bgp_name n) route ≡ Ok (fate_of r router route s) }
 {}
 
-/// A session's own text, walked from it, has the table's route and whether it passes; where it does, the filter up accepts the
-/// table's route as one of which `ixp_sends` and `ixp_count` give the wish for every receiver.
+/// A session's own text, walked from it, has the table's route and whether it passes; where it does, the
+/// filter up accepts the table's route as one of which `ixp_sends` and `ixp_count` give the wish for every
+/// receiver.
 pub fn own_part_tells()
     ensures walk { (r : Registry) (handle : List ℕ) (router : Router) (n : ℕ) (s : Session) (route : Route) →
         Valid r → find router_key handle r.routers ≡ Some router → session r router n ≡ Some s →
         route.net.family ≡ router.family →
         walk (own_part r router s) (roa_tables r) (bgp_name n) route ≡ Ok (own_fate r router s route) }
-    ensures up { (r : Registry) (handle : List ℕ) (router : Router) (n : ℕ) (s : Session) (env : Environment) (route : Route) →
+    ensures up { (r : Registry) (handle : List ℕ) (router : Router) (n : ℕ) (s : Session) (env : Environment)
+        (route : Route) →
         Valid r → find router_key handle r.routers ≡ Some router → session r router n ≡ Some s →
         route.net.family ≡ router.family → passes r router s route ≡ true →
         filter_end env (reverse (own_part r router s)) (up_name n) (tagged r router s route)
         ≡ Ok (Accept (rewritten router.asn.0 s.rules (tagged r router s route))) }
-    ensures sends { (r : Registry) (handle : List ℕ) (router : Router) (n : ℕ) (s : Session) (env : Environment) (t : Route) (to : ℕ) →
+    ensures sends { (r : Registry) (handle : List ℕ) (router : Router) (n : ℕ) (s : Session)
+        (env : Environment) (t : Route) (to : ℕ) →
         Valid r → find router_key handle r.routers ≡ Some router → session r router n ≡ Some s →
-        function_end env (reverse (own_part r router s)) (codes "ixp_sends") to (rewritten router.asn.0 s.rules t)
+        function_end env (reverse (own_part r router s)) (codes "ixp_sends") to
+        (rewritten router.asn.0 s.rules t)
         ≡ Ok (Bool (is_some (wish router s t to))) }
-    ensures counts { (r : Registry) (handle : List ℕ) (router : Router) (n : ℕ) (s : Session) (env : Environment) (t : Route) (to times : ℕ) →
+    ensures counts { (r : Registry) (handle : List ℕ) (router : Router) (n : ℕ) (s : Session)
+        (env : Environment) (t : Route) (to times : ℕ) →
         Valid r → find router_key handle r.routers ≡ Some router → session r router n ≡ Some s →
         wish router s t to ≡ Some times →
         function_end env (reverse (own_part r router s)) (codes "ixp_count") to (rewritten router.asn.0 s.rules t)

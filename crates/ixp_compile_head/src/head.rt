@@ -1,15 +1,66 @@
 //! The head of a route server's text.
 ghost use Rattle.std.specs.Prelude.{◌≡◌, ◌++◌, ◌∷◌, [], codes, nat_le, false, true, IfOk, OnOk};
 ghost use Rattle.ixp_num.specs.Families.{bits_of, same_family};
-ghost use Rattle.ixp_lang.specs.Trees.{named, attribute, literal, call, set_literal, conjunction, comparison, exprs, stmts, function_item};
+ghost use Rattle.ixp_lang.specs.Trees.{
+  named,
+  attribute,
+  literal,
+  call,
+  set_literal,
+  conjunction,
+  comparison,
+  exprs,
+  stmts,
+  function_item,
+};
 ghost use Rattle.ixp_lang.specs.Views.{expr_view, stmt_view, stmts_view};
 ghost use Rattle.ixp_lang.specs.declared.expr.Attr.TheVariants as attr;
 ghost use Rattle.ixp_lang.specs.declared.expr.Op.TheVariants as op;
 ghost use Rattle.ixp_lang.specs.declared.value.Value.TheVariants as value;
 ghost use Rattle.ixp_lang.specs.declared.value.SetLit.TheVariants as set;
 ghost use Rattle.ixp_compile.specs.Pieces.{int, all_large, compared, when, defined, drop_with, numbers};
-ghost use Rattle.ixp_compile.specs.Header.{answers, asks_all, asks_peer, blackhole_body, blackhole_function, blackhole_hop, bogon_as_body, bogons_of, community_tests, count_body, counts, drop_body, header, identifier, is_too_long, joined_ranges, joined_to, net_body, out_body, pad_body, pads, pair_answers, pairs_peer, pairs_server, pairs_taken_away, sends_body, tables, transit_body};
-ghost use Rattle.ixp_compile_pieces.specs.Items.{as_item, count_item, drop_item, net_item, out_item, pad_item, public_items, sends_item, shared_items, transit_item};
+ghost use Rattle.ixp_compile.specs.Header.{
+  answers,
+  asks_all,
+  asks_peer,
+  blackhole_body,
+  blackhole_function,
+  blackhole_hop,
+  bogon_as_body,
+  bogons_of,
+  community_tests,
+  count_body,
+  counts,
+  drop_body,
+  header,
+  identifier,
+  is_too_long,
+  joined_ranges,
+  joined_to,
+  net_body,
+  out_body,
+  pad_body,
+  pads,
+  pair_answers,
+  pairs_peer,
+  pairs_server,
+  pairs_taken_away,
+  sends_body,
+  tables,
+  transit_body,
+};
+ghost use Rattle.ixp_compile_pieces.specs.Items.{
+  as_item,
+  count_item,
+  drop_item,
+  net_item,
+  out_item,
+  pad_item,
+  public_items,
+  sends_item,
+  shared_items,
+  transit_item,
+};
 ghost use Rattle.ixp_compile_pieces.specs.Made.{items_view};
 
 use ixp_compile::HeaderInputs;
@@ -108,7 +159,10 @@ fn drop_body(alloc: Global, rs: Asn) -> Result<Vec<Stmt>, AllocError>
 
 /// Whether the net is a single address, and the route has the community of RFC 7999.
 fn blackhole_test(alloc: Global, family: Family) -> Result<Expr, AllocError>
-    ensures { IfOk result (λ e. expr_view e ≡ conjunction (exprs (compared op.Eq attr.NetLen (int (bits_of family)) ∷ comparison op.In (literal (value.Pair BLACKHOLE.0 BLACKHOLE.1)) (attribute attr.Pairs) ∷ []))) }
+    ensures { IfOk result
+        (λ e. expr_view e ≡ conjunction
+        (exprs (compared op.Eq attr.NetLen (int (bits_of family)) ∷ comparison op.In
+        (literal (value.Pair BLACKHOLE.0 BLACKHOLE.1)) (attribute attr.Pairs) ∷ []))) }
 {
     let single = compared_number(alloc, Op::Eq, Attr::NetLen, u32::from(family.bits()))?;
     let community = Expr::Lit(Value::Pair(BLACKHOLE.0, BLACKHOLE.1));
@@ -132,7 +186,8 @@ fn add_blackhole_function(
     family: Family,
     blackhole: Option<Addr>,
 ) -> Result<(), AllocError>
-    ensures { OnOk result (items_view items.new.items ≡ items_view items.old.items ++ blackhole_function family blackhole) }
+    ensures { OnOk result
+        (items_view items.new.items ≡ items_view items.old.items ++ blackhole_function family blackhole) }
 {
     if blackhole.is_none() {
         return Ok(());
@@ -156,7 +211,8 @@ fn is_too_long(alloc: Global, blackhole: Option<Addr>, high: u32) -> Result<Expr
 /// Adds the tests of the net's length.
 fn add_length_tests(alloc: Global, body: &mut Vec<Stmt>, router: &Router) -> Result<(), AllocError>
     ensures { OnOk result (stmts_view body.new.items ≡ stmts_view body.old.items
-        ++ when (is_too_long router.now.blackhole router.now.high) (drop_with 1 ∷ []) ∷ when (compared op.Lt attr.NetLen (int router.now.low)) (drop_with 2 ∷ []) ∷ []) }
+        ++ when (is_too_long router.now.blackhole router.now.high) (drop_with 1 ∷ []) ∷ when
+        (compared op.Lt attr.NetLen (int router.now.low)) (drop_with 2 ∷ []) ∷ []) }
 {
     let long = is_too_long(alloc, router.blackhole, router.high)?;
     add_drop_if(alloc, body, long, 1)?;
@@ -166,7 +222,8 @@ fn add_length_tests(alloc: Global, body: &mut Vec<Stmt>, router: &Router) -> Res
 /// Adds the tests of the path's length.
 fn add_path_tests(alloc: Global, body: &mut Vec<Stmt>) -> Result<(), AllocError>
     ensures { OnOk result (stmts_view body.new.items ≡ stmts_view body.old.items
-        ++ when (compared op.Eq attr.Len (int 0)) (drop_with 6 ∷ []) ∷ when (compared op.Gt attr.Len (int 64)) (drop_with 5 ∷ []) ∷ []) }
+        ++ when (compared op.Eq attr.Len (int 0)) (drop_with 6 ∷ []) ∷ when (compared op.Gt attr.Len (int 64))
+        (drop_with 5 ∷ []) ∷ []) }
 {
     add_number_test(alloc, body, Op::Eq, Attr::Len, 0, 6)?;
     add_number_test(alloc, body, Op::Gt, Attr::Len, 64, 5)
@@ -261,7 +318,8 @@ fn add_answer(
     test: Expr,
     answer: bool,
 ) -> Result<(), AllocError>
-    ensures { OnOk result (stmts_view body.new.items ≡ stmts_view body.old.items ++ answers (expr_view test) answer ∷ []) }
+    ensures { OnOk result
+        (stmts_view body.new.items ≡ stmts_view body.old.items ++ answers (expr_view test) answer ∷ []) }
 {
     add_return_if(alloc, body, test, truth_value(answer))
 }
@@ -274,7 +332,9 @@ fn add_peer_answer(
     action: u32,
     answer: bool,
 ) -> Result<(), AllocError>
-    ensures { OnOk result (stmts_view body.new.items ≡ stmts_view body.old.items ++ answers (asks_peer rs.0 action) answer ∷ []) }
+    ensures { OnOk result
+        (stmts_view body.new.items ≡ stmts_view body.old.items
+        ++ answers (asks_peer rs.0 action) answer ∷ []) }
 {
     let test = asks_peer(alloc, rs, action)?;
     add_answer(alloc, body, test, answer)
@@ -288,7 +348,9 @@ fn add_all_answer(
     action: u32,
     answer: bool,
 ) -> Result<(), AllocError>
-    ensures { OnOk result (stmts_view body.new.items ≡ stmts_view body.old.items ++ answers (asks_all rs.0 action) answer ∷ []) }
+    ensures { OnOk result
+        (stmts_view body.new.items ≡ stmts_view body.old.items
+        ++ answers (asks_all rs.0 action) answer ∷ []) }
 {
     let test = asks_all(alloc, rs, action)?;
     add_answer(alloc, body, test, answer)
@@ -297,7 +359,8 @@ fn add_all_answer(
 /// What the communities of two parts say, for the peer and for all.
 fn pair_tests(alloc: Global, rs: Asn) -> Result<Vec<Stmt>, AllocError>
     ensures { IfOk result (λ v. stmts_view v.items
-        ≡ answers (pairs_peer 0) false ∷ answers (pairs_peer rs.0) true ∷ answers (pairs_server 0 rs.0) false ∷ answers (pairs_server rs.0 rs.0) true ∷ []) }
+        ≡ answers (pairs_peer 0) false ∷ answers (pairs_peer rs.0) true ∷ answers
+        (pairs_server 0 rs.0) false ∷ answers (pairs_server rs.0 rs.0) true ∷ []) }
 {
     let mut body = Vec::new(alloc);
     add_answer(alloc, &mut body, pairs_peer(alloc, 0)?, false)?;
@@ -340,7 +403,8 @@ fn add_peer_count(
     action: u32,
     times: u32,
 ) -> Result<(), AllocError>
-    ensures { OnOk result (stmts_view body.new.items ≡ stmts_view body.old.items ++ counts (asks_peer rs.0 action) times ∷ []) }
+    ensures { OnOk result
+        (stmts_view body.new.items ≡ stmts_view body.old.items ++ counts (asks_peer rs.0 action) times ∷ []) }
 {
     let test = asks_peer(alloc, rs, action)?;
     add_return_if(alloc, body, test, int(times))
@@ -354,7 +418,8 @@ fn add_all_count(
     action: u32,
     times: u32,
 ) -> Result<(), AllocError>
-    ensures { OnOk result (stmts_view body.new.items ≡ stmts_view body.old.items ++ counts (asks_all rs.0 action) times ∷ []) }
+    ensures { OnOk result
+        (stmts_view body.new.items ≡ stmts_view body.old.items ++ counts (asks_all rs.0 action) times ∷ []) }
 {
     let test = asks_all(alloc, rs, action)?;
     add_return_if(alloc, body, test, int(times))
@@ -362,7 +427,8 @@ fn add_all_count(
 
 fn add_peer_counts(alloc: Global, body: &mut Vec<Stmt>, rs: Asn) -> Result<(), AllocError>
     ensures { OnOk result (stmts_view body.new.items ≡ stmts_view body.old.items
-        ++ counts (asks_peer rs.0 PREPEND_THRICE) 3 ∷ counts (asks_peer rs.0 PREPEND_TWICE) 2 ∷ counts (asks_peer rs.0 PREPEND_ONCE) 1 ∷ counts (asks_peer rs.0 SEND_TO) 0 ∷ []) }
+        ++ counts (asks_peer rs.0 PREPEND_THRICE) 3 ∷ counts (asks_peer rs.0 PREPEND_TWICE) 2 ∷ counts
+        (asks_peer rs.0 PREPEND_ONCE) 1 ∷ counts (asks_peer rs.0 SEND_TO) 0 ∷ []) }
 {
     add_peer_count(alloc, body, rs, PREPEND_THRICE, 3)?;
     add_peer_count(alloc, body, rs, PREPEND_TWICE, 2)?;
@@ -372,7 +438,8 @@ fn add_peer_counts(alloc: Global, body: &mut Vec<Stmt>, rs: Asn) -> Result<(), A
 
 fn add_all_counts(alloc: Global, body: &mut Vec<Stmt>, rs: Asn) -> Result<(), AllocError>
     ensures { OnOk result (stmts_view body.new.items ≡ stmts_view body.old.items
-        ++ counts (asks_all rs.0 PREPEND_THRICE) 3 ∷ counts (asks_all rs.0 PREPEND_TWICE) 2 ∷ counts (asks_all rs.0 PREPEND_ONCE) 1 ∷ []) }
+        ++ counts (asks_all rs.0 PREPEND_THRICE) 3 ∷ counts (asks_all rs.0 PREPEND_TWICE) 2 ∷ counts
+        (asks_all rs.0 PREPEND_ONCE) 1 ∷ []) }
 {
     add_all_count(alloc, body, rs, PREPEND_THRICE, 3)?;
     add_all_count(alloc, body, rs, PREPEND_TWICE, 2)?;
@@ -438,7 +505,10 @@ fn add_pairs_taken_away(alloc: Global, body: &mut Vec<Stmt>, rs: Asn) -> Result<
 
 /// The large communities that no receiver gets.
 fn own_triples(alloc: Global, rs: Asn) -> Result<Expr, AllocError>
-    ensures { IfOk result (λ e. expr_view e ≡ all_large rs.0 (KEEP_FROM ∷ SEND_TO ∷ PREPEND_ONCE ∷ PREPEND_TWICE ∷ PREPEND_THRICE ∷ ORIGIN_STATE ∷ FINDING ∷ REFUSED ∷ [])) }
+    ensures { IfOk result
+        (λ e. expr_view e ≡ all_large rs.0
+        (KEEP_FROM ∷ SEND_TO ∷ PREPEND_ONCE ∷ PREPEND_TWICE ∷ PREPEND_THRICE ∷ ORIGIN_STATE ∷ FINDING ∷
+        REFUSED ∷ [])) }
 {
     let actions = [
         KEEP_FROM,
@@ -481,7 +551,9 @@ fn add_tables(alloc: Global, items: &mut Vec<Item>, router: &Router) -> Result<(
 
 /// Adds the nets that nobody may announce.
 fn add_bogons(alloc: Global, items: &mut Vec<Item>, h: &HeaderInputs) -> Result<(), AllocError>
-    ensures { OnOk result (items_view items.new.items ≡ items_view items.old.items ++ defined (codes "ixp_bogons") set.Prefixes (bogons_of h.now)) }
+    ensures { OnOk result
+        (items_view items.new.items ≡ items_view items.old.items
+        ++ defined (codes "ixp_bogons") set.Prefixes (bogons_of h.now)) }
 {
     let bogons = bogons_of(alloc, h)?;
     let name = Name::new(alloc, b"ixp_bogons")?;
@@ -495,7 +567,9 @@ fn add_bogon_ranges(
     items: &mut Vec<Item>,
     h: &HeaderInputs,
 ) -> Result<(), AllocError>
-    ensures { OnOk result (items_view items.new.items ≡ items_view items.old.items ++ defined (codes "ixp_bogon_as") set.Ints (joined_ranges h.now.bogon_as)) }
+    ensures { OnOk result
+        (items_view items.new.items ≡ items_view items.old.items
+        ++ defined (codes "ixp_bogon_as") set.Ints (joined_ranges h.now.bogon_as)) }
 {
     let ranges = h.bogon_as.as_slice();
     let joined = joined_ranges(alloc, ranges)?;
@@ -506,7 +580,9 @@ fn add_bogon_ranges(
 
 /// Adds the networks that buy no transit.
 fn add_transit_set(alloc: Global, items: &mut Vec<Item>, h: &HeaderInputs) -> Result<(), AllocError>
-    ensures { OnOk result (items_view items.new.items ≡ items_view items.old.items ++ defined (codes "ixp_transit_as") numbers h.now.transit) }
+    ensures { OnOk result
+        (items_view items.new.items ≡ items_view items.old.items
+        ++ defined (codes "ixp_transit_as") numbers h.now.transit) }
 {
     let transit = h.transit.as_slice();
     let name = Name::new(alloc, b"ixp_transit_as")?;
@@ -554,7 +630,8 @@ fn add_bogon_as(alloc: Global, items: &mut Vec<Item>, h: &HeaderInputs) -> Resul
 
 /// Adds the function that refuses the networks that buy no transit.
 fn add_transit(alloc: Global, items: &mut Vec<Item>, h: &HeaderInputs) -> Result<(), AllocError>
-    ensures { OnOk result (items_view items.new.items ≡ items_view items.old.items ++ transit_item h.now ∷ []) }
+    ensures { OnOk result
+        (items_view items.new.items ≡ items_view items.old.items ++ transit_item h.now ∷ []) }
 {
     let body = transit_body(alloc, h)?;
     let name = Name::new(alloc, b"ixp_transit")?;
@@ -564,7 +641,9 @@ fn add_transit(alloc: Global, items: &mut Vec<Item>, h: &HeaderInputs) -> Result
 
 /// Adds the functions that refuse routes of any session.
 fn add_tests(alloc: Global, items: &mut Vec<Item>, h: &HeaderInputs) -> Result<(), AllocError>
-    ensures { OnOk result (items_view items.new.items ≡ items_view items.old.items ++ net_item h.now ∷ as_item h.now ∷ transit_item h.now ∷ []) }
+    ensures { OnOk result
+        (items_view items.new.items ≡ items_view items.old.items
+        ++ net_item h.now ∷ as_item h.now ∷ transit_item h.now ∷ []) }
 {
     add_net(alloc, items, h)?;
     add_bogon_as(alloc, items, h)?;
@@ -600,7 +679,9 @@ fn add_pads(alloc: Global, items: &mut Vec<Item>) -> Result<(), AllocError>
 
 /// Adds the functions that read what the communities of a route ask for.
 fn add_steering(alloc: Global, items: &mut Vec<Item>, rs: Asn) -> Result<(), AllocError>
-    ensures { OnOk result (items_view items.new.items ≡ items_view items.old.items ++ sends_item rs.0 ∷ count_item rs.0 ∷ pad_item ∷ []) }
+    ensures { OnOk result
+        (items_view items.new.items ≡ items_view items.old.items
+        ++ sends_item rs.0 ∷ count_item rs.0 ∷ pad_item ∷ []) }
 {
     add_sends(alloc, items, rs)?;
     add_count(alloc, items, rs)?;
@@ -614,7 +695,8 @@ fn add_out(
     rs: Asn,
     blackhole: Option<Addr>,
 ) -> Result<(), AllocError>
-    ensures { OnOk result (items_view items.new.items ≡ items_view items.old.items ++ out_item rs.0 blackhole ∷ []) }
+    ensures { OnOk result
+        (items_view items.new.items ≡ items_view items.old.items ++ out_item rs.0 blackhole ∷ []) }
 {
     let body = out_body(alloc, rs, blackhole)?;
     let name = Name::new(alloc, b"ixp_out")?;

@@ -1,5 +1,5 @@
--- The text of a route server by the rows of a registry, and when a text does what the rules over the rows say. This page and what
--- it names is what there is to believe of generated texts.
+-- The text of a route server by the rows of a registry, and when a text does what the rules over the rows
+-- say. This page and what it names is what there is to believe of generated texts.
 use Rattle.std.specs.Prelude.{◌≡◌, ℕ, true, List, Option, Some, Ok, codes, reverse}
 use Rattle.std.specs.Option.{is_some}
 use Rattle.ixp_lang.specs.declared.route.Route.{Route}
@@ -28,9 +28,9 @@ Gen r router = config_text (generated r router)
 abbrev pub Part : Registry → Router → Session → List ℕ
 Part r router s = config_text (own_part r router s)
 
--- The text spells a configuration. Every route of the router's family that a session brings has by it, with the ROAs of the
--- registry, the fate that the rules say: what the session's table holds, whether it passes, and what each other session is sent.
--- None of them is a fault.
+-- The text spells a configuration. Every route of the router's family that a session brings has by it, with
+-- the ROAs of the registry, the fate that the rules say: what the session's table holds, whether it passes,
+-- and what each other session is sent. None of them is a fault.
 pub record Right (text : List ℕ) (r : Registry) (router : Router) : Type 0 where
   pub configuration : List ItemTree
   pub is_spelt : SpellsText text configuration
@@ -38,16 +38,17 @@ pub record Right (text : List ℕ) (r : Registry) (router : Router) : Type 0 whe
       (n : ℕ) (s : Session) (route : Route) → session r router n ≡ Some s → route.net.family ≡ router.family
       → walk configuration (roa_tables r) (bgp_name n) route ≡ Ok (fate_of r router route s)
 
--- `ixp_sends` says of the route and each receiver's AS number whether it is to be sent there, and `ixp_count` how often the
--- sender's number is put in front: this is the wish.
+-- `ixp_sends` says of the route and each receiver's AS number whether it is to be sent there, and `ixp_count`
+-- how often the sender's number is put in front: this is the wish.
 abbrev pub SendsAsWished : List ItemTree → Route → (ℕ → Option ℕ) → Type 0
 SendsAsWished configuration route wished =
     (env : Environment) (to : ℕ)
     → (function_end env (reverse configuration) (codes "ixp_sends") to route ≡ Ok (Bool (is_some (wished to))))
     × ((times : ℕ) → wished to ≡ Some times → function_end env (reverse configuration) (codes "ixp_count") to route ≡ Ok (Int times))
 
--- The text spells a configuration. Every route of the session's family has by it, from that session, the table and the verdict
--- that the rules say. Where it passes, the filter up accepts what the table holds as a route that tells the wish for every receiver.
+-- The text spells a configuration. Every route of the session's family has by it, from that session, the
+-- table and the verdict that the rules say. Where it passes, the filter up accepts what the table holds as a
+-- route that tells the wish for every receiver.
 pub record RightOwn (text : List ℕ) (r : Registry) (router : Router) (n : ℕ) (s : Session) : Type 0 where
   pub configuration : List ItemTree
   pub is_spelt : SpellsText text configuration

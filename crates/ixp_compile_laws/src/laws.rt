@@ -17,32 +17,42 @@ ghost use Rattle.ixp_compile_laws.specs.Right.{Gen, Part, Right, RightOwn};
 
 /// The text of a router of a valid registry is sound, and so is each session's own text.
 pub fn generated_text_is_sound()
-    ensures whole { (r : Registry) (handle : List ℕ) (router : Router) → Valid r → find router_key handle r.routers ≡ Some router → is_sound (generated r router) ≡ true }
-    ensures own { (r : Registry) (handle : List ℕ) (router : Router) (n : ℕ) (s : Session) → Valid r → find router_key handle r.routers ≡ Some router → session r router n ≡ Some s →
+    ensures whole { (r : Registry) (handle : List ℕ) (router : Router) → Valid r
+        → find router_key handle r.routers ≡ Some router → is_sound (generated r router) ≡ true }
+    ensures own { (r : Registry) (handle : List ℕ) (router : Router) (n : ℕ) (s : Session) → Valid r
+        → find router_key handle r.routers ≡ Some router → session r router n ≡ Some s →
         is_sound (own_part r router s) ≡ true }
 {}
 
 /// The canonical tokens of these texts spell them, with nothing left over.
 pub fn generated_text_is_spelt()
-    ensures whole { (r : Registry) (handle : List ℕ) (router : Router) → Valid r → find router_key handle r.routers ≡ Some router →
+    ensures whole { (r : Registry) (handle : List ℕ) (router : Router) → Valid r
+        → find router_key handle r.routers ≡ Some router →
         Took config_form (generated r router) (config_tokens (generated r router)) [] }
-    ensures own { (r : Registry) (handle : List ℕ) (router : Router) (n : ℕ) (s : Session) → Valid r → find router_key handle r.routers ≡ Some router → session r router n ≡ Some s →
+    ensures own { (r : Registry) (handle : List ℕ) (router : Router) (n : ℕ) (s : Session) → Valid r
+        → find router_key handle r.routers ≡ Some router → session r router n ≡ Some s →
         Took config_form (own_part r router s) (config_tokens (own_part r router s)) [] }
 {}
 
 /// What is printed of these texts spells them, and nothing else.
 pub fn generated_text_is_read_back()
-    ensures whole { (r : Registry) (handle : List ℕ) (router : Router) → Valid r → find router_key handle r.routers ≡ Some router →
+    ensures whole { (r : Registry) (handle : List ℕ) (router : Router) → Valid r
+        → find router_key handle r.routers ≡ Some router →
         SpellsText (Gen r router) (generated r router) }
-    ensures own { (r : Registry) (handle : List ℕ) (router : Router) (n : ℕ) (s : Session) → Valid r → find router_key handle r.routers ≡ Some router → session r router n ≡ Some s →
+    ensures own { (r : Registry) (handle : List ℕ) (router : Router) (n : ℕ) (s : Session) → Valid r
+        → find router_key handle r.routers ≡ Some router → session r router n ≡ Some s →
         SpellsText (Part r router s) (own_part r router s) }
-    ensures alone { (r : Registry) (handle : List ℕ) (router : Router) (other : List ItemTree) → Valid r → find router_key handle r.routers ≡ Some router →
+    ensures alone { (r : Registry) (handle : List ℕ) (router : Router) (other : List ItemTree) → Valid r
+        → find router_key handle r.routers ≡ Some router →
         SpellsText (Gen r router) other → other ≡ generated r router }
 {}
 
-/// The text of a router does what the rules over the rows say, for every session and every route; so does a session's own text.
+/// The text of a router does what the rules over the rows say, for every session and every route; so does a
+/// session's own text.
 pub fn generated_text_is_right()
-    ensures whole { (r : Registry) (handle : List ℕ) (router : Router) → Valid r → find router_key handle r.routers ≡ Some router → Right (Gen r router) r router }
-    ensures own { (r : Registry) (handle : List ℕ) (router : Router) (n : ℕ) (s : Session) → Valid r → find router_key handle r.routers ≡ Some router → session r router n ≡ Some s →
+    ensures whole { (r : Registry) (handle : List ℕ) (router : Router) → Valid r
+        → find router_key handle r.routers ≡ Some router → Right (Gen r router) r router }
+    ensures own { (r : Registry) (handle : List ℕ) (router : Router) (n : ℕ) (s : Session) → Valid r
+        → find router_key handle r.routers ≡ Some router → session r router n ≡ Some s →
         RightOwn (Part r router s) r router n s }
 {}

@@ -1,7 +1,8 @@
 //! The text of a route server of a valid registry, by the server's handle.
 //!
-//! [`text_of`] gives the text `Gen` of `ixp_compile_laws`, which that crate proves to be read back as it was generated, and to do what the
-//! rules over the rows say. Commands and the interface hand out no other configuration.
+//! [`text_of`] gives the text `Gen` of `ixp_compile_laws`, which that crate proves to be read back as it was
+//! generated, and to do what the rules over the rows say. Commands and the interface hand out no other
+//! configuration.
 ghost use Rattle.std.specs.Prelude.{◌≡◌, IfOk};
 ghost use Rattle.std.specs.Option.{option_map};
 ghost use Rattle.ixp_registry.specs.Valid.{Valid};

@@ -1,4 +1,5 @@
--- The items of a text that have long bodies, each shut, so that a proof about several of them sees none of their statements.
+-- The items of a text that have long bodies, each shut, so that a proof about several of them sees none of
+-- their statements.
 use Rattle.std.specs.Prelude.{ℕ, List, [], ◌∷◌, ◌++◌, Option, codes}
 use Rattle.ixp_num.specs.declared.addr.Addr.{Addr}
 use Rattle.ixp_num.specs.declared.pattern.Pattern.{Pattern}

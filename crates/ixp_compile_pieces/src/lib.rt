@@ -1,7 +1,8 @@
 //! Small pieces of a route server's text: a function for each form of expression, statement and item.
 //!
-//! What gives several statements adds them to a body, and says which trees stand behind those that were there. The parts of a
-//! text (`specs/Items.antt`) have names of their own, so that who puts them together looks into none of them.
+//! What gives several statements adds them to a body, and says which trees stand behind those that were
+//! there. The parts of a text (`specs/Items.antt`) have names of their own, so that who puts them together
+//! looks into none of them.
 #![tactic(auto)]
 
 mod pieces;

@@ -2,12 +2,44 @@
 ghost use Rattle.std.specs.Prelude.{◌≡◌, ◌++◌, ◌∷◌, [], map, codes, nat_le, IsTrue, IfOk, OnOk, None};
 ghost use Rattle.ixp_num.specs.Families.{same_family};
 ghost use Rattle.ixp_num.specs.Names.{is_name};
-ghost use Rattle.ixp_lang.specs.Trees.{literal, named, attribute, call, pair, triple, set_literal, negation, conjunction, comparison, exprs, return_value, stmts, function_item, filter_item};
+ghost use Rattle.ixp_lang.specs.Trees.{
+  literal,
+  named,
+  attribute,
+  call,
+  pair,
+  triple,
+  set_literal,
+  negation,
+  conjunction,
+  comparison,
+  exprs,
+  return_value,
+  stmts,
+  function_item,
+  filter_item,
+};
 ghost use Rattle.ixp_lang.specs.Views.{expr_view, stmt_view, stmts_view, item_view};
 ghost use Rattle.ixp_lang.specs.declared.expr.Op.TheVariants as op;
 ghost use Rattle.ixp_lang.specs.declared.item.Ty.TheVariants as ty;
 ghost use Rattle.ixp_lang.specs.declared.value.SetLit.TheVariants as set;
-ghost use Rattle.ixp_compile.specs.Pieces.{int, truth_value, compared, all_large, numbers, when, run, drop_with, tell, defined, where_any, master, roas, table_kind, roa_kind};
+ghost use Rattle.ixp_compile.specs.Pieces.{
+  int,
+  truth_value,
+  compared,
+  all_large,
+  numbers,
+  when,
+  run,
+  drop_with,
+  tell,
+  defined,
+  where_any,
+  master,
+  roas,
+  table_kind,
+  roa_kind,
+};
 ghost use Rattle.ixp_compile_pieces.specs.Made.{items_view};
 
 use ixp_lang::{Attr, Expr, Item, Kind, Op, SetLit, Stmt, Ty, Value};
@@ -190,7 +222,9 @@ pub fn add_when(
     test: Expr,
     yes: Vec<Stmt>,
 ) -> Result<(), AllocError>
-    ensures { OnOk result (stmts_view body.new.items ≡ stmts_view body.old.items ++ when (expr_view test) (stmts_view yes.items) ∷ []) }
+    ensures { OnOk result
+        (stmts_view body.new.items ≡ stmts_view body.old.items
+        ++ when (expr_view test) (stmts_view yes.items) ∷ []) }
 {
     add(body, when(alloc, test, yes))
 }
@@ -229,7 +263,9 @@ pub fn add_drop_if(
     test: Expr,
     number: u32,
 ) -> Result<(), AllocError>
-    ensures { OnOk result (stmts_view body.new.items ≡ stmts_view body.old.items ++ when (expr_view test) (drop_with number ∷ []) ∷ []) }
+    ensures { OnOk result
+        (stmts_view body.new.items ≡ stmts_view body.old.items
+        ++ when (expr_view test) (drop_with number ∷ []) ∷ []) }
 {
     let mut yes = Vec::new(alloc);
     add_drop(alloc, &mut yes, number)?;
@@ -245,7 +281,9 @@ pub fn add_number_test(
     bound: u32,
     number: u32,
 ) -> Result<(), AllocError>
-    ensures { OnOk result (stmts_view body.new.items ≡ stmts_view body.old.items ++ when (compared op attr (int bound)) (drop_with number ∷ []) ∷ []) }
+    ensures { OnOk result
+        (stmts_view body.new.items ≡ stmts_view body.old.items
+        ++ when (compared op attr (int bound)) (drop_with number ∷ []) ∷ []) }
 {
     let test = compared_number(alloc, op, attr, bound)?;
     add_drop_if(alloc, body, test, number)
@@ -261,7 +299,9 @@ pub fn add_set_test<T>(
     number: u32,
 ) -> Result<(), AllocError>
     requires { IsTrue (is_name name.now) }
-    ensures { OnOk result (stmts_view body.new.items ≡ stmts_view body.old.items ++ where_any set.now (when (compared op.In attr (named name.now)) (drop_with number ∷ []) ∷ [])) }
+    ensures { OnOk result
+        (stmts_view body.new.items ≡ stmts_view body.old.items
+        ++ where_any set.now (when (compared op.In attr (named name.now)) (drop_with number ∷ []) ∷ [])) }
 {
     if set.is_empty() {
         return Ok(());
@@ -286,7 +326,9 @@ pub fn add_return_if(
     test: Expr,
     value: Expr,
 ) -> Result<(), AllocError>
-    ensures { OnOk result (stmts_view body.new.items ≡ stmts_view body.old.items ++ when (expr_view test) (return_value (expr_view value) ∷ []) ∷ []) }
+    ensures { OnOk result
+        (stmts_view body.new.items ≡ stmts_view body.old.items
+        ++ when (expr_view test) (return_value (expr_view value) ∷ []) ∷ []) }
 {
     let mut yes = Vec::new(alloc);
     add(&mut yes, Stmt::Return(value))?;
@@ -309,7 +351,9 @@ pub fn add_function(
     name: Name,
     body: Vec<Stmt>,
 ) -> Result<(), AllocError>
-    ensures { OnOk result (items_view items.new.items ≡ items_view items.old.items ++ function_item name [] (stmts (stmts_view body.items)) ∷ []) }
+    ensures { OnOk result
+        (items_view items.new.items ≡ items_view items.old.items
+        ++ function_item name [] (stmts (stmts_view body.items)) ∷ []) }
 {
     let params = Items::new(alloc);
     add_item(items, Item::Function { name, params, body })
@@ -325,7 +369,9 @@ pub fn add_function_with(
 ) -> Result<(), AllocError>
     requires name { IsTrue (is_name name.now) }
     requires param { IsTrue (is_name param.now) }
-    ensures { OnOk result (items_view items.new.items ≡ items_view items.old.items ++ function_item name.now ((ty.Int, param.now) ∷ []) (stmts (stmts_view body.items)) ∷ []) }
+    ensures { OnOk result
+        (items_view items.new.items ≡ items_view items.old.items
+        ++ function_item name.now ((ty.Int, param.now) ∷ []) (stmts (stmts_view body.items)) ∷ []) }
 {
     let name = Name::new(alloc, name)?;
     let param = Name::new(alloc, param)?;
@@ -335,7 +381,9 @@ pub fn add_function_with(
 }
 
 pub fn add_filter(items: &mut Vec<Item>, name: Name, body: Vec<Stmt>) -> Result<(), AllocError>
-    ensures { OnOk result (items_view items.new.items ≡ items_view items.old.items ++ filter_item name (stmts (stmts_view body.items)) ∷ []) }
+    ensures { OnOk result
+        (items_view items.new.items ≡ items_view items.old.items
+        ++ filter_item name (stmts (stmts_view body.items)) ∷ []) }
 {
     add_item(items, Item::Filter { name, body })
 }
@@ -346,7 +394,8 @@ pub fn add_nets(
     name: Name,
     patterns: Items<Pattern>,
 ) -> Result<(), AllocError>
-    ensures { OnOk result (items_view items.new.items ≡ items_view items.old.items ++ defined name set.Prefixes patterns) }
+    ensures { OnOk result
+        (items_view items.new.items ≡ items_view items.old.items ++ defined name set.Prefixes patterns) }
 {
     if patterns.is_empty() {
         return Ok(());
@@ -361,7 +410,8 @@ pub fn add_ranges(
     name: Name,
     ranges: Items<(u32, u32)>,
 ) -> Result<(), AllocError>
-    ensures { OnOk result (items_view items.new.items ≡ items_view items.old.items ++ defined name set.Ints ranges) }
+    ensures { OnOk result
+        (items_view items.new.items ≡ items_view items.old.items ++ defined name set.Ints ranges) }
 {
     if ranges.is_empty() {
         return Ok(());
@@ -377,7 +427,8 @@ pub fn add_numbers(
     name: Name,
     asns: &[Asn],
 ) -> Result<(), AllocError>
-    ensures { OnOk result (items_view items.new.items ≡ items_view items.old.items ++ defined name numbers asns.now) }
+    ensures { OnOk result
+        (items_view items.new.items ≡ items_view items.old.items ++ defined name numbers asns.now) }
 {
     if asns.is_empty() {
         return Ok(());

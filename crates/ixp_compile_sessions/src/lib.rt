@@ -1,6 +1,8 @@
-//! The part of a session in a route server's text: the member's sets, its filters and functions, and the protocols.
+//! The part of a session in a route server's text: the member's sets, its filters and functions, and the
+//! protocols.
 //!
-//! [`add_fragment`] adds the items that `Fragment.antt` and `MemberRules.antt` of `ixp_compile` define, in their order.
+//! [`add_fragment`] adds the items that `Fragment.antt` and `MemberRules.antt` of `ixp_compile` define, in
+//! their order.
 #![tactic(auto)]
 
 mod member_rules;

@@ -4,7 +4,25 @@ ghost use Rattle.ixp_num_tables.specs.Tables.{if_there};
 ghost use Rattle.ixp_lang.specs.Trees.{set_literal, delete_triples};
 ghost use Rattle.ixp_lang.specs.Views.{expr_view, stmts_view};
 ghost use Rattle.ixp_lang.specs.declared.value.SetLit.TheVariants as set;
-ghost use Rattle.ixp_compile.specs.MemberRules.{action_written, advertise_rule, advertise_rules, any_number, is_of_family, is_printed, is_receive, net_within, number_or_0, pairs_rewritten, receive_body, receive_rule, receive_test, rewriting, sender_is, steering_actions, within};
+ghost use Rattle.ixp_compile.specs.MemberRules.{
+  action_written,
+  advertise_rule,
+  advertise_rules,
+  any_number,
+  is_of_family,
+  is_printed,
+  is_receive,
+  net_within,
+  number_or_0,
+  pairs_rewritten,
+  receive_body,
+  receive_rule,
+  receive_test,
+  rewriting,
+  sender_is,
+  steering_actions,
+  within,
+};
 
 use ixp_compile_pieces::{
     add, add_return_if, add_tell, add_when, both, compared, compared_number, fits_pair, large,
@@ -99,7 +117,8 @@ fn add_pairs_rewritten(
     rs: Asn,
     peer: Option<Asn>,
 ) -> Result<(), AllocError>
-    ensures { OnOk result (stmts_view body.new.items ≡ stmts_view body.old.items ++ pairs_rewritten rs.0 peer) }
+    ensures { OnOk result
+        (stmts_view body.new.items ≡ stmts_view body.old.items ++ pairs_rewritten rs.0 peer) }
 {
     if !fit_pair(rs, peer) {
         return Ok(());
@@ -115,7 +134,10 @@ fn add_triples_taken_away(
     rs: Asn,
     peer: Option<Asn>,
 ) -> Result<(), AllocError>
-    ensures { OnOk result (stmts_view body.new.items ≡ stmts_view body.old.items ++ delete_triples (set_literal (set.Triples (map (λ a. (rs.0, a, any_number peer)) steering_actions))) ∷ []) }
+    ensures { OnOk result
+        (stmts_view body.new.items ≡ stmts_view body.old.items
+        ++ delete_triples (set_literal
+        (set.Triples (map (λ a. (rs.0, a, any_number peer)) steering_actions))) ∷ []) }
 {
     let actions = [
         KEEP_FROM,
@@ -133,7 +155,8 @@ fn add_triples_taken_away(
 
 /// Adds what the action writes for the peer.
 fn add_action(body: &mut Vec<Stmt>, rs: Asn, peer: u32, action: Action) -> Result<(), AllocError>
-    ensures { OnOk result (stmts_view body.new.items ≡ stmts_view body.old.items ++ action_written rs.0 peer action) }
+    ensures { OnOk result
+        (stmts_view body.new.items ≡ stmts_view body.old.items ++ action_written rs.0 peer action) }
 {
     match action {
         Action::Stop => add_tell(body, rs, 0, peer),
@@ -164,7 +187,8 @@ fn add_advertise_rule(
     rs: Asn,
     rule: &MemberRule,
 ) -> Result<(), AllocError>
-    ensures { OnOk result (stmts_view body.new.items ≡ stmts_view body.old.items ++ advertise_rule rs.0 rule.now) }
+    ensures { OnOk result
+        (stmts_view body.new.items ≡ stmts_view body.old.items ++ advertise_rule rs.0 rule.now) }
 {
     let Some(prefix) = rule.prefix else {
         return add_rewriting(alloc, body, rs, rule);
@@ -184,7 +208,8 @@ pub(crate) fn add_advertise_rules(
     family: Family,
     rules: &[MemberRule],
 ) -> Result<(), AllocError>
-    ensures { OnOk result (stmts_view body.new.items ≡ stmts_view body.old.items ++ advertise_rules rs.0 family rules.now) }
+    ensures { OnOk result
+        (stmts_view body.new.items ≡ stmts_view body.old.items ++ advertise_rules rs.0 family rules.now) }
 {
     let mut left = rules;
     'each: while let Some((rule, earlier)) = left.split_last() {
@@ -234,7 +259,8 @@ fn add_receive_rule(
     body: &mut Vec<Stmt>,
     rule: &MemberRule,
 ) -> Result<(), AllocError>
-    ensures { OnOk result (stmts_view body.new.items ≡ stmts_view body.old.items ++ receive_rule rule.now ∷ []) }
+    ensures { OnOk result
+        (stmts_view body.new.items ≡ stmts_view body.old.items ++ receive_rule rule.now ∷ []) }
 {
     let test = receive_test(alloc, rule.peer, rule.prefix)?;
     add_return_if(alloc, body, test, truth_value(!rule.action.is_stop()))

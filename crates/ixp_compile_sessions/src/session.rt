@@ -1,6 +1,22 @@
 //! A session's part of a route server's text.
 ghost use Rattle.std.specs.Prelude.{◌≡◌, ◌++◌, ◌∷◌, List, [], codes, IfOk, OnOk};
-ghost use Rattle.ixp_lang.specs.Trees.{attribute, call, named, set_literal, negation, exprs, if_then, accept, reject, call_statement, delete_triples, stmts, table_item, function_item, filter_item};
+ghost use Rattle.ixp_lang.specs.Trees.{
+  attribute,
+  call,
+  named,
+  set_literal,
+  negation,
+  exprs,
+  if_then,
+  accept,
+  reject,
+  call_statement,
+  delete_triples,
+  stmts,
+  table_item,
+  function_item,
+  filter_item,
+};
 ghost use Rattle.ixp_lang.specs.Views.{expr_view, stmt_view, stmts_view};
 ghost use Rattle.ixp_lang.specs.declared.expr.Attr.TheVariants as attr;
 ghost use Rattle.ixp_lang.specs.declared.expr.Op.TheVariants as op;
@@ -9,7 +25,39 @@ ghost use Rattle.ixp_num.specs.declared.pattern.Pattern.{Pattern};
 ghost use Rattle.ixp_num.specs.declared.roa.Validity.TheVariants.{Valid};
 ghost use Rattle.ixp_compile.specs.Pieces.{int, all_large, compared, drop_with, tell, run, when, table_kind};
 ghost use Rattle.ixp_compile.specs.MemberRules.{receive_body};
-ghost use Rattle.ixp_compile.specs.Fragment.{bgp_of, blackhole_name, blackhole_set, blackhole_test, down_body, down_name, first_tests, fragment, if_not_0, if_not_empty, in_body, in_name, irr_name, member_sets, net_test, next_hop_test, origin_test, origins_name, pipe_of, prefix_test, protocols, receive_name, registered_origin, session_filters, state_is, state_test, table_name, told_registered, transit_test, up_body, up_name};
+ghost use Rattle.ixp_compile.specs.Fragment.{
+  bgp_of,
+  blackhole_name,
+  blackhole_set,
+  blackhole_test,
+  down_body,
+  down_name,
+  first_tests,
+  fragment,
+  if_not_0,
+  if_not_empty,
+  in_body,
+  in_name,
+  irr_name,
+  member_sets,
+  net_test,
+  next_hop_test,
+  origin_test,
+  origins_name,
+  pipe_of,
+  prefix_test,
+  protocols,
+  receive_name,
+  registered_origin,
+  session_filters,
+  state_is,
+  state_test,
+  table_name,
+  told_registered,
+  transit_test,
+  up_body,
+  up_name,
+};
 ghost use Rattle.ixp_compile_pieces.specs.Items.{down_item, in_item, receive_item, up_item};
 ghost use Rattle.ixp_compile_pieces.specs.Made.{items_view};
 
@@ -34,7 +82,8 @@ fn add_member_sets(
     irr: Items<Pattern>,
     blackholes: Items<Pattern>,
 ) -> Result<(), AllocError>
-    ensures { OnOk result (items_view items.new.items ≡ items_view items.old.items ++ member_sets i.now irr blackholes) }
+    ensures { OnOk result
+        (items_view items.new.items ≡ items_view items.old.items ++ member_sets i.now irr blackholes) }
 {
     if !i.address.irr {
         return Ok(());
@@ -52,7 +101,9 @@ fn add_member_sets(
 
 /// What is done with a route whose next hop isn't the session's address.
 fn other_hop(alloc: Global, i: &Inputs) -> Result<Stmt, AllocError>
-    ensures { IfOk result (λ s. stmt_view s ≡ if_then (compared op.In attr.NextHop (set_literal (set.Ips i.now.addresses))) (stmts (tell i.now.rs.0 FINDING 1200 ∷ [])) (stmts (drop_with 8 ∷ []))) }
+    ensures { IfOk result
+        (λ s. stmt_view s ≡ if_then (compared op.In attr.NextHop (set_literal (set.Ips i.now.addresses)))
+        (stmts (tell i.now.rs.0 FINDING 1200 ∷ [])) (stmts (drop_with 8 ∷ []))) }
 {
     let mut yes = Vec::new(alloc);
     add_tell(&mut yes, i.rs, FINDING, 1200)?;
@@ -65,7 +116,8 @@ fn other_hop(alloc: Global, i: &Inputs) -> Result<Stmt, AllocError>
 }
 
 fn add_next_hop_test(alloc: Global, body: &mut Vec<Stmt>, i: &Inputs) -> Result<(), AllocError>
-    ensures { OnOk result (stmts_view body.new.items ≡ stmts_view body.old.items ++ next_hop_test i.now ∷ []) }
+    ensures { OnOk result
+        (stmts_view body.new.items ≡ stmts_view body.old.items ++ next_hop_test i.now ∷ []) }
 {
     let mut yes = Vec::new(alloc);
     add(&mut yes, other_hop(alloc, i)?)?;
@@ -84,7 +136,9 @@ fn add_transit_test(alloc: Global, body: &mut Vec<Stmt>, i: &Inputs) -> Result<(
 
 /// Adds what is done where the member has registered no origin.
 fn add_unregistered(alloc: Global, body: &mut Vec<Stmt>, rs: Asn) -> Result<(), AllocError>
-    ensures { OnOk result (stmts_view body.new.items ≡ stmts_view body.old.items ++ tell rs.0 FINDING 1002 ∷ drop_with 10 ∷ []) }
+    ensures { OnOk result
+        (stmts_view body.new.items ≡ stmts_view body.old.items
+        ++ tell rs.0 FINDING 1002 ∷ drop_with 10 ∷ []) }
 {
     add_tell(body, rs, FINDING, 1002)?;
     add_drop(alloc, body, 10)
@@ -96,7 +150,9 @@ fn add_origin_set_test(
     body: &mut Vec<Stmt>,
     interface: u32,
 ) -> Result<(), AllocError>
-    ensures { OnOk result (stmts_view body.new.items ≡ stmts_view body.old.items ++ when (compared op.NotIn attr.Last (named (origins_name interface))) (drop_with 10 ∷ []) ∷ []) }
+    ensures { OnOk result
+        (stmts_view body.new.items ≡ stmts_view body.old.items
+        ++ when (compared op.NotIn attr.Last (named (origins_name interface))) (drop_with 10 ∷ []) ∷ []) }
 {
     let name = numbered(alloc, b"org_", interface)?;
     let test = compared_name(alloc, Op::NotIn, Attr::Last, name)?;
@@ -104,7 +160,8 @@ fn add_origin_set_test(
 }
 
 fn add_registered_origin(alloc: Global, body: &mut Vec<Stmt>, i: &Inputs) -> Result<(), AllocError>
-    ensures { OnOk result (stmts_view body.new.items ≡ stmts_view body.old.items ++ registered_origin i.now i.now.origins) }
+    ensures { OnOk result
+        (stmts_view body.new.items ≡ stmts_view body.old.items ++ registered_origin i.now i.now.origins) }
 {
     if i.origins.is_empty() {
         return add_unregistered(alloc, body, i.rs);
@@ -129,7 +186,8 @@ fn add_net_test(
     name: Name,
     patterns: &[Pattern],
 ) -> Result<(), AllocError>
-    ensures { OnOk result (stmts_view body.new.items ≡ stmts_view body.old.items ++ net_test name patterns.now ∷ []) }
+    ensures { OnOk result
+        (stmts_view body.new.items ≡ stmts_view body.old.items ++ net_test name patterns.now ∷ []) }
 {
     if patterns.is_empty() {
         return add_drop(alloc, body, 9);
@@ -160,7 +218,8 @@ fn blackhole_steps(
     blackholes: &[Pattern],
 ) -> Result<Vec<Stmt>, AllocError>
     ensures { IfOk result (λ v. stmts_view v.items
-        ≡ tell i.now.rs.0 ORIGIN_STATE 3 ∷ net_test (blackhole_name i.now.interface) (blackhole_set i.now blackholes.now) ∷ told_registered i.now ++ accept ∷ []) }
+        ≡ tell i.now.rs.0 ORIGIN_STATE 3 ∷ net_test (blackhole_name i.now.interface)
+        (blackhole_set i.now blackholes.now) ∷ told_registered i.now ++ accept ∷ []) }
 {
     let mut body = Vec::new(alloc);
     add_tell(&mut body, i.rs, ORIGIN_STATE, 3)?;
@@ -177,7 +236,9 @@ fn add_blackhole_test(
     i: &Inputs,
     blackholes: &[Pattern],
 ) -> Result<(), AllocError>
-    ensures { OnOk result (stmts_view body.new.items ≡ stmts_view body.old.items ++ blackhole_test i.now blackholes.now i.now.blackhole) }
+    ensures { OnOk result
+        (stmts_view body.new.items ≡ stmts_view body.old.items
+        ++ blackhole_test i.now blackholes.now i.now.blackhole) }
 {
     if i.blackhole.is_none() {
         return Ok(());
@@ -228,7 +289,8 @@ fn add_prefix_test(
     i: &Inputs,
     irr: &[Pattern],
 ) -> Result<(), AllocError>
-    ensures { OnOk result (stmts_view body.new.items ≡ stmts_view body.old.items ++ prefix_test i.now irr.now) }
+    ensures { OnOk result
+        (stmts_view body.new.items ≡ stmts_view body.old.items ++ prefix_test i.now irr.now) }
 {
     if !i.address.irr {
         return Ok(());
@@ -239,7 +301,9 @@ fn add_prefix_test(
 
 /// Adds what takes away the communities that the server alone writes.
 fn add_own_taken_away(alloc: Global, body: &mut Vec<Stmt>, rs: Asn) -> Result<(), AllocError>
-    ensures { OnOk result (stmts_view body.new.items ≡ stmts_view body.old.items ++ delete_triples (all_large rs.0 (ORIGIN_STATE ∷ FINDING ∷ REFUSED ∷ [])) ∷ []) }
+    ensures { OnOk result
+        (stmts_view body.new.items ≡ stmts_view body.old.items
+        ++ delete_triples (all_large rs.0 (ORIGIN_STATE ∷ FINDING ∷ REFUSED ∷ [])) ∷ []) }
 {
     let triples = all_large(alloc, rs, &[ORIGIN_STATE, FINDING, REFUSED])?;
     add(body, Stmt::DeleteTriples(triples))
@@ -247,7 +311,10 @@ fn add_own_taken_away(alloc: Global, body: &mut Vec<Stmt>, rs: Asn) -> Result<()
 
 /// Adds what takes the server's own communities away, and the tests that all sessions share.
 fn add_cleaning(alloc: Global, body: &mut Vec<Stmt>, rs: Asn) -> Result<(), AllocError>
-    ensures { OnOk result (stmts_view body.new.items ≡ stmts_view body.old.items ++ delete_triples (all_large rs.0 (ORIGIN_STATE ∷ FINDING ∷ REFUSED ∷ [])) ∷ run (codes "ixp_net") ∷ []) }
+    ensures { OnOk result
+        (stmts_view body.new.items ≡ stmts_view body.old.items
+        ++ delete_triples (all_large rs.0 (ORIGIN_STATE ∷ FINDING ∷ REFUSED ∷ [])) ∷ run
+        (codes "ixp_net") ∷ []) }
 {
     add_own_taken_away(alloc, body, rs)?;
     add_run(alloc, body, b"ixp_net")
@@ -256,7 +323,8 @@ fn add_cleaning(alloc: Global, body: &mut Vec<Stmt>, rs: Asn) -> Result<(), Allo
 /// Adds the tests of who sent the route, and of the numbers of its path.
 fn add_sender_tests(alloc: Global, body: &mut Vec<Stmt>, i: &Inputs) -> Result<(), AllocError>
     ensures { OnOk result (stmts_view body.new.items ≡ stmts_view body.old.items
-        ++ when (compared op.Ne attr.First (int i.now.asn.0)) (drop_with 7 ∷ []) ∷ next_hop_test i.now ∷ run (codes "ixp_as") ∷ []) }
+        ++ when (compared op.Ne attr.First (int i.now.asn.0)) (drop_with 7 ∷ []) ∷ next_hop_test i.now ∷ run
+        (codes "ixp_as") ∷ []) }
 {
     add_number_test(alloc, body, Op::Ne, Attr::First, i.asn.0, 7)?;
     add_next_hop_test(alloc, body, i)?;
@@ -272,7 +340,9 @@ fn add_first_tests(alloc: Global, body: &mut Vec<Stmt>, i: &Inputs) -> Result<()
 
 /// Adds the tests of the path's numbers and of its origin.
 fn add_path_tests(alloc: Global, body: &mut Vec<Stmt>, i: &Inputs) -> Result<(), AllocError>
-    ensures { OnOk result (stmts_view body.new.items ≡ stmts_view body.old.items ++ first_tests i.now ++ transit_test i.now ++ origin_test i.now) }
+    ensures { OnOk result
+        (stmts_view body.new.items ≡ stmts_view body.old.items ++ first_tests i.now ++ transit_test i.now
+        ++ origin_test i.now) }
 {
     add_first_tests(alloc, body, i)?;
     add_transit_test(alloc, body, i)?;
@@ -287,7 +357,10 @@ fn add_net_tests(
     irr: &[Pattern],
     blackholes: &[Pattern],
 ) -> Result<(), AllocError>
-    ensures { OnOk result (stmts_view body.new.items ≡ stmts_view body.old.items ++ blackhole_test i.now blackholes.now i.now.blackhole ++ state_test i.now ++ prefix_test i.now irr.now) }
+    ensures { OnOk result
+        (stmts_view body.new.items ≡ stmts_view body.old.items
+        ++ blackhole_test i.now blackholes.now i.now.blackhole ++ state_test i.now
+        ++ prefix_test i.now irr.now) }
 {
     add_blackhole_test(alloc, body, i, blackholes)?;
     add_state_test(alloc, body, i)?;
@@ -314,7 +387,8 @@ fn in_body(
 
 /// Adds a test that ends the filter.
 fn add_reject_if(alloc: Global, body: &mut Vec<Stmt>, test: Expr) -> Result<(), AllocError>
-    ensures { OnOk result (stmts_view body.new.items ≡ stmts_view body.old.items ++ when (expr_view test) (reject ∷ []) ∷ []) }
+    ensures { OnOk result
+        (stmts_view body.new.items ≡ stmts_view body.old.items ++ when (expr_view test) (reject ∷ []) ∷ []) }
 {
     let mut yes = Vec::new(alloc);
     add(&mut yes, Stmt::Reject)?;
@@ -335,7 +409,9 @@ fn up_body(alloc: Global, i: &Inputs) -> Result<Vec<Stmt>, AllocError>
 
 /// Adds the test that the receiver's rules let the route in.
 fn add_receive_test(alloc: Global, body: &mut Vec<Stmt>, i: &Inputs) -> Result<(), AllocError>
-    ensures { OnOk result (stmts_view body.new.items ≡ stmts_view body.old.items ++ when (negation (call (receive_name i.now.interface) (exprs []))) (reject ∷ []) ∷ []) }
+    ensures { OnOk result
+        (stmts_view body.new.items ≡ stmts_view body.old.items
+        ++ when (negation (call (receive_name i.now.interface) (exprs []))) (reject ∷ []) ∷ []) }
 {
     let name = numbered(alloc, b"rx_", i.interface)?;
     let test = negation(alloc, call(alloc, name))?;
@@ -344,7 +420,9 @@ fn add_receive_test(alloc: Global, body: &mut Vec<Stmt>, i: &Inputs) -> Result<(
 
 /// Adds the test that the route's communities send it.
 fn add_send_test(alloc: Global, body: &mut Vec<Stmt>, i: &Inputs) -> Result<(), AllocError>
-    ensures { OnOk result (stmts_view body.new.items ≡ stmts_view body.old.items ++ when (negation (call (codes "ixp_sends") (exprs (int i.now.asn.0 ∷ [])))) (reject ∷ []) ∷ []) }
+    ensures { OnOk result
+        (stmts_view body.new.items ≡ stmts_view body.old.items
+        ++ when (negation (call (codes "ixp_sends") (exprs (int i.now.asn.0 ∷ [])))) (reject ∷ []) ∷ []) }
 {
     let sends = call_with(alloc, b"ixp_sends", i.asn.0)?;
     let test = negation(alloc, sends)?;
@@ -354,7 +432,9 @@ fn add_send_test(alloc: Global, body: &mut Vec<Stmt>, i: &Inputs) -> Result<(), 
 
 /// What puts the sender's number in front as often as the route's communities ask for.
 fn padding(alloc: Global, i: &Inputs) -> Result<Stmt, AllocError>
-    ensures { IfOk result (λ s. stmt_view s ≡ call_statement (codes "ixp_pad") (exprs (call (codes "ixp_count") (exprs (int i.now.asn.0 ∷ [])) ∷ []))) }
+    ensures { IfOk result
+        (λ s. stmt_view s ≡ call_statement (codes "ixp_pad")
+        (exprs (call (codes "ixp_count") (exprs (int i.now.asn.0 ∷ [])) ∷ []))) }
 {
     let count = call_with(alloc, b"ixp_count", i.asn.0)?;
     let mut args = Vec::new(alloc);
@@ -427,7 +507,9 @@ fn bgp_of(alloc: Global, i: &Inputs) -> Result<Bgp, AllocError>
 
 /// Adds the session's table.
 fn add_table(alloc: Global, items: &mut Vec<Item>, i: &Inputs) -> Result<(), AllocError>
-    ensures { OnOk result (items_view items.new.items ≡ items_view items.old.items ++ table_item (table_kind i.now.family) (table_name i.now.interface) ∷ []) }
+    ensures { OnOk result
+        (items_view items.new.items ≡ items_view items.old.items
+        ++ table_item (table_kind i.now.family) (table_name i.now.interface) ∷ []) }
 {
     let kind = table_kind(i.family);
     let name = numbered(alloc, b"t_", i.interface)?;
@@ -441,8 +523,10 @@ fn add_in(
     i: &Inputs,
     body: Vec<Stmt>,
 ) -> Result<(), AllocError>
-    ensures { (irr : List Pattern) (blackholes : List Pattern) → stmts_view body.items ≡ in_body i.now irr blackholes →
-        OnOk result (items_view items.new.items ≡ items_view items.old.items ++ in_item i.now irr blackholes ∷ []) }
+    ensures { (irr : List Pattern) (blackholes : List Pattern)
+        → stmts_view body.items ≡ in_body i.now irr blackholes →
+        OnOk result (items_view items.new.items ≡ items_view items.old.items
+        ++ in_item i.now irr blackholes ∷ []) }
 {
     let name = numbered(alloc, b"in_", i.interface)?;
     add_filter(items, name, body)?;
@@ -461,7 +545,8 @@ fn add_up(alloc: Global, items: &mut Vec<Item>, i: &Inputs) -> Result<(), AllocE
 
 /// Adds the function of the member's receive rules.
 fn add_receive(alloc: Global, items: &mut Vec<Item>, i: &Inputs) -> Result<(), AllocError>
-    ensures { OnOk result (items_view items.new.items ≡ items_view items.old.items ++ receive_item i.now ∷ []) }
+    ensures { OnOk result
+        (items_view items.new.items ≡ items_view items.old.items ++ receive_item i.now ∷ []) }
 {
     let rules = i.rules.as_slice();
     let body = receive_body(alloc, i.family, rules)?;
@@ -487,8 +572,10 @@ fn add_filters(
     i: &Inputs,
     body: Vec<Stmt>,
 ) -> Result<(), AllocError>
-    ensures { (irr : List Pattern) (blackholes : List Pattern) → stmts_view body.items ≡ in_body i.now irr blackholes →
-        OnOk result (items_view items.new.items ≡ items_view items.old.items ++ in_item i.now irr blackholes ∷ up_item i.now ∷ receive_item i.now ∷ down_item i.now ∷ []) }
+    ensures { (irr : List Pattern) (blackholes : List Pattern)
+        → stmts_view body.items ≡ in_body i.now irr blackholes →
+        OnOk result (items_view items.new.items ≡ items_view items.old.items
+        ++ in_item i.now irr blackholes ∷ up_item i.now ∷ receive_item i.now ∷ down_item i.now ∷ []) }
 {
     add_in(alloc, items, i, body)?;
     add_up(alloc, items, i)?;
@@ -513,7 +600,8 @@ pub fn add_fragment(
     irr: Items<Pattern>,
     blackholes: Items<Pattern>,
 ) -> Result<(), AllocError>
-    ensures { OnOk result (items_view items.new.items ≡ items_view items.old.items ++ fragment i.now irr blackholes) }
+    ensures { OnOk result
+        (items_view items.new.items ≡ items_view items.old.items ++ fragment i.now irr blackholes) }
 {
     let allowed = irr.as_slice();
     let covered = blackholes.as_slice();

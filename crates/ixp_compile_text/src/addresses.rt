@@ -65,7 +65,10 @@ impl MemberAddresses {
 
     /// Puts one more address of a member in.
     fn put(&mut self, alloc: Global, member: u32, addr: Addr) -> Result<(), AllocError>
-        ensures { OnOk result ((m : ℕ) → addresses_of self.new m ≡ (if member == m then put addr_numbers addr (addresses_of self.old m) else addresses_of self.old m)) }
+        ensures { OnOk result
+            ((m : ℕ) → addresses_of self.new m
+            ≡ (if member == m then put addr_numbers addr (addresses_of self.old m)
+            else addresses_of self.old m)) }
     {
         let mut table = self.take(alloc, member);
         table.put(Listed { addr })?;
@@ -81,7 +84,9 @@ impl MemberAddresses {
         vlan: u32,
         interface: &Interface,
     ) -> Result<(), AllocError>
-        ensures { OnOk result ((m : ℕ) → addresses_of self.new m ≡ onto (own_addresses family vlan m (interface.now ∷ [])) (addresses_of self.old m)) }
+        ensures { OnOk result
+            ((m : ℕ) → addresses_of self.new m
+            ≡ onto (own_addresses family vlan m (interface.now ∷ [])) (addresses_of self.old m)) }
     {
         if interface.vlan != vlan {
             return Ok(());
@@ -99,7 +104,8 @@ impl MemberAddresses {
         family: Family,
         vlan: u32,
     ) -> Result<MemberAddresses, AllocError>
-        ensures { IfOk result (λ a. (m : ℕ) → addresses_of a m ≡ ascending (own_addresses family vlan m interfaces.now)) }
+        ensures { IfOk result
+            (λ a. (m : ℕ) → addresses_of a m ≡ ascending (own_addresses family vlan m interfaces.now)) }
     {
         let mut addresses = MemberAddresses::new(alloc);
         let mut left = interfaces;
@@ -123,7 +129,8 @@ impl MemberAddresses {
 
 /// Puts one more address in.
 fn put_addr(addresses: &mut Table<Listed>, addr: Addr) -> Result<(), AllocError>
-    ensures { OnOk result (map (λ l. l.addr) addresses.new ≡ put addr_numbers addr (map (λ l. l.addr) addresses.old)) }
+    ensures { OnOk result
+        (map (λ l. l.addr) addresses.new ≡ put addr_numbers addr (map (λ l. l.addr) addresses.old)) }
 {
     addresses.put(Listed { addr })?;
     Ok(())
@@ -137,7 +144,10 @@ fn put_own(
     member: u32,
     interface: &Interface,
 ) -> Result<(), AllocError>
-    ensures { OnOk result (map (λ l. l.addr) addresses.new ≡ onto (own_addresses family vlan member (interface.now ∷ [])) (map (λ l. l.addr) addresses.old)) }
+    ensures { OnOk result
+        (map (λ l. l.addr) addresses.new
+        ≡ onto (own_addresses family vlan member (interface.now ∷ []))
+        (map (λ l. l.addr) addresses.old)) }
 {
     if interface.member != member || interface.vlan != vlan {
         return Ok(());

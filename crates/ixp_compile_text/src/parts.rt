@@ -1,5 +1,5 @@
-//! The parts of a router's text one by one: the texts of all its sessions, and what those of some sessions depend on. For many sessions the
-//! members' addresses in the router's VLAN are gathered once.
+//! The parts of a router's text one by one: the texts of all its sessions, and what those of some sessions
+//! depend on. For many sessions the members' addresses in the router's VLAN are gathered once.
 ghost use Rattle.std.specs.Prelude.{◌≡◌, ◌<◌, ◌^◌, IfOk, IfSome, map, option_map};
 ghost use Rattle.ixp_compile.specs.Generated.{inputs};
 ghost use Rattle.ixp_compile_text.specs.Addresses.{AreInVlan};
@@ -45,8 +45,8 @@ fn session_text_at(
     }))
 }
 
-/// The texts of the parts of the router's sessions, in the order of their interfaces' numbers. The router's greatest length of a
-/// net is that of an address at most, as in each valid registry.
+/// The texts of the parts of the router's sessions, in the order of their interfaces' numbers. The router's
+/// greatest length of a net is that of an address at most, as in each valid registry.
 pub fn texts_by_session(
     alloc: Global,
     registry: &Registry,
@@ -70,7 +70,8 @@ pub fn texts_by_session(
 /// So many sessions at most have their members' addresses looked up one by one.
 const FEW: usize = 8;
 
-/// All members' addresses in the router's VLAN, where so many sessions need them that one pass over the interfaces is cheaper.
+/// All members' addresses in the router's VLAN, where so many sessions need them that one pass over the
+/// interfaces is cheaper.
 fn gathered_for(
     alloc: Global,
     registry: &Registry,
@@ -95,7 +96,12 @@ fn inputs_among(
     interfaces: &[u32],
 ) -> Result<Vec<(u32, Option<Inputs>)>, AllocError>
     requires { IfSome gathered.now (AreInVlan registry.now router.now) }
-    ensures { IfOk result (λ v. v.items ≡ map (λ n. (n, option_map (inputs registry.now router.now) (session registry.now router.now n))) interfaces.now) }
+    ensures { IfOk result
+        (λ v. v.items ≡ map (λ n. (
+          n,
+          option_map (inputs registry.now router.now)
+              (session registry.now router.now n),
+        )) interfaces.now) }
 {
     let mut found = Vec::new(alloc);
     let mut left = interfaces;
@@ -107,15 +113,20 @@ fn inputs_among(
     Ok(found)
 }
 
-/// What the parts of these sessions of the router depend on, each with the number of its interface, in the order in which these are
-/// named; None where there is no such session.
+/// What the parts of these sessions of the router depend on, each with the number of its interface, in the
+/// order in which these are named; None where there is no such session.
 pub fn inputs_of_each(
     alloc: Global,
     registry: &Registry,
     router: &Router,
     interfaces: &[u32],
 ) -> Result<Vec<(u32, Option<Inputs>)>, AllocError>
-    ensures { IfOk result (λ v. v.items ≡ map (λ n. (n, option_map (inputs registry.now router.now) (session registry.now router.now n))) interfaces.now) }
+    ensures { IfOk result
+        (λ v. v.items ≡ map (λ n. (
+          n,
+          option_map (inputs registry.now router.now)
+              (session registry.now router.now n),
+        )) interfaces.now) }
 {
     let gathered = gathered_for(alloc, registry, router, interfaces.len())?;
     inputs_among(alloc, registry, router, &gathered, interfaces)

@@ -6,7 +6,16 @@ ghost use Rattle.ixp_num.specs.declared.pattern.Pattern.{Pattern};
 ghost use Rattle.ixp_registry.specs.declared.router.Router.{Router};
 ghost use Rattle.ixp_compile.specs.Fragment.{fragment};
 ghost use Rattle.ixp_compile.specs.Header.{header};
-ghost use Rattle.ixp_compile.specs.Generated.{allowed_set, covered_set, footer, generated, header_inputs, mode_of, own_part, session_part};
+ghost use Rattle.ixp_compile.specs.Generated.{
+  allowed_set,
+  covered_set,
+  footer,
+  generated,
+  header_inputs,
+  mode_of,
+  own_part,
+  session_part,
+};
 ghost use Rattle.ixp_compile_text.specs.Addresses.{AreInVlan};
 ghost use Rattle.ixp_compile_text.specs.Answers.{Prints, generated_at, header_at, part_at, router_at};
 ghost use Rattle.ixp_compile_pieces.specs.Made.{items_view};
@@ -57,10 +66,13 @@ fn allowed_set(alloc: Global, i: &Inputs, prefixes: &[Prefix]) -> Result<Items<P
     merged(alloc, prefixes, mode, i.high as u8)
 }
 
-/// The nets that these prefixes cover. Where the router has no next hop of routes to be dropped, no part asks for them, and
-/// there are none.
+/// The nets that these prefixes cover. Where the router has no next hop of routes to be dropped, no part asks
+/// for them, and there are none.
 fn asked_set(alloc: Global, i: &Inputs, prefixes: &[Prefix]) -> Result<Items<Pattern>, AllocError>
-    ensures { IfOk result (λ it. (irr : List Pattern) → fragment i.now irr it ≡ fragment i.now irr (covered_set (record i.now { prefixes = prefixes.now }))) }
+    ensures { IfOk result
+        (λ it. (irr : List Pattern)
+        → fragment i.now irr it
+        ≡ fragment i.now irr (covered_set (record i.now { prefixes = prefixes.now }))) }
 {
     if i.blackhole.is_none() {
         return Ok(Items::new(alloc));
@@ -95,7 +107,9 @@ pub(crate) fn put_part(
     prefixes: &[Prefix],
 ) -> Result<(), AllocError>
     requires { i.now.high < 2 ^ 8 }
-    ensures { OnOk result (out.new.items ≡ out.old.items ++ config_text (session_part (record i.now { prefixes = prefixes.now }))) }
+    ensures { OnOk result
+        (out.new.items ≡ out.old.items
+        ++ config_text (session_part (record i.now { prefixes = prefixes.now }))) }
 {
     let irr = allowed_set(alloc, i, prefixes)?;
     let blackholes = asked_set(alloc, i, prefixes)?;
@@ -128,8 +142,8 @@ pub fn header_of(alloc: Global, h: &HeaderInputs) -> Result<Vec<u8>, AllocError>
     Ok(out)
 }
 
-/// The text of a session's part. The router's greatest length of a net is that of an address at most, as in each valid
-/// registry.
+/// The text of a session's part. The router's greatest length of a net is that of an address at most, as in
+/// each valid registry.
 pub fn fragment(alloc: Global, i: &Inputs) -> Result<Vec<u8>, AllocError>
     requires { i.now.high < 2 ^ 8 }
     ensures { IfOk result (λ v. v.items ≡ config_text (session_part i.now)) }
@@ -162,7 +176,8 @@ pub(crate) fn put_session(
 ) -> Result<bool, AllocError>
     requires bound { router.now.high < 2 ^ 8 }
     requires addresses { AreInVlan registry.now router.now addresses.now }
-    ensures part { OnOk result (out.new.items ≡ out.old.items ++ part_text registry.now router.now interface.now) }
+    ensures part { OnOk result
+        (out.new.items ≡ out.old.items ++ part_text registry.now router.now interface.now) }
     ensures session { IfOk result (λ b. b ≡ is_some (session_at registry.now router.now interface.now)) }
 {
     let Some(session) = session_at(registry, router, interface) else {
@@ -182,7 +197,8 @@ fn put_sessions(
     router: &Router,
 ) -> Result<(), AllocError>
     requires { router.now.high < 2 ^ 8 }
-    ensures { OnOk result (out.new.items ≡ out.old.items ++ sessions_text registry.now router.now registry.now.interfaces) }
+    ensures { OnOk result
+        (out.new.items ≡ out.old.items ++ sessions_text registry.now router.now registry.now.interfaces) }
 {
     let mut left = registry.interfaces.as_slice();
     let addresses = MemberAddresses::in_vlan(alloc, left, router.family, router.vlan)?;
@@ -215,7 +231,8 @@ fn own(
     session: &SessionRows<'_>,
 ) -> Result<Vec<u8>, AllocError>
     requires { router.now.high < 2 ^ 8 }
-    ensures { IfOk result (λ v. v.items ≡ config_text (own_part registry.now router.now (session_of session.now))) }
+    ensures { IfOk result
+        (λ v. v.items ≡ config_text (own_part registry.now router.now (session_of session.now))) }
 {
     let h = header_inputs_of(alloc, registry, router)?;
     let i = inputs_of(alloc, registry, router, session)?;
@@ -243,8 +260,9 @@ pub fn header(alloc: Global, registry: &Registry, router: &Name) -> Result<Vec<u
     Ok(head(alloc, registry, router)?)
 }
 
-/// The text of the router with the handle: the head, a part for each session in the order of their interfaces' numbers, and the
-/// foot. The router's greatest length of a net is that of an address at most, as in each valid registry.
+/// The text of the router with the handle: the head, a part for each session in the order of their
+/// interfaces' numbers, and the foot. The router's greatest length of a net is that of an address at most, as
+/// in each valid registry.
 pub fn generate(alloc: Global, registry: &Registry, router: &Name) -> Result<Vec<u8>, GenFault>
     requires { (q : Router) → router_at registry.now router.now ≡ Some q → q.high < 2 ^ 8 }
     ensures { Prints (generated_at registry.now router.now) result }

@@ -21,7 +21,8 @@ fn is_listed(asns: &[Asn], number: u32) -> bool
     asns.iter().any(|a| a.0 == number)
 }
 
-/// What the session's part depends on, with these prefixes in the place of the member's. The addresses are the member's.
+/// What the session's part depends on, with these prefixes in the place of the member's. The addresses are
+/// the member's.
 pub(crate) fn inputs_with(
     alloc: Global,
     registry: &Registry,
@@ -31,7 +32,8 @@ pub(crate) fn inputs_with(
     prefixes: Items<Prefix>,
 ) -> Result<Inputs, AllocError>
     requires { addresses ≡ member_addresses registry.now router.now (session_of session.now) }
-    ensures { IfOk result (λ i. i ≡ record (inputs registry.now router.now (session_of session.now)) { prefixes = prefixes }) }
+    ensures { IfOk result
+        (λ i. i ≡ record (inputs registry.now router.now (session_of session.now)) { prefixes = prefixes }) }
 {
     let transit = registry.public.transit.as_slice();
     Ok(Inputs {
@@ -52,8 +54,8 @@ pub(crate) fn inputs_with(
     })
 }
 
-/// A member's addresses of the router's family in its VLAN, in order: looked up among all members' where these were gathered, and else
-/// by a pass over the interfaces.
+/// A member's addresses of the router's family in its VLAN, in order: looked up among all members' where
+/// these were gathered, and else by a pass over the interfaces.
 fn addresses_for(
     alloc: Global,
     registry: &Registry,
@@ -62,7 +64,9 @@ fn addresses_for(
     member: u32,
 ) -> Result<Items<Addr>, AllocError>
     requires { IfSome gathered.now (AreInVlan registry.now router.now) }
-    ensures { IfOk result (λ it. it ≡ ascending (own_addresses router.now.family router.now.vlan member registry.now.interfaces)) }
+    ensures { IfOk result
+        (λ it. it ≡ ascending
+        (own_addresses router.now.family router.now.vlan member registry.now.interfaces)) }
 {
     match gathered {
         Some(addresses) => addresses.of(alloc, member),
@@ -90,8 +94,8 @@ pub(crate) fn inputs_of(
     inputs_with(alloc, registry, router, session, addresses, prefixes)
 }
 
-/// What the part of the router's session at the interface depends on; None where there is no such session. For many sessions the
-/// members' addresses in the router's VLAN are gathered before.
+/// What the part of the router's session at the interface depends on; None where there is no such session.
+/// For many sessions the members' addresses in the router's VLAN are gathered before.
 pub(crate) fn session_inputs(
     alloc: Global,
     registry: &Registry,
@@ -100,7 +104,8 @@ pub(crate) fn session_inputs(
     interface: u32,
 ) -> Result<Option<Inputs>, AllocError>
     requires { IfSome gathered.now (AreInVlan registry.now router.now) }
-    ensures { IfOk result (λ o. o ≡ option_map (inputs registry.now router.now) (session registry.now router.now interface)) }
+    ensures { IfOk result
+        (λ o. o ≡ option_map (inputs registry.now router.now) (session registry.now router.now interface)) }
 {
     let Some(session) = session(registry, router, interface) else {
         return Ok(None);
@@ -142,7 +147,8 @@ pub fn header_inputs(
     }
 }
 
-/// What the part of the router's session at the interface depends on; None where there is no such router or session.
+/// What the part of the router's session at the interface depends on; None where there is no such router or
+/// session.
 pub fn inputs(
     alloc: Global,
     registry: &Registry,

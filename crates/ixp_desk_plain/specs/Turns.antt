@@ -40,9 +40,10 @@ decided n (decision.Accepted owner) = outcome.Done n
 decided n (decision.Repeated reply) = outcome.Done reply.number
 decided n (decision.Refused refusal) = outcome.Refused refusal
 
--- What an edit is answered, the state after it, and the store's counts of faults before and after it. By the machine of edits, but that no
--- edit is taken any more after the last one, that one which the store doesn't take leaves the state as it was, and so does running
--- out of memory. The count rises where a fault of the store is answered, and else stands still.
+-- What an edit is answered, the state after it, and the store's counts of faults before and after it. By the
+-- machine of edits, but that no edit is taken any more after the last one, that one which the store doesn't
+-- take leaves the state as it was, and so does running out of memory. The count rises where a fault of the
+-- store is answered, and else stands still.
 abbrev pub EditTurn : State → Entry → Outcome → State → ℕ → ℕ → Type 0
 EditTurn s e (outcome.Ended count) s' faults faults' = (s.accepted ≡ last_edit) × (count ≡ last_edit) × (s' ≡ s) × (faults' ≡ faults)
 EditTurn s e outcome.NoMemory s' faults faults' = (s.accepted ≢ last_edit) × (s' ≡ s) × (faults' ≡ faults)
@@ -74,7 +75,8 @@ AsksClock q second given given' = given' ≡ given
 abbrev pub TimedTurn : Registry → List ℕ → Query → Option ℕ → Option ℕ → Outcome → Type 0
 TimedTurn r secret q given given' o = (second : ℕ) × AsksClock q second given given' × AskTurn r secret (at_second second q) o
 
--- the text of the router with the handle, which does what the rules over the rows say, or that there is no such router (Y3)
+-- the text of the router with the handle, which does what the rules over the rows say, or that there is no
+-- such router (Y3)
 abbrev pub ConfigTurn : Registry → List ℕ → Outcome → Type 0
 ConfigTurn r handle outcome.NoMemory = Unit {0}
 ConfigTurn r handle outcome.NoRouter = find router_key handle r.routers ≡ None
@@ -97,7 +99,8 @@ AllowedTurn s None handle seen o = o ≡ outcome.Refused NoKey
 AllowedTurn s (Some (of.Staff n)) handle seen o = SeenTurn s (of.Staff n) handle seen o
 AllowedTurn s (Some (of.Member m)) handle seen o = o ≡ outcome.Refused (Denied Staff)
 
--- What is answered to who asks for a router's configuration: it is that of the present state, which has every edit that was answered.
+-- What is answered to who asks for a router's configuration: it is that of the present state, which has every
+-- edit that was answered.
 abbrev pub PublishedTurn : State → List ℕ → List ℕ → Option ℕ → Outcome → Type 0
 PublishedTurn s secret handle seen o = AllowedTurn s (owner_of s.registry secret) handle seen o
 
@@ -118,7 +121,8 @@ abbrev pub OrNoMemory : Outcome → Outcome → Type 0
 OrNoMemory says outcome.NoMemory = Unit {0}
 OrNoMemory says o = o ≡ says
 
--- What is told of a route: the staff its fate by the present configuration, a member what its own session's text says of it.
+-- What is told of a route: the staff its fate by the present configuration, a member what its own session's
+-- text says of it.
 abbrev pub explained : State → Option Owner → ExplainCall → Outcome
 explained s None call = outcome.Refused NoKey
 explained s (Some (of.Staff n)) call = where_seen s (of.Staff n) call.seen (explanation_outcome (staff_explanation s.registry call.router call.interface call.asked.route))
@@ -127,8 +131,8 @@ explained s (Some (of.Member m)) call = explanation_outcome (member_explanation 
 abbrev pub ExplainTurn : State → ExplainCall → Outcome → Type 0
 ExplainTurn s call o = OrNoMemory (explained s (owner_of s.registry call.secret) call) o
 
--- What a call is answered, the state after it, the store's counts of faults before and after it, and what the clock gave last before and
--- after it. Edits alone change the state and ask the store for anything.
+-- What a call is answered, the state after it, the store's counts of faults before and after it, and what the
+-- clock gave last before and after it. Edits alone change the state and ask the store for anything.
 abbrev pub IsTurn : State → Call → Outcome → State → ℕ → ℕ → Option ℕ → Option ℕ → Type 0
 IsTurn s (Edit entry) o s' faults faults' given given' = EditTurn s entry o s' faults faults' × (given' ≡ given)
 IsTurn s (Ask secret q) o s' faults faults' given given' = TimedTurn s.registry secret q given given' o × (s' ≡ s) × (faults' ≡ faults)

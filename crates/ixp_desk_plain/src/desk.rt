@@ -22,8 +22,8 @@ use ixp_machine_steps::{Entry, State};
 use ixp_registry::{Owner, Registry};
 use std::alloc::Global;
 
-/// The state of a registry, which answers calls over the store that keeps it and a clock. The state is valid, and the store's rows are
-/// the state's, so that they are loaded as this state again.
+/// The state of a registry, which answers calls over the store that keeps it and a clock. The state is valid,
+/// and the store's rows are the state's, so that they are loaded as this state again.
 #[derive(Drop)]
 pub struct PlainDesk {
     pub state: State,
@@ -52,9 +52,11 @@ fn asked(alloc: Global, registry: &Registry, secret: &[u8], query: Query) -> Out
     }
 }
 
-/// The question at the clock's second, which the export alone has: for another question the clock isn't asked.
+/// The question at the clock's second, which the export alone has: for another question the clock isn't
+/// asked.
 fn at_second<C: Clock>(clock: &mut C, query: Query) -> Query
-    ensures { (second : ℕ) × AsksClock query second (C.given clock.old) (C.given clock.new) × (result ≡ at_second second query) }
+    ensures { (second : ℕ) × AsksClock query second (C.given clock.old) (C.given clock.new)
+        × (result ≡ at_second second query) }
 {
     match query {
         Query::Ixf { .. } => Query::Ixf {
@@ -156,9 +158,11 @@ impl<P: Keeper, C: Clock> Desk<P, C> for PlainDesk {
     ghost use Rattle.ixp_desk_plain.specs.Texts.{TextsFollow};
     ghost use Rattle.ixp_desk_plain.specs.Turns.{IsTurn};
 
-    ghost fits = { λ d p. ValidState d.state × IsStorable d.state × WhereTold (P.table p) (IsStoreOf d.state) × TextsFollow d };
+    ghost fits = { λ d p. ValidState d.state × IsStorable d.state × WhereTold (P.table p) (IsStoreOf d.state)
+        × TextsFollow d };
 
-    ghost turn = { λ d call o e. IsTurn d.0.state call o e.0.state (P.faults d.1) (P.faults e.1) (C.given d.2) (C.given e.2) };
+    ghost turn = { λ d call o e. IsTurn d.0.state call o e.0.state (P.faults d.1) (P.faults e.1) (C.given d.2)
+        (C.given e.2) };
 
     #[tactic(auto, using(crate::proofs::NeverHead::never_head))]
     fn answer(&mut self, alloc: Global, store: &mut P, clock: &mut C, call: Call) -> Outcome {

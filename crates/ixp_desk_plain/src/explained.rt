@@ -16,7 +16,8 @@ use std::alloc::{AllocError, Global};
 
 /// How a request for an explanation ends.
 fn outcome_of(explanation: Result<Explanation, AllocError>) -> Outcome
-    ensures { (says : Said) → IfOk explanation (λ e. e ≡ says) → OrNoMemory (explanation_outcome says) result }
+    ensures { (says : Said) → IfOk explanation (λ e. e ≡ says)
+        → OrNoMemory (explanation_outcome says) result }
 {
     match explanation {
         Ok(Explanation::Text(text)) => Outcome::Text(text),
@@ -30,7 +31,9 @@ fn outcome_of(explanation: Result<Explanation, AllocError>) -> Outcome
 /// The explanation of a route to the staff.
 fn told(alloc: Global, registry: &Registry, call: &ExplainCall) -> Outcome
     requires { Valid registry.now }
-    ensures { OrNoMemory (explanation_outcome (staff_explanation registry.now call.now.router call.now.interface call.now.asked.route)) result }
+    ensures { OrNoMemory
+        (explanation_outcome
+        (staff_explanation registry.now call.now.router call.now.interface call.now.asked.route)) result }
 {
     outcome_of(staff_explanation(
         alloc,
@@ -44,7 +47,11 @@ fn told(alloc: Global, registry: &Registry, call: &ExplainCall) -> Outcome
 /// What the staff is told, who may have seen an edit of its own.
 fn seen_told(alloc: Global, state: &State, owner: &Owner, call: &ExplainCall) -> Outcome
     requires { Valid state.now.registry }
-    ensures { OrNoMemory (where_seen state.now owner.now call.now.seen (explanation_outcome (staff_explanation state.now.registry call.now.router call.now.interface call.now.asked.route))) result }
+    ensures { OrNoMemory
+        (where_seen state.now owner.now call.now.seen
+        (explanation_outcome
+        (staff_explanation state.now.registry call.now.router call.now.interface
+        call.now.asked.route))) result }
 {
     match call.seen {
         None => told(alloc, &state.registry, call),
@@ -58,7 +65,10 @@ fn seen_told(alloc: Global, state: &State, owner: &Owner, call: &ExplainCall) ->
 /// The explanation of its own route to a member.
 fn own_told(alloc: Global, registry: &Registry, member: u32, call: &ExplainCall) -> Outcome
     requires { Valid registry.now }
-    ensures { OrNoMemory (explanation_outcome (member_explanation registry.now member call.now.router call.now.interface call.now.asked.route call.now.asked.peers)) result }
+    ensures { OrNoMemory
+        (explanation_outcome
+        (member_explanation registry.now member call.now.router call.now.interface call.now.asked.route
+        call.now.asked.peers)) result }
 {
     outcome_of(member_explanation(
         alloc,

@@ -29,8 +29,8 @@ fn told(alloc: Global, registry: &Registry, texts: &Texts, router: &Name) -> Out
     }
 }
 
-/// The text of the router with the handle: only what edits touched since one was asked for the last time is regenerated. Where memory
-/// runs out, the texts are let go.
+/// The text of the router with the handle: only what edits touched since one was asked for the last time is
+/// regenerated. Where memory runs out, the texts are let go.
 fn config(alloc: Global, state: &State, texts: &mut Option<Texts>, router: &Name) -> Outcome
     requires valid { Valid state.now.registry }
     requires texts { FollowsIfAny state.now.registry texts.old }

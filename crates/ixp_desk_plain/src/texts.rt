@@ -41,14 +41,15 @@ fn with_touched(
 ) -> Result<Texts, AllocError>
     requires { 0 < after.now.accepted }
     ensures bundle { IfOk result (λ t. t.bundle ≡ texts.bundle) }
-    ensures pending { IfOk result (λ t. IsNoted after.now.accepted (with_after foreseen after.now.registry) texts.pending t.pending) }
+    ensures pending { IfOk result
+        (λ t. IsNoted after.now.accepted (with_after foreseen after.now.registry) texts.pending t.pending) }
 {
     let touch = foreseen.touch_after(alloc, &after.registry)?;
     texts.with_pending(alloc, &touch, after.accepted)
 }
 
-/// The texts after an edit. Where it isn't known what the edit reached, or memory runs out, there are none any more: all are made when
-/// one is asked for again.
+/// The texts after an edit. Where it isn't known what the edit reached, or memory runs out, there are none
+/// any more: all are made when one is asked for again.
 pub(crate) fn followed(
     alloc: Global,
     texts: Option<Texts>,
@@ -56,7 +57,9 @@ pub(crate) fn followed(
     after: &State,
 ) -> Option<Texts>
     requires { 0 < after.now.accepted }
-    ensures { (r : Registry) (e : Edit) → Valid r → IsLawful e → refusal r e ≡ None → after.now.registry ≡ next r e → IfSome foreseen (λ x. x ≡ reached r e) → FollowsIfAny r texts → FollowsIfAny after.now.registry result }
+    ensures { (r : Registry) (e : Edit) → Valid r → IsLawful e → refusal r e ≡ None
+        → after.now.registry ≡ next r e → IfSome foreseen (λ x. x ≡ reached r e) → FollowsIfAny r texts
+        → FollowsIfAny after.now.registry result }
 {
     let Some(texts) = texts else {
         return None;

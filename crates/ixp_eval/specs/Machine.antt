@@ -19,7 +19,8 @@ pub data Operation : Type 0 where
   relates : Op → Operation
   checks : List ℕ → Operation
 
--- a task; a call has its name, whether its value is wanted, the arguments that are left and the values of the others
+-- a task; a call has its name, whether its value is wanted, the arguments that are left and the values of the
+-- others
 pub data Todo : Type 0 where
   eval : ExprTree → Todo
   run : StmtTrees → Todo

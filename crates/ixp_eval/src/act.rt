@@ -9,7 +9,23 @@ ghost use Rattle.ixp_lang.specs.Meaning.{roas_or_none};
 ghost use Rattle.ixp_lang.specs.Trees.{exprs, stmts};
 ghost use Rattle.ixp_lang.specs.Views.{arms_view, exprs_view, stmts_view};
 ghost use Rattle.ixp_eval.specs.Answers.{Applies, Fails};
-ghost use Rattle.ixp_eval.specs.Machine.{act, any_goes, any_of, applied, below, called, calling, checks, chosen, every_goes, every_of, faulty, paired, ran, top};
+ghost use Rattle.ixp_eval.specs.Machine.{
+  act,
+  any_goes,
+  any_of,
+  applied,
+  below,
+  called,
+  calling,
+  checks,
+  chosen,
+  every_goes,
+  every_of,
+  faulty,
+  paired,
+  ran,
+  top,
+};
 ghost use Rattle.ixp_eval.specs.Views.{act_of, environment_of, operation_of, todos, val_of, vals};
 
 use crate::begin::{begin, begin_stmt};
@@ -38,7 +54,8 @@ fn take<'a>(values: &mut Stack<Val<'a>>) -> Val<'a>
 
 /// What a table says of a prefix and an origin.
 fn table_says(table: Option<&RoaTable>, net: &Val<'_>, origin: &Val<'_>) -> Validity
-    ensures { value.Roa result ≡ checked (roas_or_none (option_copied table.entry)) (val_of net.now) (val_of origin.now) }
+    ensures { value.Roa result
+        ≡ checked (roas_or_none (option_copied table.entry)) (val_of net.now) (val_of origin.now) }
 {
     match (table, net, origin) {
         (Some(table), Val::Net(net), Val::Int(origin)) => table.validity(net, Asn(*origin)),
@@ -48,7 +65,9 @@ fn table_says(table: Option<&RoaTable>, net: &Val<'_>, origin: &Val<'_>) -> Vali
 
 /// Makes a pair of the two numbers on top, each at most 65535.
 fn apply_pair(values: &mut Stack<Val<'_>>) -> Result<(), EvalFault>
-    ensures { Applies result (vals values.new) (paired (number (top (below (vals values.old)))) (number (top (vals values.old))) (below (below (vals values.old)))) }
+    ensures { Applies result (vals values.new)
+        (paired (number (top (below (vals values.old)))) (number (top (vals values.old)))
+        (below (below (vals values.old)))) }
 {
     let b = number(&take(values));
     let a = number(&take(values));
@@ -64,7 +83,10 @@ fn apply_pair(values: &mut Stack<Val<'_>>) -> Result<(), EvalFault>
 
 /// Makes a triple of the three numbers on top.
 fn apply_triple(values: &mut Stack<Val<'_>>) -> Result<(), AllocError>
-    ensures { OnOk result (vals values.new ≡ value.Triple (number (top (below (below (vals values.old))))) (number (top (below (vals values.old)))) (number (top (vals values.old))) ∷ below (below (below (vals values.old)))) }
+    ensures { OnOk result
+        (vals values.new ≡ value.Triple (number (top (below (below (vals values.old)))))
+        (number (top (below (vals values.old)))) (number (top (vals values.old))) ∷ below
+        (below (below (vals values.old)))) }
 {
     let c = number(&take(values));
     let b = number(&take(values));
@@ -79,7 +101,8 @@ fn apply_roa_check(
     name: &Name,
     values: &mut Stack<Val<'_>>,
 ) -> Result<(), AllocError>
-    ensures { OnOk result (Ok (vals values.new) ≡ applied (environment_of env.now) (checks name.now) (vals values.old)) }
+    ensures { OnOk result
+        (Ok (vals values.new) ≡ applied (environment_of env.now) (checks name.now) (vals values.old)) }
 {
     let origin = take(values);
     let net = take(values);
@@ -94,7 +117,8 @@ fn apply<'a>(
     operator: Operator<'a>,
     values: &mut Stack<Val<'a>>,
 ) -> Result<(), EvalFault>
-    ensures { Applies result (vals values.new) (applied (environment_of env.now) (operation_of operator.entry) (vals values.old)) }
+    ensures { Applies result (vals values.new)
+        (applied (environment_of env.now) (operation_of operator.entry) (vals values.old)) }
 {
     match operator {
         Operator::Not => {
@@ -139,7 +163,9 @@ fn every<'a>(
     tasks: &mut Stack<Task<'a>>,
     values: &mut Stack<Val<'a>>,
 ) -> Result<(), AllocError>
-    ensures { OnOk result ((todos tasks.new, vals values.new) ≡ every_of (exprs (exprs_view parts.now)) (todos tasks.old) (vals values.old)) }
+    ensures { OnOk result
+        ((todos tasks.new, vals values.new)
+        ≡ every_of (exprs (exprs_view parts.now)) (todos tasks.old) (vals values.old)) }
 {
     match parts.split_first() {
         None => values.push(Val::Bool(true)),
@@ -156,7 +182,10 @@ fn every_after<'a>(
     tasks: &mut Stack<Task<'a>>,
     values: &mut Stack<Val<'a>>,
 ) -> Result<(), AllocError>
-    ensures { OnOk result ((todos tasks.new, vals values.new) ≡ every_goes (truth (top (vals values.old))) (exprs (exprs_view parts.now)) (todos tasks.old) (below (vals values.old))) }
+    ensures { OnOk result
+        ((todos tasks.new, vals values.new)
+        ≡ every_goes (truth (top (vals values.old))) (exprs (exprs_view parts.now)) (todos tasks.old)
+        (below (vals values.old))) }
 {
     if truth(&take(values)) {
         tasks.push(Task::Every(parts))
@@ -171,7 +200,9 @@ fn any<'a>(
     tasks: &mut Stack<Task<'a>>,
     values: &mut Stack<Val<'a>>,
 ) -> Result<(), AllocError>
-    ensures { OnOk result ((todos tasks.new, vals values.new) ≡ any_of (exprs (exprs_view parts.now)) (todos tasks.old) (vals values.old)) }
+    ensures { OnOk result
+        ((todos tasks.new, vals values.new)
+        ≡ any_of (exprs (exprs_view parts.now)) (todos tasks.old) (vals values.old)) }
 {
     match parts.split_first() {
         None => values.push(Val::Bool(false)),
@@ -188,7 +219,10 @@ fn any_after<'a>(
     tasks: &mut Stack<Task<'a>>,
     values: &mut Stack<Val<'a>>,
 ) -> Result<(), AllocError>
-    ensures { OnOk result ((todos tasks.new, vals values.new) ≡ any_goes (truth (top (vals values.old))) (exprs (exprs_view parts.now)) (todos tasks.old) (below (vals values.old))) }
+    ensures { OnOk result
+        ((todos tasks.new, vals values.new)
+        ≡ any_goes (truth (top (vals values.old))) (exprs (exprs_view parts.now)) (todos tasks.old)
+        (below (vals values.old))) }
 {
     if truth(&take(values)) {
         values.push(Val::Bool(true))
@@ -199,7 +233,8 @@ fn any_after<'a>(
 
 /// The statements of the first arm that has the value, else the other ones.
 fn selected<'a>(arms: Arms<'a>, other: &'a [Stmt], value: &Val<'_>) -> &'a [Stmt]
-    ensures { stmts (stmts_view result.now) ≡ chosen (arms_view arms.now) (stmts (stmts_view other.now)) (val_of value.now) }
+    ensures { stmts (stmts_view result.now)
+        ≡ chosen (arms_view arms.now) (stmts (stmts_view other.now)) (val_of value.now) }
 {
     'arms: for (labels, body) in arms {
         if has_label(labels.as_slice(), value) {
@@ -216,7 +251,11 @@ fn call<'a>(
     known: Items<Val<'a>>,
     tasks: &mut Stack<Task<'a>>,
 ) -> Result<Act<'a>, AllocError>
-    ensures { IfOk result (λ a. (vs : List Value) (r : Route) → act_of a (todos tasks.new) vs r ≡ called callee.entry.name.now callee.entry.wanted (exprs (exprs_view args.now)) (vals known.entry) (todos tasks.old) vs r) }
+    ensures { IfOk result
+        (λ a. (vs : List Value) (r : Route)
+        → act_of a (todos tasks.new) vs r
+        ≡ called callee.entry.name.now callee.entry.wanted (exprs (exprs_view args.now))
+        (vals known.entry) (todos tasks.old) vs r) }
 {
     match args.split_first() {
         None => Ok(Act::Calls(callee, known)),
@@ -236,7 +275,9 @@ fn call_after<'a>(
     tasks: &mut Stack<Task<'a>>,
     values: &mut Stack<Val<'a>>,
 ) -> Result<(), AllocError>
-    ensures tasks { OnOk result (todos tasks.new ≡ calling callee.entry.name.now callee.entry.wanted (exprs (exprs_view args.now)) (vals known.entry ++ top (vals values.old) ∷ []) ∷ todos tasks.old) }
+    ensures tasks { OnOk result
+        (todos tasks.new ≡ calling callee.entry.name.now callee.entry.wanted (exprs (exprs_view args.now))
+        (vals known.entry ++ top (vals values.old) ∷ []) ∷ todos tasks.old) }
     ensures values { OnOk result (vals values.new ≡ below (vals values.old)) }
 {
     known.push(take(values))?;
@@ -252,7 +293,10 @@ pub fn act<'a>(
     values: &mut Stack<Val<'a>>,
     route: &mut Route,
 ) -> Result<Act<'a>, EvalFault>
-    ensures { MatchResult result (λ a. act_of a (todos tasks.new) (vals values.new) route.new ≡ act (environment_of env.now) (todos tasks.old) (vals values.old) route.old) (λ f. Fails faulty (act (environment_of env.now) (todos tasks.old) (vals values.old) route.old) f) }
+    ensures { MatchResult result
+        (λ a. act_of a (todos tasks.new) (vals values.new) route.new
+        ≡ act (environment_of env.now) (todos tasks.old) (vals values.old) route.old)
+        (λ f. Fails faulty (act (environment_of env.now) (todos tasks.old) (vals values.old) route.old) f) }
 {
     let Some(task) = tasks.pop() else {
         return Ok(Act::Done(How::Falls));

@@ -20,7 +20,9 @@ fn binary<'a>(
     right: &'a Expr,
     tasks: &mut Stack<Task<'a>>,
 ) -> Result<(), AllocError>
-    ensures { OnOk result (todos tasks.new ≡ eval (expr_view left.now) ∷ eval (expr_view right.now) ∷ apply (operation_of operator.entry) ∷ todos tasks.old) }
+    ensures { OnOk result
+        (todos tasks.new ≡ eval (expr_view left.now) ∷ eval (expr_view right.now) ∷ apply
+        (operation_of operator.entry) ∷ todos tasks.old) }
 {
     tasks.push(Task::Apply(operator))?;
     tasks.push(Task::Eval(right))?;
@@ -37,7 +39,10 @@ pub fn begin<'a>(
     values: &mut Stack<Val<'a>>,
     route: &Route,
 ) -> Result<(), AllocError>
-    ensures { OnOk result (on (todos tasks.new) (vals values.new) route.now ≡ begun (environment_of env.now) (expr_view e.now) (todos tasks.old) (vals values.old) route.now) }
+    ensures { OnOk result
+        (on (todos tasks.new) (vals values.new) route.now
+        ≡ begun (environment_of env.now) (expr_view e.now) (todos tasks.old)
+        (vals values.old) route.now) }
 {
     match e {
         Expr::Lit(value) => values.push(held(value)),

@@ -1,7 +1,16 @@
 //! What statements change of a route. A value of a kind that no text brings here changes nothing.
 ghost use Rattle.std.specs.Prelude.{◌≡◌, ◌∷◌, ◌&&◌, ◌==◌, IfOk, OnOk, filter, not};
 ghost use Rattle.std.specs.List.{list_any};
-ghost use Rattle.ixp_lang.specs.Attributes.{in_pairs, in_triples, prepended, with_next_hop, with_pair, with_triple, without_pairs, without_triples};
+ghost use Rattle.ixp_lang.specs.Attributes.{
+  in_pairs,
+  in_triples,
+  prepended,
+  with_next_hop,
+  with_pair,
+  with_triple,
+  without_pairs,
+  without_triples,
+};
 ghost use Rattle.ixp_eval.specs.Machine.{changed};
 ghost use Rattle.ixp_eval.specs.Views.{val_of};
 

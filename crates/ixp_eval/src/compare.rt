@@ -1,6 +1,14 @@
 //! Comparisons of values. Values of kinds that no text brings together compare as false.
 ghost use Rattle.std.specs.Prelude.{◌≡◌};
-ghost use Rattle.ixp_lang.specs.Attributes.{compares, fits_label, has_label, is_at_most, is_equal, is_in, is_less};
+ghost use Rattle.ixp_lang.specs.Attributes.{
+  compares,
+  fits_label,
+  has_label,
+  is_at_most,
+  is_equal,
+  is_in,
+  is_less,
+};
 ghost use Rattle.ixp_lang.specs.declared.value.Value.TheVariants.{Set};
 ghost use Rattle.ixp_eval.specs.Views.{val_of};
 

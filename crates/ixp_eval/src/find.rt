@@ -47,7 +47,8 @@ fn until<'i, 'a>(before: Before<'i, 'a>, place: usize) -> Before<'i, 'a>
 
 /// The parameters and the body, where an item is a function.
 fn function_in(item: &Item) -> Option<(&[(Ty, Name)], &[Stmt])>
-    ensures { option_map (λ p. (p.0.now, stmts (stmts_view p.1.now))) result ≡ function_parts (item_view item.now) }
+    ensures { option_map (λ p. (p.0.now, stmts (stmts_view p.1.now))) result
+        ≡ function_parts (item_view item.now) }
 {
     match item {
         Item::Function { params, body, .. } => Some((params.as_slice(), body.as_slice())),

@@ -6,7 +6,16 @@ ghost use Rattle.ixp_lang.specs.Trees.{stmts};
 ghost use Rattle.ixp_lang.specs.Views.{expr_view, stmts_view};
 ghost use Rattle.ixp_eval.specs.Answers.{Fails};
 ghost use Rattle.ixp_eval.specs.Frames.{begins, begins_value, enters, looks, resumes, step, waits_for};
-ghost use Rattle.ixp_eval.specs.Views.{Steps, backwards, body_view, end_of, environment_of, val_of, vals, waits};
+ghost use Rattle.ixp_eval.specs.Views.{
+  Steps,
+  backwards,
+  body_view,
+  end_of,
+  environment_of,
+  val_of,
+  vals,
+  waits,
+};
 
 use crate::act::act;
 use crate::env::Env;
@@ -49,7 +58,9 @@ pub fn frame_of<'i, 'a>(
     args: Items<Val<'a>>,
     body: &'a [Stmt],
 ) -> Result<Frame<'i, 'a>, AllocError>
-    ensures { IfOk result (λ f. body_view f ≡ begins (backwards before.entry) (bind params.now (vals args.entry)) (stmts (stmts_view body.now))) }
+    ensures { IfOk result
+        (λ f. body_view f ≡ begins (backwards before.entry) (bind params.now (vals args.entry))
+        (stmts (stmts_view body.now))) }
 {
     let mut tasks = Stack::new(alloc);
     tasks.push(Task::Run(body))?;
@@ -84,7 +95,8 @@ fn frame_of_define<'i, 'a>(
 
 /// The argument of the parameter.
 fn argument<'b, 'a>(params: &[(Ty, Name)], args: &'b [Val<'a>], name: &Name) -> Option<&'b Val<'a>>
-    ensures { MatchOption result (find_named (bind params.now (vals args.now)) name.now ≡ None) (λ v. find_named (bind params.now (vals args.now)) name.now ≡ Some (val_of v.now)) }
+    ensures { MatchOption result (find_named (bind params.now (vals args.now)) name.now ≡ None)
+        (λ v. find_named (bind params.now (vals args.now)) name.now ≡ Some (val_of v.now)) }
 {
     let mut left = (params, args);
     'params: while let (Some((param, params)), Some((value, args))) = (
@@ -107,7 +119,9 @@ fn enter<'i, 'a>(
     waiting: &mut Stack<Waiting<'i, 'a>>,
 ) -> Result<(), AllocError>
     ensures runs { OnOk result (body_view frame.new ≡ body_view inner.entry) }
-    ensures waits { OnOk result (waits waiting.new ≡ waits_for callee.entry.name.now callee.entry.wanted (body_view frame.old) ∷ waits waiting.old) }
+    ensures waits { OnOk result
+        (waits waiting.new ≡ waits_for callee.entry.name.now callee.entry.wanted
+        (body_view frame.old) ∷ waits waiting.old) }
 {
     let outer = mem::replace(frame, inner);
     waiting.push(Waiting {
@@ -123,7 +137,10 @@ fn look<'i, 'a>(
     frame: &mut Frame<'i, 'a>,
     waiting: &mut Stack<Waiting<'i, 'a>>,
 ) -> Result<(), EvalFault>
-    ensures { MatchResult result (λ u. Ok (body_view frame.new, waits waiting.new) ≡ looks name.now (body_view frame.old) (waits waiting.old)) (λ f. Fails Err (looks name.now (body_view frame.old) (waits waiting.old)) f) }
+    ensures { MatchResult result
+        (λ u. Ok (body_view frame.new, waits waiting.new)
+        ≡ looks name.now (body_view frame.old) (waits waiting.old))
+        (λ f. Fails Err (looks name.now (body_view frame.old) (waits waiting.old)) f) }
 {
     if let Some(value) = argument(frame.params, frame.args.as_slice(), name) {
         let value = copied(alloc, value)?;
@@ -153,7 +170,14 @@ fn call<'i, 'a>(
     frame: &mut Frame<'i, 'a>,
     waiting: &mut Stack<Waiting<'i, 'a>>,
 ) -> Result<(), EvalFault>
-    ensures { MatchResult result (λ u. Ok (body_view frame.new, waits waiting.new) ≡ enters (function_of (backwards frame.old.before) callee.entry.name.now) callee.entry.name.now callee.entry.wanted (vals args.entry) (body_view frame.old) (waits waiting.old)) (λ f. Fails Err (enters (function_of (backwards frame.old.before) callee.entry.name.now) callee.entry.name.now callee.entry.wanted (vals args.entry) (body_view frame.old) (waits waiting.old)) f) }
+    ensures { MatchResult result
+        (λ u. Ok (body_view frame.new, waits waiting.new)
+        ≡ enters (function_of
+        (backwards frame.old.before) callee.entry.name.now) callee.entry.name.now callee.entry.wanted
+        (vals args.entry) (body_view frame.old) (waits waiting.old))
+        (λ f. Fails Err (enters
+        (function_of (backwards frame.old.before) callee.entry.name.now) callee.entry.name.now
+        callee.entry.wanted (vals args.entry) (body_view frame.old) (waits waiting.old)) f) }
 {
     let Some(found) = function_of(frame.before, callee.name) else {
         return Err(EvalFault::NoFilter {
@@ -171,7 +195,8 @@ fn resume_fallen<'i, 'a>(
     frame: &mut Frame<'i, 'a>,
     waiting: &mut Stack<Waiting<'i, 'a>>,
 ) -> Result<Option<How<'a>>, EvalFault>
-    ensures { (r : Route) → Steps result r (body_view frame.new) (waits waiting.new) (resumes (falls r) (waits waiting.old)) }
+    ensures { (r : Route)
+        → Steps result r (body_view frame.new) (waits waiting.new) (resumes (falls r) (waits waiting.old)) }
 {
     let Some(top) = waiting.pop() else {
         return Ok(Some(How::Falls));
@@ -191,7 +216,9 @@ fn resume_returned<'i, 'a>(
     frame: &mut Frame<'i, 'a>,
     waiting: &mut Stack<Waiting<'i, 'a>>,
 ) -> Result<Option<How<'a>>, EvalFault>
-    ensures { (r : Route) → Steps result r (body_view frame.new) (waits waiting.new) (resumes (returns (val_of value.entry) r) (waits waiting.old)) }
+    ensures { (r : Route)
+        → Steps result r (body_view frame.new) (waits waiting.new)
+        (resumes (returns (val_of value.entry) r) (waits waiting.old)) }
 {
     let Some(top) = waiting.pop() else {
         return Ok(Some(How::Returns(value)));
@@ -210,7 +237,9 @@ fn resume<'i, 'a>(
     frame: &mut Frame<'i, 'a>,
     waiting: &mut Stack<Waiting<'i, 'a>>,
 ) -> Result<Option<How<'a>>, EvalFault>
-    ensures { (r : Route) → Steps result r (body_view frame.new) (waits waiting.new) (resumes (end_of how.entry r) (waits waiting.old)) }
+    ensures { (r : Route)
+        → Steps result r (body_view frame.new) (waits waiting.new)
+        (resumes (end_of how.entry r) (waits waiting.old)) }
 {
     match how {
         How::Falls => resume_fallen(alloc, frame, waiting),
@@ -229,7 +258,8 @@ pub fn step<'i, 'a>(
     waiting: &mut Stack<Waiting<'i, 'a>>,
     route: &mut Route,
 ) -> Result<Option<How<'a>>, EvalFault>
-    ensures { Steps result route.new (body_view frame.new) (waits waiting.new) (step (environment_of env.now) (body_view frame.old) (waits waiting.old) route.old) }
+    ensures { Steps result route.new (body_view frame.new) (waits waiting.new)
+        (step (environment_of env.now) (body_view frame.old) (waits waiting.old) route.old) }
 {
     match act(alloc, env, &mut frame.tasks, &mut frame.values, route)? {
         Act::On => Ok(None),

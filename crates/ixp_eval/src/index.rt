@@ -19,7 +19,8 @@ pub struct Index<'a> {
 
 /// The name that finds an item: its own, or that of the table which is a pipe's peer.
 fn found_by(item: &Item) -> Option<&[u8]>
-    ensures { MatchOption result ((n : List ℕ) → finds n (item_view item.now) ≡ false) (λ m. (n : List ℕ) → finds n (item_view item.now) ≡ same_name m.now n) }
+    ensures { MatchOption result ((n : List ℕ) → finds n (item_view item.now) ≡ false)
+        (λ m. (n : List ℕ) → finds n (item_view item.now) ≡ same_name m.now n) }
 {
     match item {
         Item::Define { name, .. } => Some(name.as_bytes()),
@@ -37,7 +38,9 @@ fn put_place<'a>(
     item: &'a Item,
     place: usize,
 ) -> Result<(), AllocError>
-    ensures { OnOk result ((n : List ℕ) → values_of places.new n ≡ values_of places.old n ++ put_place n place (item_view item.now)) }
+    ensures { OnOk result
+        ((n : List ℕ) → values_of places.new n ≡ values_of places.old n
+        ++ put_place n place (item_view item.now)) }
 {
     match found_by(item) {
         Some(name) => places.add(alloc, name, place),

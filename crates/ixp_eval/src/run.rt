@@ -28,7 +28,9 @@ fn run_body<'a>(
     mut frame: Frame<'_, 'a>,
     mut route: Route,
 ) -> Result<(How<'a>, Route), EvalFault>
-    ensures { MatchResult result (λ p. end_of p.0 p.1 ≡ body_out (environment_of env.now) (body_view frame.entry) route) (λ f. Fails fails (body_out (environment_of env.now) (body_view frame.entry) route) f) }
+    ensures { MatchResult result
+        (λ p. end_of p.0 p.1 ≡ body_out (environment_of env.now) (body_view frame.entry) route)
+        (λ f. Fails fails (body_out (environment_of env.now) (body_view frame.entry) route) f) }
 {
     let mut waiting = Stack::new(alloc);
     'steps: loop {
@@ -57,7 +59,8 @@ pub(crate) fn run_filter_by<'a>(
     route: &Route,
     env: &Env<'_>,
 ) -> Result<Verdict, EvalFault>
-    ensures { Gives result (filter_end (environment_of env.now) (reverse (items_of index.now)) name.now route.now) }
+    ensures { Gives result
+        (filter_end (environment_of env.now) (reverse (items_of index.now)) name.now route.now) }
 {
     let Some(found) = filter_of(all(index), name) else {
         return Err(EvalFault::NoFilter {
@@ -83,7 +86,8 @@ pub fn run_filter<'a>(
     route: &Route,
     env: &Env<'_>,
 ) -> Result<Verdict, EvalFault>
-    ensures { Gives result (filter_end (environment_of env.now) (reverse (config_view c.now)) name.now route.now) }
+    ensures { Gives result
+        (filter_end (environment_of env.now) (reverse (config_view c.now)) name.now route.now) }
 {
     let index = Index::of(alloc, c.items.as_slice())?;
     run_filter_by(alloc, &index, name, route, env)
@@ -100,7 +104,8 @@ pub fn call_function<'a>(
     route: &Route,
     env: &Env<'_>,
 ) -> Result<Value, CallFault>
-    ensures { CallGives result (function_end (environment_of env.now) (reverse (config_view c.now)) name.now arg route.now) }
+    ensures { CallGives result
+        (function_end (environment_of env.now) (reverse (config_view c.now)) name.now arg route.now) }
 {
     let index = Index::of(alloc, c.items.as_slice())?;
     let Some(found) = function_of(all(&index), name) else {

@@ -49,7 +49,8 @@ fn is_of(item: &Item, sort: Sort, name: &Name) -> bool
 
 /// Whether the item at a place is of the sort and has the name.
 fn is_at(before: Before<'_, '_>, place: usize, sort: Sort, name: &Name) -> bool
-    ensures { result ≡ is_at before.entry.count (is_of sort name.now) (items_of before.entry.index.now) place }
+    ensures { result ≡ is_at before.entry.count (is_of sort name.now)
+        (items_of before.entry.index.now) place }
 {
     if before.count <= place {
         return false;
@@ -104,7 +105,8 @@ fn pipe_between_at<'a>(
     primary: &Name,
     peer: &Name,
 ) -> Option<&'a Pipe>
-    ensures { option_copied result ≡ pipe_at (is_between primary.now peer.now) (slice_get (items_of index.now) place) }
+    ensures { option_copied result
+        ≡ pipe_at (is_between primary.now peer.now) (slice_get (items_of index.now) place) }
 {
     match item_at(index, place) {
         Some(Item::Pipe(pipe)) if same_name(&pipe.table, primary) && same_name(&pipe.peer, peer) =>

@@ -2,7 +2,17 @@
 ghost use Rattle.std.specs.Prelude.{◌≡◌, map};
 ghost use Rattle.std.specs.Option.{option_copied};
 ghost use Rattle.ixp_lang.specs.Views.{config_view, item_view};
-ghost use Rattle.ixp_lang.specs.Walks.{pipe_from, pipes_of, sent_through, sent_to, session_named, bgp_sessions, through, to_primary, walk};
+ghost use Rattle.ixp_lang.specs.Walks.{
+  pipe_from,
+  pipes_of,
+  sent_through,
+  sent_to,
+  session_named,
+  bgp_sessions,
+  through,
+  to_primary,
+  walk,
+};
 ghost use Rattle.ixp_eval.specs.Indexed.{items_of};
 ghost use Rattle.ixp_eval.specs.Answers.{Gives};
 ghost use Rattle.ixp_eval.specs.Views.{environment_of};
@@ -60,7 +70,8 @@ fn received<'a>(
     route: &Route,
     env: &Env<'_>,
 ) -> Result<Option<Route>, EvalFault>
-    ensures { Gives result (sent_through (environment_of env.now) (items_of index.now) primary.now receiver.now route.now) }
+    ensures { Gives result
+        (sent_through (environment_of env.now) (items_of index.now) primary.now receiver.now route.now) }
 {
     let Some(pipe) = pipe_between(index, primary, &receiver.table) else {
         return Ok(None);
@@ -83,7 +94,9 @@ fn sent_to<'a>(
     route: &Route,
     env: &Env<'_>,
 ) -> Result<Items<(Name, Option<Route>)>, EvalFault>
-    ensures { Gives result (sent_to (environment_of env.now) (items_of index.now) sender.now primary.now (bgp_sessions (items_of index.now)) route.now) }
+    ensures { Gives result
+        (sent_to (environment_of env.now) (items_of index.now) sender.now primary.now
+        (bgp_sessions (items_of index.now)) route.now) }
 {
     let mut sent = Items::new(alloc);
     'items: for item in index.items {
@@ -106,7 +119,9 @@ fn from_table<'a>(
     own: Route,
     env: &Env<'_>,
 ) -> Result<Fate, EvalFault>
-    ensures { Gives result (to_primary (environment_of env.now) (items_of index.now) sender.now (pipe_from (pipes_of (items_of index.now)) sender.now.table) own) }
+    ensures { Gives result
+        (to_primary (environment_of env.now) (items_of index.now) sender.now
+        (pipe_from (pipes_of (items_of index.now)) sender.now.table) own) }
 {
     let Some(pipe) = pipe_from(index, &sender.table) else {
         return Ok(Fate {
@@ -129,8 +144,8 @@ fn from_table<'a>(
     }
 }
 
-/// What the configuration does with a route from the session of the name. V4 comes where no session has it, and
-/// V1 to V4 where a filter on the way gives them; the first fault on the way is the answer.
+/// What the configuration does with a route from the session of the name. V4 comes where no session has it,
+/// and V1 to V4 where a filter on the way gives them; the first fault on the way is the answer.
 #[tactic(auto, using(crate::proofs::Going::bind_fails))]
 pub fn walk(
     alloc: Global,

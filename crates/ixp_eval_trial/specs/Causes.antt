@@ -16,7 +16,7 @@ code_of Family = E2
 code_of Set = E3
 code_of TooLong = E4
 
--- the code of the fault and its line; want of memory is no fault of the input
+-- the code of the fault and its line; running out of memory is no fault of the input
 abbrev pub cause_of : TrialFault → Option Cause
 cause_of (BadLine line) = Some (record { code = U1; place = Line line })
 cause_of (BadRoute line code) = Some (record { code = code_of code; place = Line line })

@@ -11,7 +11,8 @@ use Rattle.ixp_eval_trial.specs.declared.fault.TrialFault.TheVariants as fault
 use Rattle.ixp_eval_trial.specs.declared.session_route.SessionRoute.{SessionRoute}
 use Rattle.ixp_eval_trial.specs.Trials.{IsNoRouteText}
 
--- `route <handle> <interface> <route>`: a router's handle, the number of an interface, and the text of a route, with single blanks
+-- `route <handle> <interface> <route>`: a router's handle, the number of an interface, and the text of a
+-- route, with single blanks
 pub record IsSessionLine (line handle : List ℕ) (interface : ℕ) (text : List ℕ) : Type 0 where
   pub number : List ℕ
   pub whole : line ≡ codes "route " ++ (handle ++ 32 ∷ (number ++ 32 ∷ text))
@@ -29,8 +30,8 @@ SaysNoRoute line c =
     (((handle : List ℕ) (interface : ℕ) (text : List ℕ) → ¬ (IsSessionLine line handle interface text)) × (c ≡ code.Text))
     ⊎ ((handle : List ℕ) × (interface : ℕ) × (text : List ℕ) × IsSessionLine line handle interface text × IsNoRouteText text c)
 
--- What lines are, of which the first has this number: one line that says a route. Where there is none, or another one after it, that
--- is the place; want of memory is free.
+-- What lines are, of which the first has this number: one line that says a route. Where there is none, or
+-- another one after it, that is the place; running out of memory is free.
 abbrev pub SessionRouteAnswer : List (List ℕ) → ℕ → Result SessionRoute TrialFault → Type 0
 SessionRouteAnswer ls first (Ok s) = (line : List ℕ) × (ls ≡ line ∷ []) × SaysRoute line s.router s.interface s.route × (s.line ≡ first)
 SessionRouteAnswer ls first (Err (fault.BadLine n)) = ⊥

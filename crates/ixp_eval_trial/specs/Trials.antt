@@ -17,8 +17,9 @@ use Rattle.ixp_eval_trial.specs.Lines.{lines, HasNoDivider, Divided}
 abbrev pub BeginsRoa : List ℕ → Type 0
 BeginsRoa line = (rest : List ℕ) × (line ≡ codes "roa " ++ rest)
 
--- `roa <table> <prefix> <max> <asn>`, with single blanks: a name, a prefix (RFC 4291 section 2.3, RFC 4632 section 3.1), a max
--- length (RFC 6482 section 3.3), which may be any number of 8 bits, and an AS number (RFC 5396, asplain)
+-- `roa <table> <prefix> <max> <asn>`, with single blanks: a name, a prefix (RFC 4291 section 2.3, RFC 4632
+-- section 3.1), a max length (RFC 6482 section 3.3), which may be any number of 8 bits, and an AS number (RFC
+-- 5396, asplain)
 pub record IsRoaLine (line : List ℕ) (table : List ℕ) (roa : Roa) : Type 0 where
   pub net : List ℕ
   pub max : List ℕ
@@ -54,8 +55,8 @@ IsNoRoute line c =
     (((session text : List ℕ) → ¬ (IsRouteLine line session text)) × (c ≡ code.Text))
     ⊎ ((session text : List ℕ) × IsRouteLine line session text × IsNoRouteText text c)
 
--- Of these lines, the first of which has the number `first`, the front is the lines of these ROAs; behind them stands the rest, the
--- first line of which has this number.
+-- Of these lines, the first of which has the number `first`, the front is the lines of these ROAs; behind
+-- them stands the rest, the first line of which has this number.
 pub record Behind (ls : List (List ℕ)) (first : ℕ) (roas : List (List ℕ × Roa)) (number : ℕ) (rest : List (List ℕ)) : Type 0 where
   pub before : List (List ℕ)
   pub whole : ls ≡ before ++ rest
@@ -67,8 +68,9 @@ abbrev pub following : ℕ → List (List ℕ) → Option ℕ
 following number [] = None
 following number (l ∷ ls) = Some (number + 1)
 
--- What these lines are, of which the first has this number. The first line that isn't the line of a ROA is the route's, and
--- the first that can't stand where it does is told. Lines that end before the route's are told where that would stand.
+-- What these lines are, of which the first has this number. The first line that isn't the line of a ROA is
+-- the route's, and the first that can't stand where it does is told. Lines that end before the route's are
+-- told where that would stand.
 abbrev pub LinesAnswer : List (List ℕ) → ℕ → Result Trial TrialFault → Type 0
 LinesAnswer ls first (Ok t) =
     (line text : List ℕ) × (after : List (List ℕ)) × Behind ls first t.roas t.line (line ∷ after)
@@ -81,7 +83,8 @@ LinesAnswer ls first (Err (fault.BadRoute n c)) =
     ⊎ ((roas : List (List ℕ × Roa)) × Behind ls first roas n [] × (c ≡ code.Text))
 LinesAnswer ls first (Err fault.NoMemory) = Unit {0}
 
--- What an input is: what the lines behind its divider are. Where there is no divider, the line behind the last one is told.
+-- What an input is: what the lines behind its divider are. Where there is no divider, the line behind the
+-- last one is told.
 abbrev pub TrialAnswer : List ℕ → Result Trial TrialFault → Type 0
 TrialAnswer input result =
     ((above behind : List (List ℕ)) × Divided input above behind × LinesAnswer behind (length above + 2) result)

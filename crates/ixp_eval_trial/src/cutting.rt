@@ -43,7 +43,8 @@ pub(crate) fn first_line(t: &[u8]) -> Option<(&[u8], &[u8])>
 
 /// What is behind these bytes at the front.
 pub(crate) fn after_front<'a>(front: &[u8], t: &'a [u8]) -> Option<&'a [u8]>
-    ensures { MatchOption result ((rest : List ℕ) → t.now ≢ front.now ++ rest) (λ rest. t.now ≡ front.now ++ rest.now) }
+    ensures { MatchOption result ((rest : List ℕ) → t.now ≢ front.now ++ rest)
+        (λ rest. t.now ≡ front.now ++ rest.now) }
 {
     t.strip_prefix(front)
 }

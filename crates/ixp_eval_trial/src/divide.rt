@@ -15,9 +15,12 @@ pub(crate) struct Parts<'a> {
     pub line: u64,
 }
 
-/// The parts of an input at its first line that is `%%`. Where there is none, the number of the line behind the last.
+/// The parts of an input at its first line that is `%%`. Where there is none, the number of the line behind
+/// the last.
 pub(crate) fn parts_of(input: &[u8]) -> Result<Parts<'_>, u64>
-    ensures parts { IfOk result (λ p. (above : List (List ℕ)) × Divided input.now above (lines p.behind.now) × (p.filter.now ≡ ended above) × (p.line ≡ length above + 2)) }
+    ensures parts { IfOk result
+        (λ p. (above : List (List ℕ)) × Divided input.now above (lines p.behind.now)
+        × (p.filter.now ≡ ended above) × (p.line ≡ length above + 2)) }
     ensures within { IfOk result (λ p. p.line + length p.behind.now ≤ length input.now) }
     ensures none { IfErr result (λ n. HasNoDivider (lines input.now) × (n ≡ length (lines input.now) + 1)) }
 {

@@ -6,7 +6,8 @@ use thiserror::Error;
 /// Why an input is no trial. Lines are numbered from 1.
 #[derive(Clone, Copy, Debug, PartialEq, Eq, Error)]
 pub enum TrialFault {
-    /// The line begins as a ROA's and isn't of its form. Where no line is `%%`, it is the one behind the last.
+    /// The line begins as a ROA's and isn't of its form. Where no line is `%%`, it is the one behind the
+    /// last.
     #[error("line {line} is none of a trial")]
     BadLine { line: u64 },
     /// The line is no route's. Where the text ends before it, it is the line behind the last.
@@ -51,7 +52,7 @@ impl TrialFault {
     ghost use Rattle.std.specs.Prelude.{◌≡◌};
     ghost use Rattle.ixp_eval_trial.specs.Causes.{cause_of};
 
-    /// How the fault is told; None of want of memory.
+    /// How the fault is told; None where memory ran out.
     pub fn cause(self) -> Option<Cause>
         ensures { result ≡ cause_of self }
     {

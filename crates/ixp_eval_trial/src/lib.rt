@@ -1,9 +1,10 @@
 //! Inputs that end with the line of a route.
 //!
-//! The input of a trial is a filter text, and after the line `%%` the ROAs and the route that it is tried with:
-//! [`filter_text`] is the text, [`read_trial`] reads what follows: lines `roa <table> <prefix> <max> <asn>`, and then
-//! `route <session> <route>`. [`tables_of`] makes the tables of the ROAs. A dump is followed by `route <handle> <interface> <route>`,
-//! the route that a session of a route server brings: [`read_session_route`] reads it.
+//! The input of a trial is a filter text, and after the line `%%` the ROAs and the route that it is tried
+//! with: [`filter_text`] is the text, [`read_trial`] reads what follows: lines `roa <table> <prefix> <max>
+//! <asn>`, and then `route <session> <route>`. [`tables_of`] makes the tables of the ROAs. A dump is followed
+//! by `route <handle> <interface> <route>`, the route that a session of a route server brings:
+//! [`read_session_route`] reads it.
 #![tactic(auto)]
 
 mod cutting;

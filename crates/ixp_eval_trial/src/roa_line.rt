@@ -25,7 +25,8 @@ struct Fields<'a> {
 /// The fields of a text, with single blanks between them.
 #[tactic(auto, using(crate::proofs::Fields::no_table, crate::proofs::Fields::no_net, crate::proofs::Fields::no_max, crate::proofs::Fields::fields_are))]
 fn fields_of(t: &[u8]) -> Option<Fields<'_>>
-    ensures { MatchOption result ((table net max asn : List ℕ) → ¬ (AreFields t.now table net max asn)) (λ f. AreFields t.now f.table.now f.net.now f.max.now f.asn.now) }
+    ensures { MatchOption result ((table net max asn : List ℕ) → ¬ (AreFields t.now table net max asn))
+        (λ f. AreFields t.now f.table.now f.net.now f.max.now f.asn.now) }
 {
     let (table, rest) = cut(b' ', t)?;
     let (net, rest) = cut(b' ', rest)?;

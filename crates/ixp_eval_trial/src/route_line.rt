@@ -25,7 +25,8 @@ pub(crate) fn route_in(alloc: Global, text: &[u8]) -> Result<Route, Misfit>
 
 /// The session's name and the route's text in a line.
 fn session_and_text(line: &[u8]) -> Option<(&[u8], &[u8])>
-    ensures { MatchOption result ((session text : List ℕ) → ¬ (IsRouteLine line.now session text)) (λ p. IsRouteLine line.now p.0.now p.1.now) }
+    ensures { MatchOption result ((session text : List ℕ) → ¬ (IsRouteLine line.now session text))
+        (λ p. IsRouteLine line.now p.0.now p.1.now) }
 {
     let Some(rest) = after_front(b"route ", line) else {
         return None;

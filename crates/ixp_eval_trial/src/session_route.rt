@@ -37,7 +37,8 @@ struct Parts<'a> {
 /// What follows the first word of a line, cut at its blanks.
 #[tactic(auto, using(crate::proofs::Parts::no_handle_cut, crate::proofs::Parts::no_number_cut, crate::proofs::Parts::parts_are))]
 fn parts_of(line: &[u8]) -> Option<Parts<'_>>
-    ensures { MatchOption result ((handle number text : List ℕ) → ¬ (AreParts line.now handle number text)) (λ p. AreParts line.now p.handle.now p.number.now p.text.now) }
+    ensures { MatchOption result ((handle number text : List ℕ) → ¬ (AreParts line.now handle number text))
+        (λ p. AreParts line.now p.handle.now p.number.now p.text.now) }
 {
     let rest = after_front(b"route ", line)?;
     let (handle, rest) = cut(b' ', rest)?;
@@ -51,7 +52,8 @@ fn parts_of(line: &[u8]) -> Option<Parts<'_>>
 
 /// The number of an interface.
 fn interface_of(field: &[u8]) -> Option<u32>
-    ensures { MatchOption result ((n : ℕ) → ¬ (IsUpTo 4294967295 field.now n)) (λ n. IsUpTo 4294967295 field.now n) }
+    ensures { MatchOption result ((n : ℕ) → ¬ (IsUpTo 4294967295 field.now n))
+        (λ n. IsUpTo 4294967295 field.now n) }
 {
     match number_up_to(field, 4_294_967_295) {
         Some(number) => Some(number as u32),
@@ -70,7 +72,8 @@ struct SessionLine<'a> {
 /// What a line says, where it is of the form.
 #[tactic(auto, using(crate::proofs::Parts::no_parts, crate::proofs::Parts::no_router, crate::proofs::Parts::no_interface, crate::proofs::Parts::is_line))]
 fn session_line(line: &[u8]) -> Option<SessionLine<'_>>
-    ensures { MatchOption result ((handle : List ℕ) (interface : ℕ) (text : List ℕ) → ¬ (IsSessionLine line.now handle interface text))
+    ensures { MatchOption result
+        ((handle : List ℕ) (interface : ℕ) (text : List ℕ) → ¬ (IsSessionLine line.now handle interface text))
         (λ l. IsSessionLine line.now l.handle.now l.interface l.text.now) }
 {
     let Some(parts) = parts_of(line) else {
@@ -127,8 +130,8 @@ fn lines_count(text: &[u8]) -> u64
     count
 }
 
-/// Reads what follows a dump in an input: one line, `route <handle> <interface> <route>`. The number of that line is told by
-/// the lines of what stands before it.
+/// Reads what follows a dump in an input: one line, `route <handle> <interface> <route>`. The number of that
+/// line is told by the lines of what stands before it.
 pub fn read_session_route(
     alloc: Global,
     before: &[u8],

@@ -40,7 +40,7 @@ fn add_table(
     }
 }
 
-/// The tables of ROAs by their names, each with the ROAs of its lines. It fails for want of memory alone.
+/// The tables of ROAs by their names, each with the ROAs of its lines. It fails only where memory runs out.
 pub fn tables_of(alloc: Global, roas: &[(Name, Roa)]) -> Result<Items<(Name, RoaTable)>, AllocError>
     ensures { IfOk result (AreTables roas.now) }
 {

@@ -75,8 +75,8 @@ fn lines_of(alloc: Global, behind: &[u8], first: u64) -> Result<Trial, TrialFaul
     })
 }
 
-/// Reads what stands behind the divider of an input: the lines of ROAs, and the first other line, which is the
-/// route's. A line behind that one is no fault; its number is told.
+/// Reads what stands behind the divider of an input: the lines of ROAs, and the first other line, which is
+/// the route's. A line behind that one is no fault; its number is told.
 pub fn read_trial(alloc: Global, input: &[u8]) -> Result<Trial, TrialFault>
     ensures { TrialAnswer input.now result }
 {

@@ -69,7 +69,8 @@ abbrev pub unless_apart : {A : Type 0} → Option Family → Result A Trouble �
 unless_apart None outcome = outcome
 unless_apart (Some family) outcome = Err (other_family family)
 
--- The number that stands behind `stopped` in a fate's text, where the route server's own number is known: why the route was stopped.
+-- The number that stands behind `stopped` in a fate's text, where the route server's own number is known: why
+-- the route was stopped.
 abbrev pub number_told : Option Asn → Option Route → Bool → Option ℕ
 number_told own None passed = None
 number_told own (Some route) true = None

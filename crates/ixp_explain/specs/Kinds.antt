@@ -1,5 +1,5 @@
--- Of which kind the values of expressions are, and what a function of a configuration takes and gives. In a text that is read, all that a
--- function returns has one type, and each name is declared once.
+-- Of which kind the values of expressions are, and what a function of a configuration takes and gives. In a
+-- text that is read, all that a function returns has one type, and each name is declared once.
 use Rattle.std.specs.Prelude.{Bool, true, false, ◌&&◌, List, [], ◌∷◌, ◌++◌, Option, Some, None, ℕ}
 use Rattle.std.specs.Option.{option_or}
 use Rattle.ixp_lang.specs.declared.expr.Attr.{Attr}

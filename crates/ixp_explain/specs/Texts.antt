@@ -25,7 +25,7 @@ abbrev pub told_text : Option Route → Bool → Option ℕ → List (Asn × Opt
 told_text None passed number asks = codes "dropped\n"
 told_text (Some route) passed number asks = (codes "tagged " ++ (attributes_text route ++ codes "\n")) ++ (verdict_text passed number ++ asks_text asks)
 
--- One line for the route as the server holds it, one for whether it passes, with the number of the reason if it doesn't, and one
--- for each peer that was asked.
+-- One line for the route as the server holds it, one for whether it passes, with the number of the reason if
+-- it doesn't, and one for each peer that was asked.
 abbrev pub own_text : OwnReport → List ℕ
 own_text r = told_text r.tagged r.passed r.number r.asks

@@ -26,8 +26,9 @@ fn explain_by(
     Ok(Report { fate, number })
 }
 
-/// What becomes of a route that the interface's session `b_<interface>` brings, by the configuration that the text spells, with these
-/// tables of ROAs by their names (`tables_of`). `Unread` comes first, then `Family`, then `Fault`.
+/// What becomes of a route that the interface's session `b_<interface>` brings, by the configuration that the
+/// text spells, with these tables of ROAs by their names (`tables_of`). `Unread` comes first, then `Family`,
+/// then `Fault`.
 #[tactic(auto, using(crate::proofs::Telling::told_of, crate::proofs::Telling::unread_of))]
 pub fn explain(
     alloc: Global,

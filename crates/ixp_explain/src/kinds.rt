@@ -22,7 +22,8 @@ pub enum Kind {
 pub enum Sort {
     /// A defined value.
     Value(Kind),
-    /// A function: whether its parameters are one int, and the kind of what it returns, None where it returns nothing.
+    /// A function: whether its parameters are one int, and the kind of what it returns, None where it returns
+    /// nothing.
     Function(bool, Option<Kind>),
     /// Another item.
     Item,
@@ -91,7 +92,8 @@ fn kind_of_attribute(attr: Attr) -> Kind
 }
 
 fn kind_of_name(sorts: &[(Name, Sort)], params: &[(Ty, Name)], name: &Name) -> Kind
-    ensures { result ≡ spec.named_kind (find_named (spec.param_of params.now) name.now) (spec.defined_kind (find_named sorts.now name.now)) }
+    ensures { result ≡ spec.named_kind (find_named (spec.param_of params.now) name.now)
+        (spec.defined_kind (find_named sorts.now name.now)) }
 {
     match param_named(params, name) {
         Some(ty) => kind_of_type(ty),
@@ -215,7 +217,9 @@ fn add_function(
     params: &[(Ty, Name)],
     body: &[Stmt],
 ) -> Result<(), AllocError>
-    ensures { OnOk result (sorts.new ≡ sorts.old ++ spec.declared_by sorts.old (function_item name.now params.now (stmts (stmts_view body.now)))) }
+    ensures { OnOk result
+        (sorts.new ≡ sorts.old
+        ++ spec.declared_by sorts.old (function_item name.now params.now (stmts (stmts_view body.now)))) }
 {
     let returned = returned_in(sorts.as_slice(), params, body);
     add(

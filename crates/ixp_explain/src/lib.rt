@@ -1,8 +1,10 @@
-//! What a configuration text says of a route: its fate, why it is stopped, and, for a member's own route, to which peers it is to be sent.
+//! What a configuration text says of a route: its fate, why it is stopped, and, for a member's own route, to
+//! which peers it is to be sent.
 //!
-//! [`explain`] and [`explain_member`] read the text and run it. What they answer is the outcome by the configuration that the text spells
-//! (`specs/Explained.antt`), so a text that was altered by hand is explained as it stands. [`print_own`] writes what a member is told.
-//! What the texts of a valid registry explain is said in `ixp_explain_member`.
+//! [`explain`] and [`explain_member`] read the text and run it. What they answer is the outcome by the
+//! configuration that the text spells (`specs/Explained.antt`), so a text that was altered by hand is
+//! explained as it stands. [`print_own`] writes what a member is told. What the texts of a valid registry
+//! explain is said in `ixp_explain_member`.
 #![tactic(auto)]
 
 mod fates;

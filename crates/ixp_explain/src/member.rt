@@ -4,7 +4,14 @@ ghost use Rattle.std.specs.Option.{option_copied};
 ghost use Rattle.ixp_lang.specs.Views.{config_view};
 ghost use Rattle.ixp_eval.specs.Views.{environment_of};
 ghost use Rattle.ixp_explain.specs.Answers.{Answers, Tells};
-ghost use Rattle.ixp_explain.specs.Explained.{asks_told, own_explained, passed_told, session_in, up_name, wishes_by};
+ghost use Rattle.ixp_explain.specs.Explained.{
+  asks_told,
+  own_explained,
+  passed_told,
+  session_in,
+  up_name,
+  wishes_by,
+};
 
 use crate::kinds::sorts_of;
 use crate::peers::wishes;
@@ -30,7 +37,8 @@ fn wishes_by(
     peers: &[Asn],
     verdict: &Verdict,
 ) -> Result<Items<(Asn, Option<u8>)>, ExplainFault>
-    ensures { Tells result (wishes_by (config_view config.now) (environment_of env.now) peers.now verdict.now) }
+    ensures { Tells result
+        (wishes_by (config_view config.now) (environment_of env.now) peers.now verdict.now) }
 {
     match verdict {
         Verdict::Accept(route) => wishes(alloc, config, env, route, peers),
@@ -48,7 +56,8 @@ fn passed(
     route: &Route,
     peers: &[Asn],
 ) -> Result<Items<(Asn, Option<u8>)>, ExplainFault>
-    ensures { Tells result (passed_told (config_view config.now) (environment_of env.now) interface route.now peers.now) }
+    ensures { Tells result
+        (passed_told (config_view config.now) (environment_of env.now) interface route.now peers.now) }
 {
     let up = up_name(alloc, interface)?;
     let verdict = run_filter(alloc, config, &up, route, env)?;
@@ -66,7 +75,9 @@ fn asks(
     fate: &Fate,
     peers: &[Asn],
 ) -> Result<Items<(Asn, Option<u8>)>, ExplainFault>
-    ensures { Tells result (asks_told (config_view config.now) roas.now interface (session_in (config_view config.now) interface) fate.now.table fate.now.passed peers.now) }
+    ensures { Tells result
+        (asks_told (config_view config.now) roas.now interface
+        (session_in (config_view config.now) interface) fate.now.table fate.now.passed peers.now) }
 {
     let name = name_of(alloc, interface)?;
     let Some(session) = session_named(config.items.as_slice(), &name) else {
@@ -108,9 +119,10 @@ fn explain_by(
     })
 }
 
-/// What a member is told of a route that its interface's session brings, by its own text, with these tables of ROAs: the route as the
-/// server holds it, whether it passes, and for each peer that is asked, whether it is to be sent there. `Unread`, `Family` and `Fault` come as in
-/// [`explain`](crate::explain). A route that passes is given to the filter `up_<interface>` first; `Fault` comes of it, `Shape` of the functions
+/// What a member is told of a route that its interface's session brings, by its own text, with these tables
+/// of ROAs: the route as the server holds it, whether it passes, and for each peer that is asked, whether it
+/// is to be sent there. `Unread`, `Family` and `Fault` come as in [`explain`](crate::explain). A route that
+/// passes is given to the filter `up_<interface>` first; `Fault` comes of it, `Shape` of the functions
 /// `ixp_sends` and `ixp_count`, then `Fault` of these, peer after peer.
 #[tactic(auto, using(crate::proofs::Telling::told_of, crate::proofs::Telling::unread_of))]
 pub fn explain_member(

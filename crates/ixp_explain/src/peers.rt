@@ -4,7 +4,16 @@ ghost use Rattle.ixp_lang.specs.Attributes.{truth};
 ghost use Rattle.ixp_lang.specs.Views.{config_view};
 ghost use Rattle.ixp_eval.specs.Views.{environment_of};
 ghost use Rattle.ixp_explain.specs.Answers.{Tells, Troubled};
-ghost use Rattle.ixp_explain.specs.Explained.{count_name, count_told, misshapen, sends_name, sends_told, times_told, wish_told, wishes_told};
+ghost use Rattle.ixp_explain.specs.Explained.{
+  count_name,
+  count_told,
+  misshapen,
+  sends_name,
+  sends_told,
+  times_told,
+  wish_told,
+  wishes_told,
+};
 
 use crate::report::ExplainFault;
 use ixp_eval::{Env, call_function};
@@ -116,7 +125,8 @@ pub(crate) fn wishes(
     route: &Route,
     peers: &[Asn],
 ) -> Result<Items<(Asn, Option<u8>)>, ExplainFault>
-    ensures { Tells result (wishes_told (config_view config.now) (environment_of env.now) route.now peers.now) }
+    ensures { Tells result
+        (wishes_told (config_view config.now) (environment_of env.now) route.now peers.now) }
 {
     let mut wishes = Items::new(alloc);
     'each: for peer in peers {

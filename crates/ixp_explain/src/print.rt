@@ -75,7 +75,8 @@ fn behind<'a>(text: &'a [u8], front: &[u8]) -> &'a [u8]
 }
 
 fn put_tagged(out: &mut Vec<u8>, route: &Route) -> Result<(), AllocError>
-    ensures { OnOk result (out.new.items ≡ out.old.items ++ (codes "tagged " ++ (attributes_text route.now ++ codes "\n"))) }
+    ensures { OnOk result
+        (out.new.items ≡ out.old.items ++ (codes "tagged " ++ (attributes_text route.now ++ codes "\n"))) }
 {
     let attributes = attributes_of(*out.allocator(), route)?;
     put(out, b"tagged ")?;
@@ -94,8 +95,8 @@ fn put_own(out: &mut Vec<u8>, report: &OwnReport) -> Result<(), AllocError>
     put_asks(out, report.asks.as_slice())
 }
 
-/// Adds the text of what a member is told: a line for the route as the server holds it, one for whether it passes, and one for each
-/// peer that was asked.
+/// Adds the text of what a member is told: a line for the route as the server holds it, one for whether it
+/// passes, and one for each peer that was asked.
 pub fn print_own(report: &OwnReport, out: &mut Vec<u8>) -> Result<(), AllocError>
     ensures ok { OnOk result (out.new.items ≡ out.old.items ++ own_text report.now) }
     ensures err { OnErr result (out.new.items ≡ out.old.items) }

@@ -9,7 +9,8 @@ use std::alloc::{AllocError, AllocFailed};
 #[derive(Debug, Drop)]
 pub struct Report {
     pub fate: Fate,
-    /// Why the route is stopped: the number that its tag `(rs, 1101, number)` gives, where `rs` is the session's own AS number.
+    /// Why the route is stopped: the number that its tag `(rs, 1101, number)` gives, where `rs` is the
+    /// session's own AS number.
     pub number: Option<u32>,
 }
 
@@ -21,8 +22,8 @@ pub struct OwnReport {
     /// Whether it passes to the other sessions' tables.
     pub passed: bool,
     pub number: Option<u32>,
-    /// For each peer that was asked, how often the member's number is put in front of the path; None where the route isn't to be
-    /// sent there.
+    /// For each peer that was asked, how often the member's number is put in front of the path; None where
+    /// the route isn't to be sent there.
     pub asks: Items<(Asn, Option<u8>)>,
 }
 
@@ -35,8 +36,8 @@ pub enum ExplainFault {
     Family { family: Family },
     /// A filter or a function has no outcome, or there is no such session.
     Fault(CallFault),
-    /// The function of this name isn't of its form: `ixp_sends` takes an int and gives a bool, `ixp_count` takes an int and
-    /// gives an int of at most 255.
+    /// The function of this name isn't of its form: `ixp_sends` takes an int and gives a bool, `ixp_count`
+    /// takes an int and gives an int of at most 255.
     Shape { name: Name },
     /// There wasn't enough memory.
     NoMemory,

@@ -6,7 +6,14 @@ ghost use Rattle.ixp_lang.specs.Views.{config_view};
 ghost use Rattle.ixp_lang.specs.Walks.{bgp_sessions, session_named};
 ghost use Rattle.ixp_read.specs.Answers.{SpellsText};
 ghost use Rattle.ixp_explain.specs.Answers.{Tells, IsUnread};
-ghost use Rattle.ixp_explain.specs.Explained.{session_name, session_in, family_apart, fate_told, number_told, own_number};
+ghost use Rattle.ixp_explain.specs.Explained.{
+  session_name,
+  session_in,
+  family_apart,
+  fate_told,
+  number_told,
+  own_number,
+};
 ghost use Rattle.ixp_lang.specs.Texts.{reason_of};
 
 use crate::report::ExplainFault;

@@ -16,7 +16,8 @@ fn table_named(alloc: Global, name: &[u8], roas: &[Roa]) -> Result<(Name, RoaTab
     Ok((name, table))
 }
 
-/// The tables `roas4` and `roas6` of a registry's ROAs, of either family. Whoever explains many routes makes them once.
+/// The tables `roas4` and `roas6` of a registry's ROAs, of either family. Whoever explains many routes makes
+/// them once.
 pub fn tables_of(alloc: Global, roas: &[Roa]) -> Result<Items<(Name, RoaTable)>, AllocError>
     ensures { IfOk result (λ tables. tables ≡ (codes "roas4", roas.now) ∷ (codes "roas6", roas.now) ∷ []) }
 {

@@ -34,8 +34,8 @@ staff_explanation r handle n route =
 abbrev pub is_own : Registry → ℕ → ℕ → Bool
 is_own r m n = if_there (find interface_key (n ∷ []) r.interfaces) false (λ i. i.member == m)
 
--- To a member: what becomes of its own route, and for each peer its own wish. Of an interface that isn't its own the answer is X1, whether or not
--- the interface is there; X4 where there is no such router.
+-- To a member: what becomes of its own route, and for each peer its own wish. Of an interface that isn't its
+-- own the answer is X1, whether or not the interface is there; X4 where there is no such router.
 abbrev pub member_explanation : Registry → ℕ → List ℕ → ℕ → Route → List Asn → Explanation
 member_explanation r m handle n route peers =
     if is_own r m n

@@ -1,4 +1,5 @@
--- What the rules over a registry's rows say of a route, as reports, and when the texts of its routers explain these.
+-- What the rules over a registry's rows say of a route, as reports, and when the texts of its routers explain
+-- these.
 use Rattle.std.specs.Prelude.{◌≡◌, ℕ, false, List, [], map, Some, Ok, Err, if◌then◌else◌}
 use Rattle.ixp_num.specs.declared.asn.Asn.{Asn}
 use Rattle.ixp_num.specs.Families.{same_family}
@@ -22,7 +23,8 @@ use Rattle.ixp_explain.specs.Explained.{explained, own_explained, other_family}
 abbrev pub report_by_rows : Registry → Router → Session → Route → Report
 report_by_rows r router s route = record { fate = fate_of r router route s; number = refusal_number (refusal r router s route) }
 
--- the route as the server holds it, whether it passes, the number with which it is refused, and the wish for each peer where it passes
+-- the route as the server holds it, whether it passes, the number with which it is refused, and the wish for
+-- each peer where it passes
 abbrev pub own_report_by_rows : Registry → Router → Session → Route → List Asn → OwnReport
 own_report_by_rows r router s route peers = record {
   tagged = Some (tagged r router s route);
@@ -31,8 +33,8 @@ own_report_by_rows r router s route peers = record {
   asks = if passes r router s route then map (λ p. (p, wish router s (tagged r router s route) p.0)) peers else [];
 }
 
--- The router's text spells a configuration that explains each route of the session of interface n as the rows do. A route of the other
--- family is told so.
+-- The router's text spells a configuration that explains each route of the session of interface n as the rows
+-- do. A route of the other family is told so.
 pub record ExplainsRows (r : Registry) (router : Router) (n : ℕ) (s : Session) : Type 0 where
   pub items : List ItemTree
   pub is_spelt : SpellsText (Gen r router) items

@@ -1,10 +1,12 @@
 //! What is answered to who asks what becomes of a route at the exchange.
 //!
-//! [`staff_explanation`] gives the staff the route's fate by the router's text, [`member_explanation`] gives a member what its session's own
-//! text says of its own route. `specs/Explanations.antt` says what each is answered by the rows, and when it is refused.
+//! [`staff_explanation`] gives the staff the route's fate by the router's text, [`member_explanation`] gives
+//! a member what its session's own text says of its own route. `specs/Explanations.antt` says what each is
+//! answered by the rows, and when it is refused.
 //!
-//! That what the texts of a valid registry explain is what the rules over its rows say, `specs/Rows.antt` has: the reports by
-//! the rows, and when a text explains them. The laws' functions do nothing: each is called for what it ensures.
+//! That what the texts of a valid registry explain is what the rules over its rows say, `specs/Rows.antt`
+//! has: the reports by the rows, and when a text explains them. The laws' functions do nothing: each is
+//! called for what it ensures.
 #![tactic(auto)]
 
 mod explanation;

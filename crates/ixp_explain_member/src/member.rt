@@ -41,7 +41,9 @@ fn own_part(
     requires valid { Valid registry.now }
     requires there { find router_key handle.now registry.now.routers ≡ Some router.now }
     requires sender { is_some (session registry.now router.now interface) ≡ true }
-    ensures { IfOk result (λ text. (s : Session) → session registry.now router.now interface ≡ Some s → text.items ≡ Part registry.now router.now s) }
+    ensures { IfOk result
+        (λ text. (s : Session) → session registry.now router.now interface ≡ Some s
+        → text.items ≡ Part registry.now router.now s) }
 {
     match part(alloc, registry, handle, interface) {
         Ok(text) => Ok(text),
@@ -64,8 +66,11 @@ fn report_of(
     requires there { find router_key handle.now registry.now.routers ≡ Some router.now }
     requires sender { is_some (session registry.now router.now interface) ≡ true }
     requires family { same_family router.now.family route.now.net.family ≡ true }
-    requires text { (s : Session) → session registry.now router.now interface ≡ Some s → text.now ≡ Part registry.now router.now s }
-    ensures { IfOk result (λ report. (s : Session) → session registry.now router.now interface ≡ Some s → report ≡ own_report_by_rows registry.now router.now s route.now peers.now) }
+    requires text { (s : Session) → session registry.now router.now interface ≡ Some s
+        → text.now ≡ Part registry.now router.now s }
+    ensures { IfOk result
+        (λ report. (s : Session) → session registry.now router.now interface ≡ Some s
+        → report ≡ own_report_by_rows registry.now router.now s route.now peers.now) }
 {
     let tables = tables_of(alloc, registry.public.roas.as_slice())?;
     match explain_member(alloc, text, tables.as_slice(), interface, route, peers) {
@@ -88,7 +93,9 @@ fn told_by(
     requires there { find router_key handle.now registry.now.routers ≡ Some router.now }
     requires sender { is_some (session registry.now router.now interface) ≡ true }
     requires family { same_family router.now.family route.now.net.family ≡ true }
-    ensures { IfOk result (λ text. (s : Session) → session registry.now router.now interface ≡ Some s → text.items ≡ own_text (own_report_by_rows registry.now router.now s route.now peers.now)) }
+    ensures { IfOk result
+        (λ text. (s : Session) → session registry.now router.now interface ≡ Some s
+        → text.items ≡ own_text (own_report_by_rows registry.now router.now s route.now peers.now)) }
 {
     let text = own_part(alloc, registry, handle, router, interface)?;
     let report = report_of(
@@ -118,7 +125,10 @@ fn told_at(
 ) -> Result<Explanation, AllocError>
     requires valid { Valid registry.now }
     requires there { find router_key handle.now registry.now.routers ≡ Some router.now }
-    ensures { IfOk result (λ e. e ≡ spec.told_by (λ s. own_text (own_report_by_rows registry.now router.now s route.now peers.now)) router.now route.now
+    ensures { IfOk result
+        (λ e. e ≡ spec.told_by
+        (λ s. own_text (own_report_by_rows registry.now router.now s route.now peers.now)) router.now
+        route.now
         (session registry.now router.now interface)) }
 {
     if !has_session(registry, router, interface) {
@@ -133,7 +143,8 @@ fn told_at(
     Ok(Explanation::Text(Items::from_vec(text)))
 }
 
-/// What becomes of a route that a member announces on its interface to the router with the handle, and the member's wish for each peer.
+/// What becomes of a route that a member announces on its interface to the router with the handle, and the
+/// member's wish for each peer.
 pub fn member_explanation(
     alloc: Global,
     registry: &Registry,
@@ -144,7 +155,8 @@ pub fn member_explanation(
     peers: &[Asn],
 ) -> Result<Explanation, AllocError>
     requires { Valid registry.now }
-    ensures { IfOk result (λ e. e ≡ spec.member_explanation registry.now member handle.now interface route.now peers.now) }
+    ensures { IfOk result
+        (λ e. e ≡ spec.member_explanation registry.now member handle.now interface route.now peers.now) }
 {
     if !is_own(registry, member, interface) {
         return Ok(Explanation::Refused(Refusal::Denied {

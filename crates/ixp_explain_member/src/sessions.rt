@@ -24,7 +24,8 @@ pub(crate) fn is_of_family(router: &Router, route: &Route) -> bool
     router.family == route.net.family
 }
 
-/// Running out of memory: nothing else keeps the text of a valid registry from explaining a route of its session.
+/// Running out of memory: nothing else keeps the text of a valid registry from explaining a route of its
+/// session.
 pub(crate) fn unexplained(_fault: ExplainFault) -> AllocError
     requires { _fault ≡ no_memory }
 {

@@ -53,7 +53,9 @@ fn report_of(
     requires sender { is_some (session registry.now router.now interface) ≡ true }
     requires family { same_family router.now.family route.now.net.family ≡ true }
     requires text { text.now ≡ Gen registry.now router.now }
-    ensures { IfOk result (λ report. (s : Session) → session registry.now router.now interface ≡ Some s → report ≡ report_by_rows registry.now router.now s route.now) }
+    ensures { IfOk result
+        (λ report. (s : Session) → session registry.now router.now interface ≡ Some s
+        → report ≡ report_by_rows registry.now router.now s route.now) }
 {
     let tables = tables_of(alloc, registry.public.roas.as_slice())?;
     match explain(alloc, text, tables.as_slice(), interface, route) {
@@ -75,7 +77,9 @@ fn fate_by(
     requires there { find router_key handle.now registry.now.routers ≡ Some router.now }
     requires sender { is_some (session registry.now router.now interface) ≡ true }
     requires family { same_family router.now.family route.now.net.family ≡ true }
-    ensures { IfOk result (λ text. (s : Session) → session registry.now router.now interface ≡ Some s → text.items ≡ fate_text (fate_of registry.now router.now route.now s) (Some router.now.asn)) }
+    ensures { IfOk result
+        (λ text. (s : Session) → session registry.now router.now interface ≡ Some s
+        → text.items ≡ fate_text (fate_of registry.now router.now route.now s) (Some router.now.asn)) }
 {
     let text = text_there(alloc, registry, handle, router)?;
     let report = report_of(
@@ -103,7 +107,10 @@ fn told_at(
 ) -> Result<Explanation, AllocError>
     requires valid { Valid registry.now }
     requires there { find router_key handle.now registry.now.routers ≡ Some router.now }
-    ensures { IfOk result (λ e. e ≡ spec.told_by (λ s. fate_text (fate_of registry.now router.now route.now s) (Some router.now.asn)) router.now route.now
+    ensures { IfOk result
+        (λ e. e ≡ spec.told_by
+        (λ s. fate_text (fate_of registry.now router.now route.now s)
+        (Some router.now.asn)) router.now route.now
         (session registry.now router.now interface)) }
 {
     if !has_session(registry, router, interface) {

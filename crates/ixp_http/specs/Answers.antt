@@ -16,8 +16,9 @@ use Rattle.ixp_http.specs.Messages.{Reading, First, Begins, with_need, closed, c
 abbrev pub Together : Option (List ℕ) → Option (List ℕ) → List ℕ → List ℕ → Type 0
 Together before now held holds = Told before now (λ left rest. held ++ left ≡ holds ++ rest)
 
--- A reading of all the bytes, those that were held and those that were left, is answered, and P holds of the bytes and
--- it. What is held and left after a request is what stands behind it. The other faults say nothing of the bytes.
+-- A reading of all the bytes, those that were held and those that were left, is answered, and P holds of the
+-- bytes and it. What is held and left after a request is what stands behind it. The other faults say nothing
+-- of the bytes.
 abbrev pub Tells : (List ℕ → Reading → Type 0) → Option (List ℕ) → Option (List ℕ) → List ℕ → List ℕ → Result Next HttpFault → Type 0
 Tells P before now held holds (Ok (Found r)) = Told before now (λ left rest. P (held ++ left) (message r (holds ++ rest)))
 Tells P before now held holds (Ok End) = Told before now (λ left rest. P (held ++ left) closed)

@@ -61,7 +61,8 @@ abbrev pub items_of : Option (List ℕ) → List (List ℕ)
 items_of None = []
 items_of (Some bytes) = items bytes
 
--- A list of items with commas between them has this one, case and the blanks around it aside (RFC 9110 section 5.6.1).
+-- A list of items with commas between them has this one, case and the blanks around it aside (RFC 9110
+-- section 5.6.1).
 abbrev pub has_item : List ℕ → List ℕ → Bool
 has_item word value = list_any (λ item. alike (trimmed item) word) (items value)
 

@@ -37,17 +37,20 @@ head_at bytes headers places = record {
   fields = map field_of (map (header_bytes bytes) (take places.headers headers));
 }
 
--- The bytes are the head of a request, by httparse's default grammar (RFC 9112 sections 2 to 5), with these parts.
+-- The bytes are the head of a request, by httparse's default grammar (RFC 9112 sections 2 to 5), with these
+-- parts.
 abbrev pub IsHead : List ℕ → Head → Type 0
 IsHead bytes head = (h : RequestHead) × ReadsRequest bytes h [] × (head ≡ parts_of h)
 
--- The link is closed after the reply: the version is 1.0, or `close` is an item of a `Connection` field (RFC 9112 section 9.3), or the
--- method is HEAD, after whose reply a client expects no body (RFC 9110 section 9.3.2).
+-- The link is closed after the reply: the version is 1.0, or `close` is an item of a `Connection` field (RFC
+-- 9112 section 9.3), or the method is HEAD, after whose reply a client expects no body (RFC 9110 section
+-- 9.3.2).
 abbrev pub closes_after : Head → Bool
 closes_after head =
     head.minor == 0 || (same head.method (codes "HEAD") || any_has_item (codes "close") (values (codes "connection") head.fields))
 
--- the request with these parts of its head and this body; its query is what follows the first `?` of the target
+-- the request with these parts of its head and this body; its query is what follows the first `?` of the
+-- target
 abbrev pub request_of : Head → List ℕ → Request
 request_of head body = record {
   method = head.method;
@@ -58,8 +61,8 @@ request_of head body = record {
   closes = closes_after head;
 }
 
--- what stands first in bytes: a request and the bytes behind it, the end between two messages, the end inside of one,
--- or no message, with the status of the reply
+-- what stands first in bytes: a request and the bytes behind it, the end between two messages, the end inside
+-- of one, or no message, with the status of the reply
 pub data Reading : Type 0 where
   message : Request → List ℕ → Reading
   closed cut : Reading

@@ -1,6 +1,21 @@
 //! What was read of a link and not used yet.
 ghost use Rattle.ixp_http.specs.Heads.{chunk};
-ghost use Rattle.std.specs.Prelude.{◌≡◌, ◌≢◌, ◌≤◌, ◌+◌, ◌++◌, List, ℕ, [], length, drop, IfOk, IfErr, OnOk, OnErr};
+ghost use Rattle.std.specs.Prelude.{
+  ◌≡◌,
+  ◌≢◌,
+  ◌≤◌,
+  ◌+◌,
+  ◌++◌,
+  List,
+  ℕ,
+  [],
+  length,
+  drop,
+  IfOk,
+  IfErr,
+  OnOk,
+  OnErr,
+};
 ghost use Rattle.ixp_io.specs.Faults.{Rose};
 ghost use Rattle.ixp_io.specs.Told.{IsDone};
 ghost use Rattle.ixp_http.specs.Answers.{Together, SaysNothing};
@@ -57,7 +72,8 @@ impl Buf {
         ensures chunk { length self.new ≤ length self.old + chunk }
         ensures nothing { IfErr result SaysNothing }
         ensures never { result ≢ Err HttpFault.WriteFault }
-        ensures failed { result ≡ Err HttpFault.ReadFault → Rose (L.read_faults link.old) (L.read_faults link.new) }
+        ensures failed { result ≡ Err HttpFault.ReadFault
+            → Rose (L.read_faults link.old) (L.read_faults link.new) }
         ensures counts { L.read_faults link.old ≤ L.read_faults link.new }
         ensures written { L.written link.new ≡ L.written link.old }
         ensures write_faults { L.write_faults link.new ≡ L.write_faults link.old }

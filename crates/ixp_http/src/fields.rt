@@ -102,7 +102,8 @@ pub(crate) fn any_has_item(fields: &[Field], name: &[u8], word: &[u8]) -> bool
 
 // The first item of a list with commas between them, and what follows its comma.
 fn first_item(bytes: &[u8]) -> (&[u8], Option<&[u8]>)
-    ensures items { spec.items bytes.now ≡ result.0.now ∷ spec.items_of (option_map (λ more. more.now) result.1) }
+    ensures items { spec.items bytes.now
+        ≡ result.0.now ∷ spec.items_of (option_map (λ more. more.now) result.1) }
     ensures shorter { IfSome result.1 (λ more. length more.now < length bytes.now) }
 {
     for at in 0..bytes.len() {

@@ -1,5 +1,21 @@
 //! Reading the next request of a link.
-ghost use Rattle.std.specs.Prelude.{◌≡◌, ◌≢◌, ◌≤◌, ◌<◌, ◌+◌, ◌++◌, ℕ, List, true, false, length, drop, IfOk, IfErr, OnOk};
+ghost use Rattle.std.specs.Prelude.{
+  ◌≡◌,
+  ◌≢◌,
+  ◌≤◌,
+  ◌<◌,
+  ◌+◌,
+  ◌++◌,
+  ℕ,
+  List,
+  true,
+  false,
+  length,
+  drop,
+  IfOk,
+  IfErr,
+  OnOk,
+};
 ghost use Rattle.ixp_io.specs.Faults.{Rose};
 ghost use Rattle.ixp_io.specs.Told.{WhereTold, IsDone};
 ghost use Rattle.ixp_http.specs.Heads.{chunk, is_open, start_of, head_limit, IsPlaced};
@@ -50,7 +66,8 @@ impl From<AllocError> for HttpFault {
     }
 }
 
-// Reads until a line may have ended, or the limit of a head is reached, and answers whether the input goes on.
+// Reads until a line may have ended, or the limit of a head is reached, and answers whether the input goes
+// on.
 fn read_line<L: Source>(link: &mut L, buf: &mut Buf) -> Result<bool, HttpFault>
     requires { length buf.old < head_limit }
     ensures together { OnOk result (spec.Together (L.left link.old) (L.left link.new) buf.old buf.new) }
@@ -59,7 +76,8 @@ fn read_line<L: Source>(link: &mut L, buf: &mut Buf) -> Result<bool, HttpFault>
     ensures bounded { length buf.new < head_limit + chunk }
     ensures nothing { IfErr result spec.SaysNothing }
     ensures never { result ≢ Err HttpFault.WriteFault }
-    ensures failed { result ≡ Err HttpFault.ReadFault → Rose (L.read_faults link.old) (L.read_faults link.new) }
+    ensures failed { result ≡ Err HttpFault.ReadFault
+        → Rose (L.read_faults link.old) (L.read_faults link.new) }
     ensures counts { L.read_faults link.old ≤ L.read_faults link.new }
     ensures written { L.written link.new ≡ L.written link.old }
     ensures write_faults { L.write_faults link.new ≡ L.write_faults link.old }
@@ -81,13 +99,15 @@ fn read_line<L: Source>(link: &mut L, buf: &mut Buf) -> Result<bool, HttpFault>
 fn fill_head<L: Source>(link: &mut L, buf: &mut Buf) -> Result<Start, HttpFault>
     ensures together { OnOk result (spec.Together (L.left link.old) (L.left link.new) buf.old buf.new) }
     ensures start { IfOk result (λ start. start ≡ start_of buf.new) }
-    ensures settled { IfOk result (λ start. WhereTold (L.left link.new) (λ rest. start_of (buf.new ++ rest) ≡ start)) }
+    ensures settled { IfOk result
+        (λ start. WhereTold (L.left link.new) (λ rest. start_of (buf.new ++ rest) ≡ start)) }
     ensures still { is_open (start_of buf.old) ≡ false → L.left link.new ≡ L.left link.old }
     ensures same { is_open (start_of buf.old) ≡ false → buf.new ≡ buf.old }
     ensures bounded { length buf.old ≤ spec.most_held → length buf.new ≤ spec.most_held }
     ensures nothing { IfErr result spec.SaysNothing }
     ensures never { result ≢ Err HttpFault.WriteFault }
-    ensures failed { result ≡ Err HttpFault.ReadFault → Rose (L.read_faults link.old) (L.read_faults link.new) }
+    ensures failed { result ≡ Err HttpFault.ReadFault
+        → Rose (L.read_faults link.old) (L.read_faults link.new) }
     ensures counts { L.read_faults link.old ≤ L.read_faults link.new }
     ensures written { L.written link.new ≡ L.written link.old }
     ensures write_faults { L.write_faults link.new ≡ L.write_faults link.old }
@@ -110,10 +130,12 @@ fn fill_body<L: Source>(link: &mut L, buf: &mut Buf, size: usize) -> Result<bool
     ensures came { IfOk result (λ came. came ≡ true → size ≤ length buf.new) }
     ensures ended { IfOk result (λ came. came ≡ false → (length buf.new < size) × IsDone (L.left link.new)) }
     ensures still { size ≤ length buf.old → L.left link.new ≡ L.left link.old }
-    ensures bounded { size + chunk ≤ spec.most_held → length buf.old ≤ spec.most_held → length buf.new ≤ spec.most_held }
+    ensures bounded { size + chunk ≤ spec.most_held → length buf.old ≤ spec.most_held
+        → length buf.new ≤ spec.most_held }
     ensures nothing { IfErr result spec.SaysNothing }
     ensures never { result ≢ Err HttpFault.WriteFault }
-    ensures failed { result ≡ Err HttpFault.ReadFault → Rose (L.read_faults link.old) (L.read_faults link.new) }
+    ensures failed { result ≡ Err HttpFault.ReadFault
+        → Rose (L.read_faults link.old) (L.read_faults link.new) }
     ensures counts { L.read_faults link.old ≤ L.read_faults link.new }
     ensures written { L.written link.new ≡ L.written link.old }
     ensures write_faults { L.write_faults link.new ≡ L.write_faults link.old }
@@ -139,11 +161,13 @@ fn with_body<L: Source>(
     requires limit { at ≤ head_limit }
     requires at { at ≤ length buf.old }
     requires size { size ≤ body_limit }
-    ensures answers { spec.Tells (λ bytes x. spec.IsBodied head at size bytes x) (L.left link.old) (L.left link.new) buf.old buf.new result }
+    ensures answers { spec.Tells (λ bytes x. spec.IsBodied head at size bytes x) (L.left link.old)
+        (L.left link.new) buf.old buf.new result }
     ensures still { at + size ≤ length buf.old → L.left link.new ≡ L.left link.old }
     ensures bounded { length buf.old ≤ spec.most_held → length buf.new ≤ spec.most_held }
     ensures never { result ≢ Err HttpFault.WriteFault }
-    ensures failed { result ≡ Err HttpFault.ReadFault → Rose (L.read_faults link.old) (L.read_faults link.new) }
+    ensures failed { result ≡ Err HttpFault.ReadFault
+        → Rose (L.read_faults link.old) (L.read_faults link.new) }
     ensures counts { L.read_faults link.old ≤ L.read_faults link.new }
     ensures written { L.written link.new ≡ L.written link.old }
     ensures write_faults { L.write_faults link.new ≡ L.write_faults link.old }
@@ -166,11 +190,14 @@ fn with_head<L: Source>(
     len: usize,
 ) -> Result<Next, HttpFault>
     requires placed { IsPlaced buf.old from len }
-    ensures answers { spec.Tells (λ bytes x. spec.IsHeaded from len bytes x) (L.left link.old) (L.left link.new) buf.old buf.new result }
-    ensures still { (r : Request) (rest : List ℕ) → Begins buf.old (Headed from len) (message r rest) → L.left link.new ≡ L.left link.old }
+    ensures answers { spec.Tells (λ bytes x. spec.IsHeaded from len bytes x) (L.left link.old)
+        (L.left link.new) buf.old buf.new result }
+    ensures still { (r : Request) (rest : List ℕ) → Begins buf.old (Headed from len) (message r rest)
+        → L.left link.new ≡ L.left link.old }
     ensures bounded { length buf.old ≤ spec.most_held → length buf.new ≤ spec.most_held }
     ensures never { result ≢ Err HttpFault.WriteFault }
-    ensures failed { result ≡ Err HttpFault.ReadFault → Rose (L.read_faults link.old) (L.read_faults link.new) }
+    ensures failed { result ≡ Err HttpFault.ReadFault
+        → Rose (L.read_faults link.old) (L.read_faults link.new) }
     ensures counts { L.read_faults link.old ≤ L.read_faults link.new }
     ensures written { L.written link.new ≡ L.written link.old }
     ensures write_faults { L.write_faults link.new ≡ L.write_faults link.old }
@@ -185,8 +212,9 @@ fn with_head<L: Source>(
     }
 }
 
-/// Reads the next request of a link, after those bytes of it that the buffer holds. Empty lines before a request are
-/// skipped. A head has at most 16,384 bytes with these lines, and 64 fields; a body has at most [`BODY_LIMIT`] bytes.
+/// Reads the next request of a link, after those bytes of it that the buffer holds. Empty lines before a
+/// request are skipped. A head has at most 16,384 bytes with these lines, and 64 fields; a body has at most
+/// [`BODY_LIMIT`] bytes.
 ///
 /// [`BODY_LIMIT`]: crate::BODY_LIMIT
 pub fn next_request<L: Source>(
@@ -196,12 +224,15 @@ pub fn next_request<L: Source>(
 ) -> Result<Next, HttpFault>
     ensures answers { spec.AnswersOf (L.left link.old) (L.left link.new) buf.old buf.new result }
 
-    // Where a whole message is held nothing is read, and never more is held than a message and what one read gives.
-    ensures still { (r : Request) (rest : List ℕ) → First buf.old (message r rest) → L.left link.new ≡ L.left link.old }
+    // Where a whole message is held nothing is read, and never more is held than a message and what one read
+    // gives.
+    ensures still { (r : Request) (rest : List ℕ) → First buf.old (message r rest)
+        → L.left link.new ≡ L.left link.old }
     ensures bounded { length buf.old ≤ spec.most_held → length buf.new ≤ spec.most_held }
 
     ensures never { result ≢ Err HttpFault.WriteFault }
-    ensures failed { result ≡ Err HttpFault.ReadFault → Rose (L.read_faults link.old) (L.read_faults link.new) }
+    ensures failed { result ≡ Err HttpFault.ReadFault
+        → Rose (L.read_faults link.old) (L.read_faults link.new) }
     ensures counts { L.read_faults link.old ≤ L.read_faults link.new }
     ensures written { L.written link.new ≡ L.written link.old }
     ensures write_faults { L.write_faults link.new ≡ L.write_faults link.old }

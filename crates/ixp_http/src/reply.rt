@@ -87,8 +87,10 @@ fn length_name() -> &'static [u8]
 
 // Puts a text behind what is held, or writes both where it doesn't fit.
 fn add<L: Sink>(link: &mut L, held: &mut ArrayVec<u8, ROOM>, text: &[u8]) -> Result<(), Failed>
-    ensures ok { OnOk result (spec.Holds (L.written link.old) (L.written link.new) held.old.items held.new.items text.now) }
-    ensures err { OnErr result (TakesPart (L.written link.old) (L.written link.new) (held.old.items ++ text.now)) }
+    ensures ok { OnOk result
+        (spec.Holds (L.written link.old) (L.written link.new) held.old.items held.new.items text.now) }
+    ensures err { OnErr result
+        (TakesPart (L.written link.old) (L.written link.new) (held.old.items ++ text.now)) }
     ensures counts { L.write_faults link.old ≤ L.write_faults link.new }
     ensures cause { OnErr result (Rose (L.write_faults link.old) (L.write_faults link.new)) }
     ensures left { L.left link.new ≡ L.left link.old }
@@ -126,8 +128,11 @@ fn add_number<L: Sink>(
     held: &mut ArrayVec<u8, ROOM>,
     number: u64,
 ) -> Result<(), Failed>
-    ensures ok { OnOk result (spec.Holds (L.written link.old) (L.written link.new) held.old.items held.new.items (decimal number)) }
-    ensures err { OnErr result (TakesPart (L.written link.old) (L.written link.new) (held.old.items ++ decimal number)) }
+    ensures ok { OnOk result
+        (spec.Holds (L.written link.old) (L.written link.new) held.old.items held.new.items
+        (decimal number)) }
+    ensures err { OnErr result
+        (TakesPart (L.written link.old) (L.written link.new) (held.old.items ++ decimal number)) }
     ensures counts { L.write_faults link.old ≤ L.write_faults link.new }
     ensures cause { OnErr result (Rose (L.write_faults link.old) (L.write_faults link.new)) }
     ensures left { L.left link.new ≡ L.left link.old }
@@ -144,8 +149,12 @@ fn add_part<L: Sink>(
     reply: &HttpReply,
     part: Part,
 ) -> Result<(), Failed>
-    ensures ok { OnOk result (spec.Holds (L.written link.old) (L.written link.new) held.old.items held.new.items (spec.text_of reply.now part)) }
-    ensures err { OnErr result (TakesPart (L.written link.old) (L.written link.new) (held.old.items ++ spec.text_of reply.now part)) }
+    ensures ok { OnOk result
+        (spec.Holds (L.written link.old) (L.written link.new) held.old.items held.new.items
+        (spec.text_of reply.now part)) }
+    ensures err { OnErr result
+        (TakesPart (L.written link.old) (L.written link.new)
+        (held.old.items ++ spec.text_of reply.now part)) }
     ensures counts { L.write_faults link.old ≤ L.write_faults link.new }
     ensures cause { OnErr result (Rose (L.write_faults link.old) (L.write_faults link.new)) }
     ensures left { L.left link.new ≡ L.left link.old }
@@ -168,8 +177,12 @@ fn add_part<L: Sink>(
 
 // Writes parts of a reply one after the other, with one write where they are short.
 fn write_parts<L: Sink>(link: &mut L, reply: &HttpReply, parts: &[Part]) -> Result<(), Failed>
-    ensures ok { OnOk result (Takes (L.written link.old) (L.written link.new) (spec.concat (map (spec.text_of reply.now) parts.now))) }
-    ensures err { OnErr result (TakesPart (L.written link.old) (L.written link.new) (spec.concat (map (spec.text_of reply.now) parts.now))) }
+    ensures ok { OnOk result
+        (Takes (L.written link.old) (L.written link.new)
+        (spec.concat (map (spec.text_of reply.now) parts.now))) }
+    ensures err { OnErr result
+        (TakesPart (L.written link.old) (L.written link.new)
+        (spec.concat (map (spec.text_of reply.now) parts.now))) }
     ensures counts { L.write_faults link.old ≤ L.write_faults link.new }
     ensures cause { OnErr result (Rose (L.write_faults link.old) (L.write_faults link.new)) }
     ensures left { L.left link.new ≡ L.left link.old }
@@ -185,7 +198,8 @@ fn write_parts<L: Sink>(link: &mut L, reply: &HttpReply, parts: &[Part]) -> Resu
 /// Writes a reply, with one write where it is short. It does not allocate.
 pub fn write_reply<L: Sink>(link: &mut L, reply: &HttpReply) -> Result<(), HttpFault>
     ensures ok { OnOk result (Takes (L.written link.old) (L.written link.new) (spec.reply_bytes reply.now)) }
-    ensures err { OnErr result (TakesPart (L.written link.old) (L.written link.new) (spec.reply_bytes reply.now)) }
+    ensures err { OnErr result
+        (TakesPart (L.written link.old) (L.written link.new) (spec.reply_bytes reply.now)) }
     ensures fault { OnErr result (result ≡ Err HttpFault.WriteFault) }
     ensures counts { L.write_faults link.old ≤ L.write_faults link.new }
     ensures cause { OnErr result (Rose (L.write_faults link.old) (L.write_faults link.new)) }

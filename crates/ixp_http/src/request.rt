@@ -26,7 +26,8 @@ pub struct Request {
     /// The fields of the head, in their order.
     pub fields: Items<Field>,
     pub body: Items<u8>,
-    /// The link is closed after the reply: so it is after each request by HEAD, whose reply has a body that a client doesn't expect.
+    /// The link is closed after the reply: so it is after each request by HEAD, whose reply has a body that a
+    /// client doesn't expect.
     pub closes: bool,
 }
 

@@ -53,7 +53,8 @@ Wrote before now xs text = Takes before now (replies xs ++ text)
 abbrev pub Tried : (List ℕ → Type 0) → Type 0 → List ℕ → Type 0
 Tried Writes failed text = Writes text ⊎ (failed × ((count : ℕ) × Writes (take count text)))
 
--- The reply to what was read, and the desk after it; n requests were answered before. Memory suffices for the outcome.
+-- The reply to what was read, and the desk after it; n requests were answered before. Memory suffices for the
+-- outcome.
 abbrev pub Replied : {D : Type 0} → (D → Call → Outcome → D → Type 0) → ℕ → D → Reading → List ℕ → D → Type 0
 Replied turn n d (message r rest) text e =
     (o : Outcome) × Answers turn d r o e × (wants_memory o ≡ false) × (text ≡ reply_bytes (closing_if (ends_at n r) (reply o)))
@@ -71,13 +72,14 @@ EndsBy turn n d e Writes (message r rest) end m =
     (ends_at n r ≡ true) × (end ≡ (if r.closes then Closed else Spent)) × (m ≡ n + 1)
     × ((text : List ℕ) × Replied turn n d (message r rest) text e × Writes text)
 
--- Memory ran out: while a request was read, which the desk didn't see then, or after the desk's turn, which stands.
+-- Memory ran out: while a request was read, which the desk didn't see then, or after the desk's turn, which
+-- stands.
 abbrev pub Stopped : {D : Type 0} → (D → Call → Outcome → D → Type 0) → D → D → (Reading → Type 0) → Type 0
 Stopped turn d e Stands =
     (e ≡ d) ⊎ ((r : Request) × (rest : List ℕ) × Stands (message r rest) × ((o : Outcome) × Answers turn d r o e))
 
--- How a link ends after n requests. `Stands` says what stands first on the link then, `Writes` what is written, and the
--- two others that reads failed, and that writes did.
+-- How a link ends after n requests. `Stands` says what stands first on the link then, `Writes` what is
+-- written, and the two others that reads failed, and that writes did.
 abbrev pub Ends : {D : Type 0} → (D → Call → Outcome → D → Type 0) → ℕ → D → D
     → (Reading → Type 0) → (List ℕ → Type 0) → Type 0 → Type 0 → LinkEnd → ℕ → Type 0
 Ends turn n d e Stands Writes unread unwritten ReadFault m = unread × (m ≡ n) × (e ≡ d) × Writes []
@@ -92,8 +94,8 @@ Ends turn n d e Stands Writes unread unwritten (BadMessage status) m =
 Ends turn n d e Stands Writes unread unwritten Cut m = (last : Reading) × Stands last × EndsBy turn n d e Writes last Cut m
 Ends turn n d e Stands Writes unread unwritten Spent m = (last : Reading) × Stands last × EndsBy turn n d e Writes last Spent m
 
--- What was done on a link: requests were answered after which it went on, and then it ended. Before and after it are
--- the desk, and what was written; `left` is what was left to read at first.
+-- What was done on a link: requests were answered after which it went on, and then it ended. Before and after
+-- it are the desk, and what was written; `left` is what was left to read at first.
 pub record Serves {D : Type 0} (turn : D → Call → Outcome → D → Type 0) (d e : D) (left written now : Option (List ℕ))
     (unread unwritten : Type 0) (served : Served) : Type 0 where
   pub xs : List Exchange

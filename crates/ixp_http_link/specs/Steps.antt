@@ -30,7 +30,8 @@ Tells o closes Writes unwritten (Err Cut) = ⊥
 Tells o closes Writes unwritten (Err Spent) = ⊥
 Tells o closes Writes unwritten (Err ReadFault) = ⊥
 
--- this is the next request, before which n were answered: it is answered and the link goes on, or the link ends
+-- this is the next request, before which n were answered: it is answered and the link goes on, or the link
+-- ends
 abbrev pub Settles : {D : Type 0} → (D → Call → Outcome → D → Type 0) → ℕ → D → D → Request → List ℕ → (List ℕ → Type 0) → Type 0
     → Option Served → Type 0
 Settles turn n d e r rest Writes unwritten None =
@@ -48,7 +49,8 @@ Steps turn n d e left now held holds Writes unread unwritten None =
 Steps turn n d e left now held holds Writes unread unwritten (Some served) =
     Ends turn n d e (λ last. WhereTold left (λ bytes. First (held ++ bytes) last)) Writes unread unwritten served.end served.requests
 
--- a message that is no request is answered with its status, or a part of that reply is written, or memory was wanting
+-- a message that is no request is answered with its status, or a part of that reply is written, or memory was
+-- wanting
 abbrev pub Refuses : ℕ → (List ℕ → Type 0) → Type 0 → LinkEnd → Type 0
 Refuses status Writes unwritten (BadMessage told) = (told ≡ status) × Writes (reply_bytes (reply (Head status)))
 Refuses status Writes unwritten WriteFault = unwritten × ((count : ℕ) × Writes (take count (reply_bytes (reply (Head status)))))

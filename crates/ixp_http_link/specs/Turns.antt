@@ -24,8 +24,8 @@ wants_memory outcome.NoSession = false
 wants_memory (outcome.SeatCount seat kept) = false
 wants_memory (outcome.Ended count) = false
 
--- A call is answered by a turn of the desk. What is no call is answered by what is wrong with it, and the desk stays as
--- it was.
+-- A call is answered by a turn of the desk. What is no call is answered by what is wrong with it, and the
+-- desk stays as it was.
 abbrev pub Turned : {D : Type 0} → (D → Call → Outcome → D → Type 0) → D → Result Call CallFault → Outcome → D → Type 0
 Turned turn d (Ok call) o e = turn d call o e
 Turned turn d (Err fault) o e = (o ≡ outcome.Called fault) × (e ≡ d)

@@ -32,8 +32,8 @@ end_text (message r rest) = []
 abbrev pub ended_with : ℕ → Request → Served
 ended_with n r = record { end = if r.closes then Closed else Spent; requests = n + 1 }
 
--- How a link ends that holds these requests and then no message, for that reason, and how many requests are answered;
--- n were answered before.
+-- How a link ends that holds these requests and then no message, for that reason, and how many requests are
+-- answered; n were answered before.
 abbrev pub served_from : ℕ → List Request → Reading → Served
 served_from n [] last = record { end = end_of last; requests = n }
 served_from n (r ∷ rs) last = if ends_at n r then ended_with n r else served_from (n + 1) rs last
@@ -71,8 +71,9 @@ is_fault (BadMessage status) = false
 is_fault Cut = false
 is_fault Spent = false
 
--- Where nothing fails, the link's bytes say how it ends, how many requests are answered, and which ones: these are
--- answered one after the other, and what is written is their replies, and that to what is no message.
+-- Where nothing fails, the link's bytes say how it ends, how many requests are answered, and which ones:
+-- these are answered one after the other, and what is written is their replies, and that to what is no
+-- message.
 abbrev pub IsExact : {D : Type 0} → (D → Call → Outcome → D → Type 0) → D → D → List ℕ → Option (List ℕ) → Option (List ℕ) → Served → Type 0
 IsExact turn d e bytes written now served =
     (rs : List Request) (last : Reading) → Messages bytes rs last → is_fault served.end ≡ false
@@ -92,8 +93,9 @@ AllAnswered turn d e written now rs served =
     (served.end ≡ Closed) × (served.requests ≡ length rs)
     × ((xs : List Exchange) × (requests_of xs ≡ rs) × AnswersAll turn d xs e × Takes written now (reply_texts 0 xs))
 
--- Where the bytes are whole requests, fewer than the limit, of which none but maybe the last asks to close, and neither
--- reads nor writes fail, every request gets its reply and the link ends Closed, or memory ran out.
+-- Where the bytes are whole requests, fewer than the limit, of which none but maybe the last asks to close,
+-- and neither reads nor writes fail, every request gets its reply and the link ends Closed, or memory ran
+-- out.
 abbrev pub IsComplete : {D : Type 0} → (D → Call → Outcome → D → Type 0) → D → D → List ℕ → Option (List ℕ) → Option (List ℕ)
     → Type 0 → Type 0 → Served → Type 0
 IsComplete turn d e bytes written now unread unwritten served =

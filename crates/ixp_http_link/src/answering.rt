@@ -26,7 +26,8 @@ fn outcome_of<P, C, D: Desk<P, C>>(
     request: &Request,
 ) -> Outcome
     requires { D.fits desk.old store.old }
-    ensures becomes { spec.Becomes D.turn (desk.old, store.old, clock.old) request.now result (desk.new, store.new, clock.new) }
+    ensures becomes { spec.Becomes D.turn (desk.old, store.old, clock.old) request.now result
+        (desk.new, store.new, clock.new) }
     ensures fits { D.fits desk.new store.new }
 {
     match route(alloc, paths, request) {
@@ -43,8 +44,8 @@ fn is_last(request: &Request, answered: u32) -> bool
     request.closes || answered + 1 == REQUEST_LIMIT
 }
 
-/// Has the desk answer a request, before which so many were answered, and writes the reply. Where the link ends with it,
-/// says how.
+/// Has the desk answer a request, before which so many were answered, and writes the reply. Where the link
+/// ends with it, says how.
 pub(crate) fn settle<P, C, D: Desk<P, C>, K: Sink>(
     alloc: Global,
     paths: &Paths,
@@ -57,7 +58,10 @@ pub(crate) fn settle<P, C, D: Desk<P, C>, K: Sink>(
 ) -> Option<Served>
     requires few { answered < links.request_limit }
     requires fits { D.fits desk.old store.old }
-    ensures settles { (rest : List ℕ) → spec.Settles D.turn answered (desk.old, store.old, clock.old) (desk.new, store.new, clock.new) request.now rest (Takes (K.written output.old) (K.written output.new))
+    ensures settles { (rest : List ℕ)
+        → spec.Settles D.turn answered (desk.old, store.old, clock.old)
+        (desk.new, store.new, clock.new) request.now rest
+        (Takes (K.written output.old) (K.written output.new))
         (Rose (K.write_faults output.old) (K.write_faults output.new)) result }
     ensures counts { K.write_faults output.old ≤ K.write_faults output.new }
     ensures fits { D.fits desk.new store.new }

@@ -19,7 +19,8 @@ pub enum LinkEnd {
     NoMemory,
 }
 
-/// How a link ended, and how many of its requests got their reply, running out of memory and a reply that was cut off aside.
+/// How a link ended, and how many of its requests got their reply, running out of memory and a reply that was
+/// cut off aside.
 #[derive(Clone, Copy, Debug, PartialEq, Eq, Drop)]
 pub struct Served {
     pub end: LinkEnd,

@@ -15,7 +15,8 @@ use ixp_http::{Buf, HttpFault, Next, next_request};
 use ixp_io::{Sink, Source};
 use std::alloc::Global;
 
-// Reads the next request of a link, before which so many were answered, and answers it. Where the link ends, says how.
+// Reads the next request of a link, before which so many were answered, and answers it. Where the link ends,
+// says how.
 fn exchange<P, C, D: Desk<P, C>, S: Source, K: Sink>(
     alloc: Global,
     paths: &Paths,
@@ -29,9 +30,11 @@ fn exchange<P, C, D: Desk<P, C>, S: Source, K: Sink>(
 ) -> Option<Served>
     requires few { answered < links.request_limit }
     requires fits { D.fits desk.old store.old }
-    ensures steps { spec.Steps D.turn answered (desk.old, store.old, clock.old) (desk.new, store.new, clock.new) (S.left input.old) (S.left input.new) buf.old buf.new
+    ensures steps { spec.Steps D.turn answered (desk.old, store.old, clock.old)
+        (desk.new, store.new, clock.new) (S.left input.old) (S.left input.new) buf.old buf.new
         (Takes (K.written output.old) (K.written output.new))
-        (Rose (S.read_faults input.old) (S.read_faults input.new)) (Rose (K.write_faults output.old) (K.write_faults output.new)) result }
+        (Rose (S.read_faults input.old) (S.read_faults input.new))
+        (Rose (K.write_faults output.old) (K.write_faults output.new)) result }
     ensures reads { S.read_faults input.old ≤ S.read_faults input.new }
     ensures writes { K.write_faults output.old ≤ K.write_faults output.new }
     ensures fits { D.fits desk.new store.new }
@@ -76,8 +79,10 @@ fn serve_with<P, C, D: Desk<P, C>, S: Source, K: Sink>(
     output: &mut K,
 ) -> Served
     requires { D.fits desk.old store.old }
-    ensures serves { links.Serves D.turn (desk.old, store.old, clock.old) (desk.new, store.new, clock.new) (S.left input.old) (K.written output.old) (K.written output.new)
-        (Rose (S.read_faults input.old) (S.read_faults input.new)) (Rose (K.write_faults output.old) (K.write_faults output.new)) result }
+    ensures serves { links.Serves D.turn (desk.old, store.old, clock.old) (desk.new, store.new, clock.new)
+        (S.left input.old) (K.written output.old) (K.written output.new)
+        (Rose (S.read_faults input.old) (S.read_faults input.new))
+        (Rose (K.write_faults output.old) (K.write_faults output.new)) result }
     ensures reads { S.read_faults input.old ≤ S.read_faults input.new }
     ensures writes { K.write_faults output.old ≤ K.write_faults output.new }
     ensures fits { D.fits desk.new store.new }
@@ -94,8 +99,9 @@ fn serve_with<P, C, D: Desk<P, C>, S: Source, K: Sink>(
     }
 }
 
-/// Serves one link to its end: reads its requests, has the desk answer those that are calls, and writes the replies in
-/// their order, one write for each that is short. A link has at most 100,000 requests. What it reads and what it writes are two objects.
+/// Serves one link to its end: reads its requests, has the desk answer those that are calls, and writes the
+/// replies in their order, one write for each that is short. A link has at most 100,000 requests. What it
+/// reads and what it writes are two objects.
 pub fn serve<P, C, D: Desk<P, C>, S: Source, K: Sink>(
     alloc: Global,
     desk: &mut D,
@@ -105,13 +111,22 @@ pub fn serve<P, C, D: Desk<P, C>, S: Source, K: Sink>(
     output: &mut K,
 ) -> Served
     requires { D.fits desk.old store.old }
-    ensures serves { links.Serves D.turn (desk.old, store.old, clock.old) (desk.new, store.new, clock.new) (S.left input.old) (K.written output.old) (K.written output.new)
-        (Rose (S.read_faults input.old) (S.read_faults input.new)) (Rose (K.write_faults output.old) (K.write_faults output.new)) result }
-    ensures exact { WhereTold (S.left input.old) (λ bytes. whole.IsExact D.turn (desk.old, store.old, clock.old) (desk.new, store.new, clock.new) bytes (K.written output.old) (K.written output.new) result) }
-    ensures complete { WhereTold (S.left input.old) (λ bytes. whole.IsComplete D.turn (desk.old, store.old, clock.old) (desk.new, store.new, clock.new) bytes (K.written output.old) (K.written output.new)
-        (Rose (S.read_faults input.old) (S.read_faults input.new)) (Rose (K.write_faults output.old) (K.write_faults output.new)) result) }
-    ensures read_fault { result.end ≡ LinkEnd.ReadFault → Rose (S.read_faults input.old) (S.read_faults input.new) }
-    ensures write_fault { result.end ≡ LinkEnd.WriteFault → Rose (K.write_faults output.old) (K.write_faults output.new) }
+    ensures serves { links.Serves D.turn (desk.old, store.old, clock.old) (desk.new, store.new, clock.new)
+        (S.left input.old) (K.written output.old) (K.written output.new)
+        (Rose (S.read_faults input.old) (S.read_faults input.new))
+        (Rose (K.write_faults output.old) (K.write_faults output.new)) result }
+    ensures exact { WhereTold (S.left input.old)
+        (λ bytes. whole.IsExact D.turn (desk.old, store.old, clock.old) (desk.new, store.new, clock.new) bytes
+        (K.written output.old) (K.written output.new) result) }
+    ensures complete { WhereTold (S.left input.old)
+        (λ bytes. whole.IsComplete D.turn (desk.old, store.old, clock.old)
+        (desk.new, store.new, clock.new) bytes (K.written output.old) (K.written output.new)
+        (Rose (S.read_faults input.old) (S.read_faults input.new))
+        (Rose (K.write_faults output.old) (K.write_faults output.new)) result) }
+    ensures read_fault { result.end ≡ LinkEnd.ReadFault
+        → Rose (S.read_faults input.old) (S.read_faults input.new) }
+    ensures write_fault { result.end ≡ LinkEnd.WriteFault
+        → Rose (K.write_faults output.old) (K.write_faults output.new) }
     ensures reads { S.read_faults input.old ≤ S.read_faults input.new }
     ensures writes { K.write_faults output.old ≤ K.write_faults output.new }
     ensures fits { D.fits desk.new store.new }

@@ -38,7 +38,8 @@ fn reply_with(alloc: Global, outcome: Outcome, closes: bool) -> Result<HttpReply
 
 /// Tries to write the reply of running out of memory, which takes none.
 pub(crate) fn tell_memory<K: Sink>(alloc: Global, output: &mut K)
-    ensures tried { links.Tried (Takes (K.written output.old) (K.written output.new)) (Rose (K.write_faults output.old) (K.write_faults output.new)) (reply_bytes replies.no_memory) }
+    ensures tried { links.Tried (Takes (K.written output.old) (K.written output.new))
+        (Rose (K.write_faults output.old) (K.write_faults output.new)) (reply_bytes replies.no_memory) }
     ensures counts { K.write_faults output.old ≤ K.write_faults output.new }
 {
     if let Ok(reply) = reply_of(alloc, Outcome::NoMemory) {
@@ -53,7 +54,8 @@ pub(crate) fn tell<K: Sink>(
     outcome: Outcome,
     closes: bool,
 ) -> Result<(), LinkEnd>
-    ensures tells { spec.Tells outcome closes (Takes (K.written output.old) (K.written output.new)) (Rose (K.write_faults output.old) (K.write_faults output.new)) result }
+    ensures tells { spec.Tells outcome closes (Takes (K.written output.old) (K.written output.new))
+        (Rose (K.write_faults output.old) (K.write_faults output.new)) result }
     ensures counts { K.write_faults output.old ≤ K.write_faults output.new }
 {
     if wants_memory(&outcome) {
@@ -72,7 +74,8 @@ pub(crate) fn tell<K: Sink>(
 
 /// Answers a message that is no request, with this status.
 pub(crate) fn refuse<K: Sink>(alloc: Global, output: &mut K, status: u16) -> LinkEnd
-    ensures refuses { spec.Refuses status (Takes (K.written output.old) (K.written output.new)) (Rose (K.write_faults output.old) (K.write_faults output.new)) result }
+    ensures refuses { spec.Refuses status (Takes (K.written output.old) (K.written output.new))
+        (Rose (K.write_faults output.old) (K.write_faults output.new)) result }
     ensures counts { K.write_faults output.old ≤ K.write_faults output.new }
 {
     match tell(alloc, output, Outcome::Head(status), false) {

@@ -9,7 +9,7 @@ last_count = 18446744073709551615
 abbrev pub counted : ℕ → ℕ
 counted n = min (n + 1) last_count
 
--- The count rose in a call: it is greater at the call's end, or it stands there at its last value, where it can't
--- show a rise any more.
+-- The count rose in a call: it is greater at the call's end, or it stands there at its last value, where it
+-- can't show a rise any more.
 abbrev pub Rose : ℕ → ℕ → Type 0
 Rose before now = (before < now) ⊎ (now ≡ last_count)

@@ -1,8 +1,8 @@
 -- What an object of the outside tells of its content, before a call and after it.
 use Rattle.std.specs.Prelude.{◌≡◌, ◌≤◌, Option, None, Some, List, [], ℕ, ◌++◌, length, take, ⊤}
 
--- Where the content is told, P holds of it before and after. What is told before is told after, and the other way
--- round.
+-- Where the content is told, P holds of it before and after. What is told before is told after, and the other
+-- way round.
 abbrev pub Told : {A : Type 0} → Option A → Option A → (A → A → Type 0) → Type 0
 Told None None P = ⊤
 Told None (Some now) P = ⊥

@@ -2,8 +2,8 @@
 ghost use Rattle.std.specs.Prelude.{◌≡◌, ◌≤◌, Option, Some, ℕ, min};
 ghost use Rattle.ixp_io.specs.Told.{Told};
 
-/// The greatest number that a clock gives: 9999-12-30 21:59:59 UTC. At each offset of a time zone its civil date has a
-/// year of four digits.
+/// The greatest number that a clock gives: 9999-12-30 21:59:59 UTC. At each offset of a time zone its civil
+/// date has a year of four digits.
 pub const LAST_SECOND: u64 = 253402207199;
 
 /// What gives the second.

@@ -24,7 +24,8 @@ pub trait Door {
 
     /// The next link.
     fn accept(&mut self) -> Result<Self::Link, Failed>
-        ensures gives { OnOk result (Told (links self.old) (links self.new) (λ before now. now ≡ before + 1)) }
+        ensures gives { OnOk result
+            (Told (links self.old) (links self.new) (λ before now. now ≡ before + 1)) }
         ensures kept { OnErr result (links self.new ≡ links self.old) }
         ensures counts { faults self.old ≤ faults self.new }
         ensures cause { OnErr result (Rose (faults self.old) (faults self.new)) };

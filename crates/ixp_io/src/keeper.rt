@@ -8,7 +8,15 @@ ghost use Rattle.std.specs.Ordering.{eq_by_cmp, as_partial_cmp};
 ghost use Rattle.std.proofs.Common.{rules};
 ghost use Rattle.ixp_io.specs.Faults.{Rose};
 ghost use Rattle.ixp_io.specs.Told.{Told, WhereTold};
-ghost use Rattle.ixp_io.specs.Tables.{Table, name_bytes, name_cmp, changed, next_after, row_entry, RowsInOrder};
+ghost use Rattle.ixp_io.specs.Tables.{
+  Table,
+  name_bytes,
+  name_cmp,
+  changed,
+  next_after,
+  row_entry,
+  RowsInOrder,
+};
 
 use crate::Failed;
 use ixp_num_tables::Items;
@@ -23,8 +31,8 @@ pub enum KeepFault {
     NoMemory,
 }
 
-/// The name of a row: its kind, and its key among the rows of this kind. Names are ordered by kind, then by the
-/// bytes of the key.
+/// The name of a row: its kind, and its key among the rows of this kind. Names are ordered by kind, then by
+/// the bytes of the key.
 #[derive(Debug, Drop)]
 pub struct RowName {
     pub kind: u8,
@@ -75,8 +83,8 @@ pub trait Keeper {
         ensures cause { IsErrOf result KeepFault.Failed → Rose (faults self.old) (faults self.new) }
         ensures answered { Rose (faults self.old) (faults self.new) → result ≡ Err KeepFault.Failed };
 
-    /// The row with the least name that is greater than `after`, or the least of all where there is no `after`; None
-    /// exactly where there is no such row.
+    /// The row with the least name that is greater than `after`, or the least of all where there is no
+    /// `after`; None exactly where there is no such row.
     fn next_row(&mut self, alloc: Global, after: Option<&RowName>) -> Result<Option<Row>, KeepFault>
         ensures row { IfOk result (λ row. WhereTold (table self.old)
             (λ rows. option_map row_entry row ≡ next_after (option_copied after.entry) rows)) }

@@ -1,9 +1,9 @@
 //! The outside of the program, as traits whose contracts say what each object holds and how often it failed.
 //!
-//! A [`Source`] is read, a [`Sink`] is written, a [`Keeper`] stores rows, a [`Clock`] gives seconds. What an object
-//! holds is a ghost member that may tell nothing: what is promised of content holds where it is told. Each
-//! object has a count of faults that never falls, and a call answers a fault only where the count rose in it. The
-//! objects in memory tell all; those over the system keep the count and tell no content.
+//! A [`Source`] is read, a [`Sink`] is written, a [`Keeper`] stores rows, a [`Clock`] gives seconds. What an
+//! object holds is a ghost member that may tell nothing: what is promised of content holds where it is told.
+//! Each object has a count of faults that never falls, and a call answers a fault only where the count rose
+//! in it. The objects in memory tell all; those over the system keep the count and tell no content.
 #![tactic(auto)]
 
 mod clock;

@@ -1,5 +1,20 @@
 //! Links in memory, and a door that gives them.
-ghost use Rattle.std.specs.Prelude.{◌≡◌, ◌≤◌, ◌+◌, ◌⊎◌, [], ◌∷◌, Some, IsTrue, IsErr, IfOk, OnOk, OnErr, is_err, drop};
+ghost use Rattle.std.specs.Prelude.{
+  ◌≡◌,
+  ◌≤◌,
+  ◌+◌,
+  ◌⊎◌,
+  [],
+  ◌∷◌,
+  Some,
+  IsTrue,
+  IsErr,
+  IfOk,
+  OnOk,
+  OnErr,
+  is_err,
+  drop,
+};
 ghost use Rattle.ixp_io.specs.Faults.{Rose, last_count};
 ghost use Rattle.ixp_io.specs.Plans.{fails_next};
 
@@ -37,8 +52,8 @@ impl Sink for MemLink {
     }
 }
 
-/// A door that gives links from memory, the first one first. With none left `accept` counts a fault. Its plan counts
-/// the calls of `listen` and `accept` together.
+/// A door that gives links from memory, the first one first. With none left `accept` counts a fault. Its plan
+/// counts the calls of `listen` and `accept` together.
 #[derive(Drop)]
 pub struct MemDoor {
     /// The links that are left.

@@ -1,5 +1,18 @@
 //! A keeper in memory.
-ghost use Rattle.std.specs.Prelude.{◌≡◌, ◌≤◌, ◌↔◌, [], Some, IsTrue, IfOk, OnOk, OnErr, IsErrOf, option_map, slice_get};
+ghost use Rattle.std.specs.Prelude.{
+  ◌≡◌,
+  ◌≤◌,
+  ◌↔◌,
+  [],
+  Some,
+  IsTrue,
+  IfOk,
+  OnOk,
+  OnErr,
+  IsErrOf,
+  option_map,
+  slice_get,
+};
 ghost use Rattle.std.specs.BTreeMap.{IsOrdered};
 ghost use Rattle.std.specs.FinMap.{empty, insert, remove};
 ghost use Rattle.std.specs.Option.{option_copied};
@@ -15,7 +28,8 @@ use std::ops::Bound;
 
 type Rows = BTreeMap<RowName, Items<u8>>;
 
-/// A keeper that holds its rows in memory. Once its count of faults stands at its last value, each call fails.
+/// A keeper that holds its rows in memory. Once its count of faults stands at its last value, each call
+/// fails.
 #[derive(Drop)]
 pub struct MemKeeper {
     pub rows: BTreeMap<RowName, Items<u8>>,

@@ -4,7 +4,7 @@ ghost use Rattle.std.specs.Prelude.{◌≡◌, ◌<◌, Some, []};
 use crate::{Failed, Plan, Sink, Stream};
 use std::alloc::Global;
 
-/// A sink that keeps what is written in memory. Want of memory is a fault of it.
+/// A sink that keeps what is written in memory. Running out of memory is a fault of it.
 #[derive(Debug, Drop)]
 pub struct MemSink {
     pub bytes: Vec<u8>,

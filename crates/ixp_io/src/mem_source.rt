@@ -57,7 +57,21 @@ impl Stream for MemSource {
 }
 
 impl Source for MemSource {
-    ghost use Rattle.std.specs.Prelude.{◌≡◌, ◌<◌, ◌≤◌, ◌-◌, ◌++◌, [], length, take, drop, min, is_err, IfOk, OnErr};
+    ghost use Rattle.std.specs.Prelude.{
+      ◌≡◌,
+      ◌<◌,
+      ◌≤◌,
+      ◌-◌,
+      ◌++◌,
+      [],
+      length,
+      take,
+      drop,
+      min,
+      is_err,
+      IfOk,
+      OnErr,
+    };
     ghost use Rattle.ixp_io.specs.Faults.{Rose};
     ghost use Rattle.ixp_io.specs.Plans.{fails_next, after_call};
 

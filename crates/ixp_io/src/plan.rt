@@ -8,8 +8,8 @@ use crate::Failed;
 use ixp_num_tables::Items;
 use std::alloc::{AllocError, Global};
 
-/// Which calls of an object in memory are to fail, how many calls there were, and how many of them failed. Both
-/// counts stand still at their last value; once the faults stand there, each call fails.
+/// Which calls of an object in memory are to fail, how many calls there were, and how many of them failed.
+/// Both counts stand still at their last value; once the faults stand there, each call fails.
 #[derive(Debug, Drop)]
 pub struct Plan {
     /// The numbers of the calls that are to fail. The first call has the number 1.

@@ -43,8 +43,8 @@ impl<R: Read> Source for ReadSource<R> {
     }
 }
 
-/// A sink over a writer. It tells no content. Each write is flushed. A write or a flush that fails or is interrupted,
-/// and a write that takes nothing of a piece, is a fault.
+/// A sink over a writer. It tells no content. Each write is flushed. A write or a flush that fails or is
+/// interrupted, and a write that takes nothing of a piece, is a fault.
 #[derive(Drop)]
 pub struct WriteSink<W> {
     writer: W,

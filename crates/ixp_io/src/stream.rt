@@ -7,8 +7,8 @@ ghost use Rattle.ixp_io.specs.Told.{Moves, Takes, IsDone};
 #[derive(Clone, Copy, Debug, PartialEq, Eq, Drop)]
 pub struct Failed;
 
-/// What a source or a sink holds. An object that is both has one of these, so that reading it leaves what it has
-/// written as it is, and writing it what is left to read.
+/// What a source or a sink holds. An object that is both has one of these, so that reading it leaves what it
+/// has written as it is, and writing it what is left to read.
 pub trait Stream {
     /// The bytes that are left to read, where they are told.
     ghost left: { Self → Option (List ℕ) } = { λ _. None };
@@ -25,8 +25,8 @@ pub trait Stream {
 
 /// What gives bytes.
 pub trait Source: Stream {
-    /// Moves the first bytes that are left into the buffer, and answers how many; 0 where the input has ended. What the
-    /// buffer holds past them is open.
+    /// Moves the first bytes that are left into the buffer, and answers how many; 0 where the input has
+    /// ended. What the buffer holds past them is open.
     fn read(&mut self, buf: &mut [u8]) -> Result<usize, Failed>
         requires { 0 < length buf.old }
         ensures within { IfOk result (λ n. n ≤ length buf.new) }
@@ -45,7 +45,8 @@ pub trait Sink: Stream {
     fn write(&mut self, bytes: &[u8]) -> Result<usize, Failed>
         ensures within { IfOk result (λ n. n ≤ length bytes.now) }
         ensures some { IfOk result (λ n. 0 < length bytes.now → 0 < n) }
-        ensures takes { IfOk result (λ n. Takes (Self.written self.old) (Self.written self.new) (take n bytes.now)) }
+        ensures takes { IfOk result
+            (λ n. Takes (Self.written self.old) (Self.written self.new) (take n bytes.now)) }
         ensures kept { OnErr result (Self.written self.new ≡ Self.written self.old) }
         ensures counts { Self.write_faults self.old ≤ Self.write_faults self.new }
         ensures cause { OnErr result (Rose (Self.write_faults self.old) (Self.write_faults self.new)) }

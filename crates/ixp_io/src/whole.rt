@@ -36,8 +36,8 @@ pub fn write_all<K: Sink>(sink: &mut K, bytes: &[u8]) -> Result<(), Failed>
     Ok(())
 }
 
-/// Reads a source to its end, and answers all its bytes, where they are no more than the limit. It reads no more than
-/// one byte past the limit.
+/// Reads a source to its end, and answers all its bytes, where they are no more than the limit. It reads no
+/// more than one byte past the limit.
 pub fn read_whole<S: Source>(
     alloc: Global,
     source: &mut S,
@@ -48,7 +48,8 @@ pub fn read_whole<S: Source>(
     ensures limit { IfOk result (λ bytes. length bytes ≤ limit) }
     ensures too_long { IsErrOf result WholeFault.TooLong
         → Told (S.left source.old) (S.left source.new) (λ left rest. limit < length left) }
-    ensures failed { IsErrOf result WholeFault.Failed → Rose (S.read_faults source.old) (S.read_faults source.new) }
+    ensures failed { IsErrOf result WholeFault.Failed
+        → Rose (S.read_faults source.old) (S.read_faults source.new) }
     ensures most { MovesUpTo (limit + 1) (S.left source.old) (S.left source.new) }
     ensures counts { S.read_faults source.old ≤ S.read_faults source.new }
     ensures written { S.written source.new ≡ S.written source.old }

@@ -20,8 +20,8 @@ impl Hold {
         Hold::for_turns(TURNS)
     }
 
-    /// A place that holds for up to so many turns once it is closed. Where other programs want the processor a turn may take
-    /// milliseconds, so a test of a hold that fails wants few.
+    /// A place that holds for up to so many turns once it is closed. Where other programs want the processor
+    /// a turn may take milliseconds, so a test of a hold that fails wants few.
     pub fn for_turns(turns: u32) -> Hold {
         Hold {
             turns,
@@ -55,7 +55,8 @@ impl Hold {
         false
     }
 
-    /// Waits until a thread has come to the place since it was closed. False where none came in all its turns.
+    /// Waits until a thread has come to the place since it was closed. False where none came in all its
+    /// turns.
     pub fn is_reached(&self) -> bool {
         for _ in 0..self.turns {
             if self.reached.load(Ordering::SeqCst) {

@@ -6,8 +6,8 @@ use crate::Hold;
 use ixp_io::{Change, KeepFault, Keeper, MemKeeper, Row, RowName};
 use std::alloc::Global;
 
-/// A keeper in memory that is held inside each commit while its hold is closed. A hold that fails is a counted fault,
-/// and the batch isn't made.
+/// A keeper in memory that is held inside each commit while its hold is closed. A hold that fails is a
+/// counted fault, and the batch isn't made.
 #[derive(Drop)]
 pub struct HoldKeeper<'a> {
     pub keeper: MemKeeper,

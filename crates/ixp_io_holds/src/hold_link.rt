@@ -4,9 +4,10 @@ ghost use Rattle.std.specs.Prelude.{◌≡◌, ◌<◌, ◌≤◌, Some, drop};
 use crate::Hold;
 use ixp_io::{Failed, MemLink, Sink, Source, Stream};
 
-/// A link in memory that holds back what it gives from a place on. Whoever reads there after something was written lets
-/// go on whoever is held at `told`, and is then held at `hold`. So of two links that have each other's holds, neither gives
-/// its second request before the other has its first reply. A hold that fails is a counted fault of the read.
+/// A link in memory that holds back what it gives from a place on. Whoever reads there after something was
+/// written lets go on whoever is held at `told`, and is then held at `hold`. So of two links that have each
+/// other's holds, neither gives its second request before the other has its first reply. A hold that fails is
+/// a counted fault of the read.
 #[derive(Drop)]
 pub struct HoldLink<'a> {
     pub link: MemLink,

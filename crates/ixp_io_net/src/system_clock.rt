@@ -3,8 +3,8 @@ ghost use Rattle.std.specs.Prelude.{◌≤◌, None};
 
 use ixp_io::{Clock, LAST_SECOND};
 
-/// The clock of the system. It doesn't tell what it gave. Where the system's clock can't be read, it gives the number that
-/// it gave last, or 0 where it gave none.
+/// The clock of the system. It doesn't tell what it gave. Where the system's clock can't be read, it gives
+/// the number that it gave last, or 0 where it gave none.
 #[derive(Drop)]
 pub struct SystemClock {
     rt: HostRuntime,

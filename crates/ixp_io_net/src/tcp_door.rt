@@ -15,8 +15,8 @@ const PAUSE_MILLIS: u64 = 100;
 
 /// The door of the machine itself, at 127.0.0.1. It doesn't tell how many links it gave.
 ///
-/// A connection that its peer has given up already, or for which the system has no descriptor or memory left, is no
-/// fault yet: the next one is tried for about a minute, in which each silent link meets its limit.
+/// A connection that its peer has given up already, or for which the system has no descriptor or memory left,
+/// is no fault yet: the next one is tried for about a minute, in which each silent link meets its limit.
 #[derive(Drop)]
 pub struct TcpDoor {
     rt: HostRuntime,

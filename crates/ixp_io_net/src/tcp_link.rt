@@ -18,11 +18,11 @@ const LINGER_SECONDS: u64 = 5;
 /// How many reads a link that ends makes at most.
 const LINGER_READS: u32 = 100_000;
 
-/// A TCP stream. It tells no content. A read or a write that fails or waits for more than a minute is a fault, and so is
-/// a write that takes nothing of a piece.
+/// A TCP stream. It tells no content. A read or a write that fails or waits for more than a minute is a
+/// fault, and so is a write that takes nothing of a piece.
 ///
-/// A link that is dropped tells its peer that no more comes, and reads on for some seconds: the system resets a
-/// connection that is closed with bytes unread, and its peer might then never see the last reply.
+/// A link that is dropped tells its peer that no more comes, and reads on for some seconds: the system resets
+/// a connection that is closed with bytes unread, and its peer might then never see the last reply.
 pub struct TcpLink {
     rt: HostRuntime,
     stream: TcpStream,

@@ -61,8 +61,8 @@ where
     Ok(())
 }
 
-/// What the caller does while the workers run. It hands back what it was lent: a scope tells what its closure returns,
-/// and nothing of what the closure captured.
+/// What the caller does while the workers run. It hands back what it was lent: a scope tells what its closure
+/// returns, and nothing of what the closure captured.
 trait Errand<L: Drop, C, H> {
     type Output;
 
@@ -170,13 +170,15 @@ fn beside_all<
     )
 }
 
-// Does nothing, but this use of a returned reference ties it, for the borrow checker, to the parameter that lent it.
+// Does nothing, but this use of a returned reference ties it, for the borrow checker, to the parameter that
+// lent it.
 fn take_back<T>(it: &mut T)
     ensures { it.new ≡ it.old }
 {}
 
-/// Serves so many links of a door by so many workers. Where no worker can be started the caller serves each link itself,
-/// and where the background's work can't, the caller does a turn of it after each link that it accepts.
+/// Serves so many links of a door by so many workers. Where no worker can be started the caller serves each
+/// link itself, and where the background's work can't, the caller does a turn of it after each link that it
+/// accepts.
 pub fn serve<R: Threads + Wait + Sync, D: Door + Send, C: Clock + Send, H: Host<D::Link> + Sync>(
     rt: &R,
     alloc: Global,

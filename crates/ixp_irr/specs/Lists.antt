@@ -33,8 +33,9 @@ module _ {A : Type 0} (says : List ℕ → Result A Misfit → Type 0) where
       (before after : List (List ℕ)) × (line : List ℕ) × (items : List A)
       × (all ≡ before ++ line ∷ after) × Lists before items × (counts line ≡ true) × says line (Err why) × (n ≡ length before + 1)
 
-  -- What a text of lines that end at a line feed, or a carriage return and a line feed, is: the list of its items in the order
-  -- of their keys and each once; or its first faulty line; or, where there is none, too many items.
+  -- What a text of lines that end at a line feed, or a carriage return and a line feed, is: the list of its
+  -- items in the order of their keys and each once; or its first faulty line; or, where there is none, too
+  -- many items.
   abbrev pub ListAnswer : (A → List ℕ) → List ℕ → Result (List A) ListFault → Type 0
   ListAnswer key t (Ok list) = (items : List A) × Lists (lines t) items × IsInOrder key items list × (length list ≤ 300000)
   ListAnswer key t (Err (fault.Line n)) = IsFirstFault (lines t) misfit.Form n

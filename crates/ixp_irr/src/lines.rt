@@ -13,7 +13,8 @@ fn place_of(mark: u8, t: &[u8]) -> Option<usize>
 
 /// What is before the first such byte, and what is behind it.
 pub(crate) fn parted(mark: u8, t: &[u8]) -> Option<(&[u8], &[u8])>
-    ensures { MatchOption result (AllByRecursion (λ b. b ≢ mark) t.now) (λ p. (t.now ≡ p.0.now ++ mark ∷ p.1.now) × AllByRecursion (λ b. b ≢ mark) p.0.now) }
+    ensures { MatchOption result (AllByRecursion (λ b. b ≢ mark) t.now)
+        (λ p. (t.now ≡ p.0.now ++ mark ∷ p.1.now) × AllByRecursion (λ b. b ≢ mark) p.0.now) }
 {
     match place_of(mark, t) {
         Some(at) => Some((&t[..at], &t[at + 1..])),

@@ -73,8 +73,8 @@ pub fn read_bogons(alloc: Global, t: &[u8]) -> Result<Sorted<Pattern>, ListFault
     list_of(alloc, &Patterns {}, t)
 }
 
-/// The ranges of a list of bogon AS numbers, each the first and the last with a blank between them, in order and each
-/// once. A range whose first number is above its last is read.
+/// The ranges of a list of bogon AS numbers, each the first and the last with a blank between them, in order
+/// and each once. A range whose first number is above its last is read.
 pub fn read_bogon_ranges(alloc: Global, t: &[u8]) -> Result<Sorted<(Asn, Asn)>, ListFault>
     ensures { ListAnswer (Says IsRangeText) range_key t.now result }
 {

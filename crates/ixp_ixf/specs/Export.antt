@@ -1,5 +1,5 @@
--- The member export of an exchange, as a JSON tree: IX-F Member Export 1.0, of which it has the keys below. Names stand in ascending
--- order of bytes, lists in the order of the rows' numbers.
+-- The member export of an exchange, as a JSON tree: IX-F Member Export 1.0, of which it has the keys below.
+-- Names stand in ascending order of bytes, lists in the order of the rows' numbers.
 use Rattle.std.specs.Prelude.{ℕ, List, [], ◌∷◌, ◌==◌, Option, Some, None, if◌then◌else◌, codes, filter}
 use Rattle.serde_json.specs.Data.{Data, boolean, number, unsigned, string, array, object, Items, no_items, item, Members, no_members, member}
 use Rattle.ixp_num.specs.declared.prefix.Prefix.{Prefix}

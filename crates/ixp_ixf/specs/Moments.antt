@@ -1,5 +1,5 @@
--- The moment of an export as text (RFC 3339, ISO 8601): the date and the time of day in UTC of a second that is counted from
--- 1 January 1970.
+-- The moment of an export as text (RFC 3339, ISO 8601): the date and the time of day in UTC of a second that
+-- is counted from 1 January 1970.
 use Rattle.std.specs.Prelude.{ℕ, zero, suc, ◌-◌, ◌/◌, ◌%◌, min, nat_le, pos, Bool, List, ◌++◌, codes, if◌then◌else◌}
 use Rattle.jiff_core.specs.Calendar.{day_count}
 use Rattle.jiff_fmt.specs.Text.{pad2, pad4}
@@ -14,8 +14,8 @@ unfoldable pub last_from : (ℕ → Bool) → ℕ → ℕ → ℕ
 last_from test zero n = n
 last_from test (suc more) n = if test (suc n) then last_from test more (suc n) else n
 
--- The date of a day that is counted from there: the last year that has begun, the last month of it that has, and which day of that
--- month it is. No year above 9999 is asked for.
+-- The date of a day that is counted from there: the last year that has begun, the last month of it that has,
+-- and which day of that month it is. No year above 9999 is asked for.
 abbrev pub year_of : ℕ → ℕ
 year_of day = last_from (λ year. nat_le (first_day year 1) day) 8029 1970
 

@@ -1,5 +1,5 @@
--- The texts of the export's parts, as they are written one behind the other. That they are the compact texts of the trees is shown in
--- `proofs/Compact`.
+-- The texts of the export's parts, as they are written one behind the other. That they are the compact texts
+-- of the trees is shown in `proofs/Compact`.
 use Rattle.std.specs.Prelude.{ℕ, List, [], ◌++◌, Bool, true, false, Option, Some, None, codes}
 use Rattle.json.specs.Print.{quoted}
 use Rattle.ixp_num_tables.specs.Joined.{joined}

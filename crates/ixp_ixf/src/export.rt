@@ -14,7 +14,9 @@ use std::alloc::{AllocError, Global};
 
 #[tactic(auto, unfolding(crate::specs::Texts::single_member))]
 fn put_exchange_list(out: &mut Vec<u8>, registry: &Registry) -> Result<(), AllocError>
-    ensures { OnOk result (out.new.items ≡ out.old.items ++ spec.single_member (codes "{") (codes "ixp_list") (spec.exchange_text registry.now)) }
+    ensures { OnOk result
+        (out.new.items ≡ out.old.items
+        ++ spec.single_member (codes "{") (codes "ixp_list") (spec.exchange_text registry.now)) }
 {
     put_name(out, b"{", b"ixp_list")?;
     put(out, b"[")?;
@@ -36,7 +38,8 @@ fn put_export(out: &mut Vec<u8>, registry: &Registry, second: u64) -> Result<(),
     put(out, b"}")
 }
 
-/// Adds the export at a second since 1970. Seconds above [`LAST_SECOND`](crate::LAST_SECOND) count as that one.
+/// Adds the export at a second since 1970. Seconds above [`LAST_SECOND`](crate::LAST_SECOND) count as that
+/// one.
 pub fn ixf_text(
     alloc: Global,
     registry: &Registry,

@@ -52,7 +52,9 @@ impl<'a, T: Owned> Index<'a, T> {
 
     /// Adds a row behind the others of its owner.
     fn add(&mut self, alloc: Global, row: &'a T) -> Result<(), AllocError>
-        ensures { OnOk result ((n : ℕ) → rows_of self.new n ≡ (if T.owner row.now == n then rows_of self.old n ++ row.now ∷ [] else rows_of self.old n)) }
+        ensures { OnOk result
+            ((n : ℕ) → rows_of self.new n
+            ≡ (if T.owner row.now == n then rows_of self.old n ++ row.now ∷ [] else rows_of self.old n)) }
     {
         let owner = row.owner();
         let mut rows = self.take(alloc, owner);
@@ -63,7 +65,8 @@ impl<'a, T: Owned> Index<'a, T> {
 
     /// All rows, by one pass over them.
     pub(crate) fn of(alloc: Global, rows: &'a [T]) -> Result<Index<'a, T>, AllocError>
-        ensures { IfOk result (λ index. (n : ℕ) → rows_of index n ≡ filter (λ row. T.owner row == n) rows.now) }
+        ensures { IfOk result
+            (λ index. (n : ℕ) → rows_of index n ≡ filter (λ row. T.owner row == n) rows.now) }
     {
         let mut index = Index::new(alloc);
         for row in rows {
@@ -82,7 +85,9 @@ pub(crate) fn put_owned_member<S: Shows>(
     index: &Index<S::Item>,
     owner: u32,
 ) -> Result<(), AllocError>
-    ensures { OnOk result (out.new.items ≡ out.old.items ++ list_member mark.now name.now (S.text_of shows.now) (rows_of index.now owner)) }
+    ensures { OnOk result
+        (out.new.items ≡ out.old.items
+        ++ list_member mark.now name.now (S.text_of shows.now) (rows_of index.now owner)) }
 {
     match index.by_owner.get(&owner) {
         Some(rows) => put_shown_member(out, mark, name, shows, rows.as_slice()),

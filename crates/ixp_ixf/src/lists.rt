@@ -8,7 +8,8 @@ use ixp_api_json::put_quoted;
 use ixp_num_tables::{Writes, put, put_joined};
 use std::alloc::AllocError;
 
-/// Adds a name behind a mark, and its colon. Where memory runs out, a first part of it may be there; likewise below.
+/// Adds a name behind a mark, and its colon. Where memory runs out, a first part of it may be there; likewise
+/// below.
 #[tactic(auto, unfolding(crate::specs::Texts::name_text))]
 pub(crate) fn put_name(out: &mut Vec<u8>, mark: &[u8], name: &[u8]) -> Result<(), AllocError>
     ensures { OnOk result (out.new.items ≡ out.old.items ++ name_text mark.now name.now) }
@@ -40,7 +41,8 @@ pub(crate) fn put_list_member<W: Writes>(
     name: &[u8],
     items: &[W::Item],
 ) -> Result<(), AllocError>
-    ensures { OnOk result (out.new.items ≡ out.old.items ++ list_member mark.now name.now W.text_of items.now) }
+    ensures { OnOk result
+        (out.new.items ≡ out.old.items ++ list_member mark.now name.now W.text_of items.now) }
 {
     put_name(out, mark, name)?;
     put(out, b"[")?;
@@ -60,7 +62,8 @@ pub(crate) trait Shows {
 }
 
 fn put_shown<S: Shows>(out: &mut Vec<u8>, shows: &S, items: &[&S::Item]) -> Result<(), AllocError>
-    ensures { OnOk result (out.new.items ≡ out.old.items ++ joined (codes ",") (S.text_of shows.now) (shown items.now)) }
+    ensures { OnOk result
+        (out.new.items ≡ out.old.items ++ joined (codes ",") (S.text_of shows.now) (shown items.now)) }
 {
     let mut is_first = true;
     for item in items {
@@ -82,7 +85,9 @@ pub(crate) fn put_shown_member<S: Shows>(
     shows: &S,
     items: &[&S::Item],
 ) -> Result<(), AllocError>
-    ensures { OnOk result (out.new.items ≡ out.old.items ++ list_member mark.now name.now (S.text_of shows.now) (shown items.now)) }
+    ensures { OnOk result
+        (out.new.items ≡ out.old.items
+        ++ list_member mark.now name.now (S.text_of shows.now) (shown items.now)) }
 {
     put_name(out, mark, name)?;
     put(out, b"[")?;

@@ -21,7 +21,8 @@ fn put_text_if_any(
     name: &[u8],
     text: &[u8],
 ) -> Result<(), AllocError>
-    ensures { OnOk result (out.new.items ≡ out.old.items ++ spec.text_if_any mark.now name.now (tree.some_text text.now)) }
+    ensures { OnOk result
+        (out.new.items ≡ out.old.items ++ spec.text_if_any mark.now name.now (tree.some_text text.now)) }
 {
     match text.split_first() {
         Some(_) => put_text_member(out, mark, name, text),
@@ -36,7 +37,8 @@ fn put_number_if_any(
     name: &[u8],
     number: u32,
 ) -> Result<(), AllocError>
-    ensures { OnOk result (out.new.items ≡ out.old.items ++ spec.number_if_any mark.now name.now (tree.some_number number)) }
+    ensures { OnOk result
+        (out.new.items ≡ out.old.items ++ spec.number_if_any mark.now name.now (tree.some_number number)) }
 {
     if number == 0 {
         Ok(())
@@ -65,7 +67,8 @@ fn put_address_member(
     as_macro: &[u8],
     address: &Option<IfAddr>,
 ) -> Result<(), AllocError>
-    ensures { OnOk result (out.new.items ≡ out.old.items ++ spec.address_member name.now as_macro.now address.now) }
+    ensures { OnOk result
+        (out.new.items ≡ out.old.items ++ spec.address_member name.now as_macro.now address.now) }
 {
     match address {
         Some(address) => {
@@ -107,7 +110,9 @@ fn put_port(out: &mut Vec<u8>, port: &Port) -> Result<(), AllocError>
 
 #[tactic(auto, unfolding(crate::specs::Texts::single_member))]
 fn put_port_list(out: &mut Vec<u8>, port: &Port) -> Result<(), AllocError>
-    ensures { OnOk result (out.new.items ≡ out.old.items ++ spec.single_member (codes "{") (codes "if_list") (spec.port_text port.now)) }
+    ensures { OnOk result
+        (out.new.items ≡ out.old.items
+        ++ spec.single_member (codes "{") (codes "if_list") (spec.port_text port.now)) }
 {
     put_name(out, b"{", b"if_list")?;
     put(out, b"[")?;
@@ -131,7 +136,8 @@ impl Owned for Interface {
     }
 }
 
-/// A registry, with its ports by their members and its interfaces by their ports. Contracts see it as the registry.
+/// A registry, with its ports by their members and its interfaces by their ports. Contracts see it as the
+/// registry.
 #[derive(Drop)]
 pub(crate) struct Wiring<'a> {
     registry: &'a Registry,
@@ -148,7 +154,8 @@ impl<'a> Model for Wiring<'a> {
 
     ghost view = { λ w. w.registry.now };
 
-    ghost invariant = { λ w. ((n : ℕ) → rows_of w.ports n ≡ filter (λ p. p.member == n) w.registry.now.ports) × ((n : ℕ) → rows_of w.interfaces n ≡ filter (λ i. i.port == n) w.registry.now.interfaces) };
+    ghost invariant = { λ w. ((n : ℕ) → rows_of w.ports n ≡ filter (λ p. p.member == n) w.registry.now.ports)
+        × ((n : ℕ) → rows_of w.interfaces n ≡ filter (λ i. i.port == n) w.registry.now.interfaces) };
 }
 
 impl<'a> Wiring<'a> {

@@ -21,9 +21,11 @@ pub struct PathKeeper<S: Alter> {
     faults: u64,
 }
 
-/// A keeper over the file at a path, and the log beside it, whose name ends in `-wal`. A file that isn't there has no rows; the first
-/// commit makes it, for its owner alone to read and write. Another program that has it open or made it in between, a file that is no database and a database of another program are faults. The
-/// file is opened once: where a commit that failed may stand in its log, it has to be read anew by a program that starts.
+/// A keeper over the file at a path, and the log beside it, whose name ends in `-wal`. A file that isn't
+/// there has no rows; the first commit makes it, for its owner alone to read and write. Another program that
+/// has it open or made it in between, a file that is no database and a database of another program are
+/// faults. The file is opened once: where a commit that failed may stand in its log, it has to be read anew
+/// by a program that starts.
 pub type FileKeeper = PathKeeper<FileStore<File>>;
 
 // It is written out, so that a caller doesn't prove again how each part is dropped.
@@ -99,7 +101,8 @@ impl PathKeeper<FileStore<File>> {
         })
     }
 
-    /// Copies the log into the file, and lets both go. Where the log can't be copied, the rows stay in the two of them.
+    /// Copies the log into the file, and lets both go. Where the log can't be copied, the rows stay in the
+    /// two of them.
     pub fn close(self) {
         let PathKeeper {
             rt: _,

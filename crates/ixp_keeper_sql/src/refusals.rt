@@ -6,7 +6,7 @@ use ixp_io::KeepFault;
 use sqlite::{Error, ErrorCode};
 use sqlite_trees::error::StoreError;
 
-/// Want of memory is answered as such, and every other refusal is counted.
+/// Running out of memory is answered as such, and every other refusal is counted.
 pub fn counted(faults: &mut u64, refusal: &Error) -> KeepFault
     requires { faults.old < last_count }
     ensures { ((result ≡ KeepFault.NoMemory) × (faults.new ≡ faults.old))

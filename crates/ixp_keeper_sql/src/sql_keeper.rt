@@ -9,9 +9,9 @@ use sqlite::{Alter, Connection, Error, ErrorCode};
 use sqlite_trees::error::StoreError;
 use std::alloc::Global;
 
-/// A keeper over a connection. It doesn't tell its rows. Once its count of faults stands at its last value, each call
-/// fails. After a sync that failed the database takes no more commits: whether that batch will be there after a crash is
-/// not known then.
+/// A keeper over a connection. It doesn't tell its rows. Once its count of faults stands at its last value,
+/// each call fails. After a sync that failed the database takes no more commits: whether that batch will be
+/// there after a crash is not known then.
 pub struct SqlKeeper<S: Alter> {
     /// The connection, until its store stands in the trees.
     conn: Option<Connection<S>>,
@@ -51,7 +51,8 @@ fn given(found: Result<Option<Row>, StoreError>) -> Result<Option<Row>, Error> {
 }
 
 impl<S: Alter + Drop> SqlKeeper<S> {
-    /// A keeper over this connection. It does not allocate; the first call makes the table, where the database is empty.
+    /// A keeper over this connection. It does not allocate; the first call makes the table, where the
+    /// database is empty.
     pub fn adopt(conn: Connection<S>) -> SqlKeeper<S>
         ensures { ⟦<SqlKeeper<S> as Keeper>⟧.faults result ≡ 0 }
     {

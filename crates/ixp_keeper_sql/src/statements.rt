@@ -1,8 +1,8 @@
-//! The statements of a keeper: that which makes the table, and those that change and read rows where the database has other objects
-//! beside it. Any other database is changed and read by `trees.rt`.
+//! The statements of a keeper: that which makes the table, and those that change and read rows where the
+//! database has other objects beside it. Any other database is changed and read by `trees.rt`.
 //!
-//! Each call of the connection stands in a function without a clause of its own: a proof that carries what several of
-//! them say of a database takes minutes.
+//! Each call of the connection stands in a function without a clause of its own: a proof that carries what
+//! several of them say of a database takes minutes.
 use ixp_io::{Change, Row, RowName};
 use ixp_num_tables::Items;
 use sqlite::{Alter, Connection, Error, ErrorCode, Statement, Transaction, params};
@@ -22,8 +22,8 @@ const SET: &str =
 
 const DELETE: &str = "DELETE FROM entry WHERE kind = ?1 AND name = ?2";
 
-/// The next row of the same kind. It and [`NEXT_KIND`] are searches of the key; one statement for both, with OR, would
-/// read all rows from the first on.
+/// The next row of the same kind. It and [`NEXT_KIND`] are searches of the key; one statement for both, with
+/// OR, would read all rows from the first on.
 const NEXT_IN_KIND: &str =
     "SELECT kind, name, body FROM entry WHERE kind = ?1 AND name > ?2 ORDER BY name LIMIT 1";
 

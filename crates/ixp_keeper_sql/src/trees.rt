@@ -1,8 +1,9 @@
 //! Rows in the two trees of the table: the rows by their rowids, and the index of their names.
 //!
-//! A statement of SQL is bound, marked, planned and checked anew for each row, and most of what it does has nothing to do with the
-//! row. Where a database has the table, the index of its key and no other object, nothing but the two trees has to change with a
-//! row, and they are changed here as the statement would change them. The file is the same.
+//! A statement of SQL is bound, marked, planned and checked anew for each row, and most of what it does has
+//! nothing to do with the row. Where a database has the table, the index of its key and no other object,
+//! nothing but the two trees has to change with a row, and they are changed here as the statement would
+//! change them. The file is the same.
 //!
 //! Each call of the store stands in a function without a clause of its own, as in `statements.rt`.
 use ixp_io::{Change, Row, RowName};
@@ -14,7 +15,8 @@ use sqlite_value::row::Row as Entry;
 use sqlite_value::value::ValueRef;
 use std::alloc::{AllocError, Global};
 
-/// In a batch of so many changes, one that a later one makes void is left out. That of an edit has fewer as a rule.
+/// In a batch of so many changes, one that a later one makes void is left out. That of an edit has fewer as a
+/// rule.
 const SHORT: usize = 256;
 
 /// The numbers of the trees.
@@ -30,7 +32,8 @@ pub struct Trees<S: Alter> {
     places: Places,
     /// The greatest rowid, once a new one was given.
     last: Option<i64>,
-    /// A rowid that the batch took out: a row that is added gets it, and stands in the page that changes anyway.
+    /// A rowid that the batch took out: a row that is added gets it, and stands in the page that changes
+    /// anyway.
     freed: Option<i64>,
     /// What is looked for.
     key: Entry,

@@ -1,6 +1,6 @@
 -- What filters compute with values, and what they read and change of a route (BIRD 2 User's Guide, chapter
--- "Filters": data types, operators, route attributes). Values of kinds that no text brings together compare as
--- false, and change nothing.
+-- "Filters": data types, operators, route attributes). Values of kinds that no text brings together compare
+-- as false, and change nothing.
 use Rattle.std.specs.Prelude.{ℕ, Bool, true, false, not, ◌&&◌, ◌==◌, nat_le, nat_lt, min, List, [], ◌∷◌, ◌++◌, length, map, filter, reverse, Option, Some, None, if◌then◌else◌}
 use Rattle.std.specs.List.{list_any}
 use Rattle.ixp_num.specs.declared.addr.Addr.{Addr}

@@ -1,9 +1,9 @@
 -- What filters mean (BIRD 2 User's Guide, chapter "Filters").
 --
 -- An expression is read from left to right with the route as it then is, since a function that it calls may
--- change the route; it gives its value and the route to what comes next. A statement gives the changed route to
--- the statement after it. `accept` and `reject` end the whole filter, from inside a function too; a fault ends
--- all. A name means what stands before it in the text: a call is the body of an earlier function.
+-- change the route; it gives its value and the route to what comes next. A statement gives the changed route
+-- to the statement after it. `accept` and `reject` end the whole filter, from inside a function too; a fault
+-- ends all. A name means what stands before it in the text: a call is the body of an earlier function.
 use Rattle.std.specs.Prelude.{ℕ, Bool, true, false, not, ◌==◌, nat_lt, List, [], ◌∷◌, ◌++◌, Option, Some, None, Result, Ok, Err, if◌then◌else◌}
 use Rattle.ixp_num.specs.declared.addr.Addr.{Addr}
 use Rattle.ixp_num.specs.declared.roa.Roa.{Roa}
@@ -229,7 +229,8 @@ function_found env n (Some f) m r = must_return n (body_of env (known env f.0) (
 abbrev pub function_end : Environment → List ItemTree → List ℕ → ℕ → Route → Result Value CallFault
 function_end env is n m r = function_found env n (function_of is n) m r
 
--- For a reader who knows the guide: what an expression gives, and how statements go on, where these items stand before.
+-- For a reader who knows the guide: what an expression gives, and how statements go on, where these items
+-- stand before.
 
 abbrev pub Means : Environment → List ItemTree → Params → ExprTree → Route → End
 Means env is ps e r = means env (known env is) ps e r returns

@@ -12,8 +12,8 @@ use Rattle.ixp_lang.specs.RouteTexts.{IsRouteText, IsBounded}
 abbrev pub IsOfOneFamily : Route → Type 0
 IsOfOneFamily r = r.net.family ≡ r.next_hop.family
 
--- The text is the route's, whose numbers and lists are within their bounds. Else net and next hop alone are at odds,
--- or the first field or item that isn't there tells the place.
+-- The text is the route's, whose numbers and lists are within their bounds. Else net and next hop alone are
+-- at odds, or the first field or item that isn't there tells the place.
 abbrev pub RouteAnswer : List ℕ → Result Route RouteFault → Type 0
 RouteAnswer t (Ok r) = IsRouteText r t × IsBounded r × IsOfOneFamily r
 RouteAnswer t (Err fault.Family) = (r : Route) × IsRouteText r t × IsBounded r × ¬ (IsOfOneFamily r)

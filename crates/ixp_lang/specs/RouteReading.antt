@@ -12,7 +12,8 @@ use Rattle.ixp_num.specs.Reading.{◌>>=◌, is_digit, number_at, mark_at}
 use Rattle.ixp_lang.specs.declared.reading.fault.Stop.{Stop}
 use Rattle.ixp_lang.specs.declared.reading.fault.Stop.TheVariants.{Text, Set, TooLong, NoMemory}
 
--- the number at the front, of at most `bound`, and what is behind it; else how many bytes are left where none goes on
+-- the number at the front, of at most `bound`, and what is behind it; else how many bytes are left where none
+-- goes on
 abbrev pub number : ℕ → List ℕ → Result (ℕ × List ℕ) ℕ
 number bound t = number_at t >>= λ p. if nat_le p.0 bound then Ok p else Err (length t)
 
@@ -96,8 +97,9 @@ abbrev pub begins_with : ℕ → List ℕ → Bool
 begins_with b [] = false
 begins_with b (c ∷ cs) = c == b
 
--- Whether the number that is read behind the byte `before` is above its bound, whatever follows it. One beside a dot is a part of an IPv4 address
--- and at most 255; one behind a slash is a length, and at most `bits`.
+-- Whether the number that is read behind the byte `before` is above its bound, whatever follows it. One
+-- beside a dot is a part of an IPv4 address and at most 255; one behind a slash is a length, and at most
+-- `bits`.
 abbrev pub is_above : ℕ → ℕ → Result (ℕ × List ℕ) ℕ → Bool
 is_above bits before (Ok p) = ((before == 46 || begins_with 46 p.1) && nat_lt 255 p.0) || (before == 47 && nat_lt bits p.0)
 is_above bits before (Err left) = false
@@ -112,7 +114,8 @@ first_above bits before place (c ∷ cs) =
 abbrev pub bits_in : List ℕ → ℕ
 bits_in front = if list_any (λ b. b == 58) front then 128 else 32
 
--- the place of an address's fault that no address goes on at: a number above its bound that stands before is the first fault
+-- the place of an address's fault that no address goes on at: a number above its bound that stands before is
+-- the first fault
 abbrev pub halt_place : List ℕ → ℕ → ℕ
 halt_place front at = unwrap_or (first_above (bits_in front) 32 0 front) at
 

@@ -88,7 +88,8 @@ pub record ExceedsAt (L : List ℕ → Type 0) (bound : ℕ) (t : List ℕ) (pla
   pub begins : Begins L front
   pub no_more : ¬ (Begins L (front ++ number))
 
--- the place of the first byte with which no text of L goes on, or of the first byte of a number above the bound
+-- the place of the first byte with which no text of L goes on, or of the first byte of a number above the
+-- bound
 abbrev pub HaltsAt : (List ℕ → Type 0) → ℕ → List ℕ → ℕ → Type 0
 HaltsAt L bound t place = StopsAt L t place ⊎ ExceedsAt L bound t place
 
@@ -99,8 +100,8 @@ EndsIn b bytes = (front : List ℕ) × (bytes ≡ front ++ b ∷ [])
 abbrev pub BeginsIn : ℕ → List ℕ → Type 0
 BeginsIn b bytes = (rest : List ℕ) × (bytes ≡ b ∷ rest)
 
--- At the place of the bytes stands a number that no address has, whatever follows it: one above 255 beside a dot, or one above `bits`
--- behind a slash.
+-- At the place of the bytes stands a number that no address has, whatever follows it: one above 255 beside a
+-- dot, or one above `bits` behind a slash.
 pub record NumberAbove (bits : ℕ) (bytes : List ℕ) (place : ℕ) : Type 0 where
   pub before : List ℕ
   pub number : List ℕ
@@ -111,7 +112,8 @@ pub record NumberAbove (bits : ℕ) (bytes : List ℕ) (place : ℕ) : Type 0 wh
   pub is_number : IsDecimal number value
   pub above : ((255 < value) × (EndsIn 46 before ⊎ BeginsIn 46 behind)) ⊎ ((bits < value) × EndsIn 47 before)
 
--- the text but for its last `left` bytes is a list of 1,000 items and a comma, and what is left begins as an item does
+-- the text but for its last `left` bytes is a list of 1,000 items and a comma, and what is left begins as an
+-- item does
 abbrev pub IsLongList : {A : Type 0} → (A → List ℕ → Type 0) → (A → Type 0) → List ℕ → ℕ → Type 0
 IsLongList {A} Is Fits t left =
     (front rest : List ℕ) × (xs : List A) × (t ≡ front ++ 44 ∷ rest) × (length rest ≡ left) × IsListText Is xs front × AllByRecursion Fits xs × (length xs ≡ 1000)

@@ -11,7 +11,8 @@ hands_on (accepts r) next = accepts r
 hands_on rejects next = rejects
 hands_on (fails f) next = fails f
 
--- statements that came to their end are followed by what comes next; `return`, a verdict or a fault ends the body
+-- statements that came to their end are followed by what comes next; `return`, a verdict or a fault ends the
+-- body
 abbrev pub runs_on : End → (Route → End) → End
 runs_on (falls r) next = next r
 runs_on (returns v r) next = returns v r

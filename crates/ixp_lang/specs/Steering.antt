@@ -1,6 +1,6 @@
--- To whom a route server sends a route, and how often it puts the sender's number in front: what the sender asks by
--- communities of the form server:action:peer (RFC 1997, RFC 8092). Where several speak, the first line of the table
--- whose community the route has decides.
+-- To whom a route server sends a route, and how often it puts the sender's number in front: what the sender
+-- asks by communities of the form server:action:peer (RFC 1997, RFC 8092). Where several speak, the first
+-- line of the table whose community the route has decides.
 use Rattle.std.specs.Prelude.{ℕ, Bool, true, false, ◌&&◌, ◌==◌, nat_le, List, [], ◌∷◌, if◌then◌else◌}
 use Rattle.std.specs.List.{list_any}
 use Rattle.ixp_lang.specs.declared.route.Route.{Route}
@@ -38,8 +38,8 @@ sends rs r to =
     ∷ [])
     true
 
--- How often the sender's number is put in front for the peer `to`: the most that is asked for it, else nothing where
--- sending to it is asked, else the most that is asked for every peer, whose number is 0 then
+-- How often the sender's number is put in front for the peer `to`: the most that is asked for it, else
+-- nothing where sending to it is asked, else the most that is asked for every peer, whose number is 0 then
 abbrev pub prepends : ℕ → Route → ℕ → ℕ
 prepends rs r to =
     first_line (

@@ -66,7 +66,7 @@ abbrev pub table_text : Option Asn → Option Route → Bool → List (List ℕ 
 table_text rs None passed sent = codes "dropped\n"
 table_text rs (Some r) passed sent = codes "tagged " ++ attributes_text r ++ codes "\n" ++ outcome_text rs r passed sent
 
--- one line for the route in its own table, one for the pipe, and one for each other session; the number of the route
--- server may be known
+-- one line for the route in its own table, one for the pipe, and one for each other session; the number of
+-- the route server may be known
 abbrev pub fate_text : Fate → Option Asn → List ℕ
 fate_text f rs = table_text rs f.table f.passed f.sent

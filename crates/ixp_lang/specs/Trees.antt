@@ -1,5 +1,6 @@
--- The trees of the filter language as plain data, without places in memory: what a text spells, what a generator
--- makes and what a meaning is given to (BIRD 2 User's Guide, chapters "Configuration" and "Filters").
+-- The trees of the filter language as plain data, without places in memory: what a text spells, what a
+-- generator makes and what a meaning is given to (BIRD 2 User's Guide, chapters "Configuration" and
+-- "Filters").
 use Rattle.std.specs.Prelude.{ℕ, List, [], ◌∷◌, Option}
 use Rattle.ixp_num.specs.declared.addr.Addr.{Addr}
 use Rattle.ixp_lang.specs.declared.value.Value.{Value}

@@ -80,7 +80,8 @@ module _ (env : Environment) (items : List ItemTree) where
   into_pipe receiver None r = Ok None
   into_pipe receiver (Some p) r = through p.export r >>= from_pipe receiver
 
-  -- what a session is sent of a route in the primary table: what the pipe to its table and its own export let through
+  -- what a session is sent of a route in the primary table: what the pipe to its table and its own export let
+  -- through
   abbrev pub sent_through : List ℕ → Bgp → Route → Result (Option Route) Fault
   sent_through primary receiver r = into_pipe receiver (pipe_between (pipes_of items) primary receiver.table) r
 
@@ -112,6 +113,7 @@ abbrev pub walk_from : List ItemTree → List (List ℕ × List Roa) → List �
 walk_from items roas session None r = Err (no_filter session)
 walk_from items roas session (Some b) r = brought (record { from = b.neighbor; roas = roas }) items b r
 
--- what the configuration does with a route from the session of the name; the items stand in the order of the text
+-- what the configuration does with a route from the session of the name; the items stand in the order of the
+-- text
 abbrev pub walk : List ItemTree → List (List ℕ × List Roa) → List ℕ → Route → Result Fate Fault
 walk items roas session r = walk_from items roas session (session_named (bgp_sessions items) session) r

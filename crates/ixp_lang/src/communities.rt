@@ -1,7 +1,7 @@
 //! Communities that have a meaning of their own.
 
-/// The second part of the large communities in which a route server tells what it found of a route's origin by
-/// ROAs: `rs:1000:state`, as IXP Manager's.
+/// The second part of the large communities in which a route server tells what it found of a route's origin
+/// by ROAs: `rs:1000:state`, as IXP Manager's.
 pub const ORIGIN_STATE: u32 = 1000;
 
 /// The second part of those in which it tells what it found otherwise: `rs:1001:finding`, as IXP Manager's.

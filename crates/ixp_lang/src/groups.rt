@@ -37,7 +37,8 @@ impl<'a, T: Drop> Groups<'a, T> {
     /// Takes the values of a name out.
     pub fn take(&mut self, alloc: Global, name: &'a [u8]) -> Vec<T>
         ensures values { result.items ≡ values_of self.old name.now }
-        ensures others { (n : List ℕ) → values_of self.new n ≡ (if same_name name.now n then [] else values_of self.old n) }
+        ensures others { (n : List ℕ)
+            → values_of self.new n ≡ (if same_name name.now n then [] else values_of self.old n) }
     {
         match self.by_name.remove(&name) {
             Some(values) => values,
@@ -47,7 +48,10 @@ impl<'a, T: Drop> Groups<'a, T> {
 
     /// Adds a value behind those of the name.
     pub fn add(&mut self, alloc: Global, name: &'a [u8], value: T) -> Result<(), AllocError>
-        ensures { OnOk result ((n : List ℕ) → values_of self.new n ≡ (if same_name name.now n then values_of self.old n ++ value ∷ [] else values_of self.old n)) }
+        ensures { OnOk result
+            ((n : List ℕ) → values_of self.new n
+            ≡ (if same_name name.now n then values_of self.old n ++ value ∷ []
+            else values_of self.old n)) }
     {
         let mut values = self.take(alloc, name);
         values.push(value)?;

@@ -73,7 +73,8 @@ pub struct Bgp {
     pub limit: Option<u32>,
 }
 
-/// An item of a configuration. Pipes and sessions stand on the heap, since most other items take a third of their room.
+/// An item of a configuration. Pipes and sessions stand on the heap, since most other items take a third of
+/// their room.
 #[derive(Debug, Drop)]
 pub enum Item {
     RouterId(Addr),

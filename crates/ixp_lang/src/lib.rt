@@ -1,9 +1,9 @@
 //! Routes, fates, and the trees of the filter language, with what they mean.
 //!
-//! The language is a profile of BIRD 2's (User's Guide, chapters "Configuration" and "Filters"). A tree has one meaning,
-//! defined in `specs/Meaning.antt` for filters and in `specs/Walks.antt` for a route's way through a whole
-//! configuration; reader, printer, evaluator and generation all speak of the same trees. [`Groups`] are values by the names
-//! of tables or sessions, in the order in which they were added.
+//! The language is a profile of BIRD 2's (User's Guide, chapters "Configuration" and "Filters"). A tree has
+//! one meaning, defined in `specs/Meaning.antt` for filters and in `specs/Walks.antt` for a route's way
+//! through a whole configuration; reader, printer, evaluator and generation all speak of the same trees.
+//! [`Groups`] are values by the names of tables or sessions, in the order in which they were added.
 #![tactic(auto)]
 
 pub mod communities;

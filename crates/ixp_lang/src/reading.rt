@@ -12,9 +12,9 @@ use fault::{Stop, placed};
 use fields::route_of;
 use std::alloc::Global;
 
-/// Reads a route: net, path, next hop, communities and large communities, with single blanks. A net and a next
-/// hop may be spelt in every way that their readers take. The first fault in the text is answered; `Family`
-/// comes only where all else is right.
+/// Reads a route: net, path, next hop, communities and large communities, with single blanks. A net and a
+/// next hop may be spelt in every way that their readers take. The first fault in the text is answered;
+/// `Family` comes only where all else is right.
 pub fn read_route(alloc: Global, t: &[u8]) -> Result<Route, RouteFault>
     ensures { RouteAnswer t.now result }
 {

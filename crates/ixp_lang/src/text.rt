@@ -1,7 +1,22 @@
 //! The texts of routes and fates.
 ghost use Rattle.std.specs.Prelude.{◌≡◌, ◌++◌, OnOk, OnErr};
 ghost use Rattle.std.specs.Option.{option_map};
-ghost use Rattle.ixp_lang.specs.Texts.{list_text, asn_text, pair_text, triple_text, attributes_text, route_text, reason_of, stopped_text, known_reason, received_text, sent_text, all_sent_text, outcome_text, fate_text};
+ghost use Rattle.ixp_lang.specs.Texts.{
+  list_text,
+  asn_text,
+  pair_text,
+  triple_text,
+  attributes_text,
+  route_text,
+  reason_of,
+  stopped_text,
+  known_reason,
+  received_text,
+  sent_text,
+  all_sent_text,
+  outcome_text,
+  fate_text,
+};
 
 use crate::communities::REFUSED;
 use crate::{Fate, Route};
@@ -118,7 +133,8 @@ fn put_stopped(out: &mut Vec<u8>, reason: Option<u32>) -> Result<(), AllocError>
 }
 
 fn put_received(out: &mut Vec<u8>, received: Option<&Route>) -> Result<(), AllocError>
-    ensures { OnOk result (out.new.items ≡ out.old.items ++ received_text (option_map (λ r. r.now) received.entry)) }
+    ensures { OnOk result
+        (out.new.items ≡ out.old.items ++ received_text (option_map (λ r. r.now) received.entry)) }
 {
     match received {
         None => put(out, b"no"),
@@ -127,7 +143,8 @@ fn put_received(out: &mut Vec<u8>, received: Option<&Route>) -> Result<(), Alloc
 }
 
 fn put_sent(out: &mut Vec<u8>, session: &Name, received: Option<&Route>) -> Result<(), AllocError>
-    ensures { OnOk result (out.new.items ≡ out.old.items ++ sent_text (session.now, option_map (λ r. r.now) received.entry)) }
+    ensures { OnOk result
+        (out.new.items ≡ out.old.items ++ sent_text (session.now, option_map (λ r. r.now) received.entry)) }
 {
     put(out, b"to ")?;
     put(out, session.as_bytes())?;
@@ -182,9 +199,9 @@ fn put_fate(out: &mut Vec<u8>, fate: &Fate, rs: Option<Asn>) -> Result<(), Alloc
     put_outcome(out, rs, route, fate.passed, fate.sent.as_slice())
 }
 
-/// Adds the text of a fate: a line for the route in its session's own table, one for whether it passes, and one
-/// for each other session. Where the number `rs` of the route server is known, a stopped route's line has the
-/// reason that its tag `(rs, 1101, reason)` gives.
+/// Adds the text of a fate: a line for the route in its session's own table, one for whether it passes, and
+/// one for each other session. Where the number `rs` of the route server is known, a stopped route's line has
+/// the reason that its tag `(rs, 1101, reason)` gives.
 pub fn print_fate(fate: &Fate, rs: Option<Asn>, out: &mut Vec<u8>) -> Result<(), AllocError>
     ensures ok { OnOk result (out.new.items ≡ out.old.items ++ fate_text fate.now rs) }
     ensures err { OnErr result (out.new.items ≡ out.old.items) }

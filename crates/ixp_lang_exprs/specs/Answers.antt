@@ -1,4 +1,5 @@
--- What the program's functions answer, against what is said of them; want of memory is free where memory is taken.
+-- What the program's functions answer, against what is said of them; running out of memory is free where memory is
+-- taken.
 use Rattle.std.specs.Prelude.{◌≡◌, ℕ, List, Option, Some, None, Result, Ok, Err}
 use Rattle.ixp_lang_tokens.specs.declared.fault.Cause.{Cause}
 use Rattle.ixp_lang_tokens.specs.declared.fault.Fault.{Fault}
@@ -12,7 +13,7 @@ Refuses (Ok passed) r = r ≡ None
 Refuses (Err NoMemory) r = ⊥
 Refuses (Err (Stop cause left)) r = r ≡ Some (cause, left)
 
--- this is made, and nothing but want of memory hinders it
+-- this is made, and nothing but running out of memory hinders it
 abbrev pub Makes : {X A : Type 0} → (X → A) → Result X Fault → A → Type 0
 Makes view (Ok x) a = view x ≡ a
 Makes view (Err NoMemory) a = Unit {0}

@@ -1,4 +1,5 @@
--- Expressions (BIRD 2 User's Guide, chapter "Filters", expressions), with their types and what names stand for.
+-- Expressions (BIRD 2 User's Guide, chapter "Filters", expressions), with their types and what names stand
+-- for.
 use Rattle.std.specs.Prelude.{ℕ, zero, suc, Bool, true, false, ◌&&◌, ◌||◌, ◌==◌, not, nat_le, nat_lt, List, [], ◌∷◌, ◌++◌, length, codes, Option, Some, None, option_map, if◌then◌else◌}
 use Rattle.std.specs.Option.{is_some, is_none, option_or}
 use Rattle.ixp_num.specs.declared.roa.Validity.{Validity}
@@ -30,8 +31,8 @@ use Rattle.ixp_lang_exprs.specs.Lists.{never, only, ended}
 use Rattle.ixp_lang_exprs.specs.Sets.{if_missing, unless_so, part_too_great, elements}
 use Rattle.ixp_lang_exprs.specs.Operands.{Operand, closed, misfit_at, settled, fits, fits_left, anything, one_type, in_vain, no_truth, refused_now, fits_negation, negated, compared_operand, literal_number, pair_tree, triple_tree}
 
--- Where an expression stands: what names stand for, what it is a part of, and how many tokens are left at the first token of
--- its statement or definition.
+-- Where an expression stands: what names stand for, what it is a part of, and how many tokens are left at the
+-- first token of its statement or definition.
 pub record Place : Type 0 where
   pub names : Names
   pub scope : Scope
@@ -109,7 +110,8 @@ attribute_form attr =
     choice (only (has_parts attr) (sequence (the_mark mark.Dot) (λ tt. sequence (takes (word_in (part_in attr))) (λ part. gives (closed (attribute part) (attribute_type part))))))
     (gives (bare_attribute attr))
 
--- Why a name that is no value stands in vain. What a definition calls is no name of the wrong sort: no text calls there.
+-- Why a name that is no value stands in vain. What a definition calls is no name of the wrong sort: no text
+-- calls there.
 abbrev pub no_value : Place → List ℕ → ℕ → Cause × ℕ
 no_value at name left = if is_define at.scope && is_some (function_of (at.names name)) then (Unexpected, left) else (Unknown, left)
 
@@ -121,7 +123,8 @@ abbrev pub named_value : Place → List ℕ → ℕ → Grammar Operand
 named_value at name left =
     checks (if_missing (value_of at.scope (at.names name)) (no_value at name left)) (gives (closed (named name) (type_or (value_of at.scope (at.names name)))))
 
--- What stands in parentheses: one expression or a tuple; a call's arguments, by their types; the two values of `roa_check`.
+-- What stands in parentheses: one expression or a tuple; a call's arguments, by their types; the two values
+-- of `roa_check`.
 pub data Shape : Type 0 where
   plain : Shape
   arguments : List ValueType → Shape
@@ -430,7 +433,8 @@ abbrev pub unary_form : Place → ℕ → Grammar Operand
 unary_form at zero = operand_form at nothing
 unary_form at (suc levels) = operand_form at (deeper (unary_form at levels))
 
--- An expression, with so many levels below it at most. Its first operand alone is tested against what is wanted of it, as
--- far as no token behind could help; what may stand behind the expression is tested before its type is.
+-- An expression, with so many levels below it at most. Its first operand alone is tested against what is
+-- wanted of it, as far as no token behind could help; what may stand behind the expression is tested before
+-- its type is.
 abbrev pub expression_form : Place → ℕ → Wanted → Grammar Operand
 expression_form at levels wanted = expression_of (unary_form at levels) wanted

@@ -28,7 +28,8 @@ use Rattle.ixp_lang_exprs.specs.Expressions.{Place, Shape, plain, arguments, roa
 abbrev pub place_of : Context → Place
 place_of cx = record { names = names_of cx.env.now; scope = cx.scope; statement = cx.statement }
 
--- How many parts there are at least: one in parentheses, any number in a call, and two behind the table of roa_check.
+-- How many parts there are at least: one in parentheses, any number in a call, and two behind the table of
+-- roa_check.
 abbrev pub least : HeldShape → ℕ
 least Plain = 1
 least (Call signature) = 0

@@ -16,8 +16,9 @@ use Rattle.ixp_lang_exprs.specs.declared.types.Typed.{Typed}
 use Rattle.ixp_lang_exprs.specs.Types.{same_type, takes_left, takes_right, is_compared, is_expected}
 use Rattle.ixp_lang_exprs.specs.Sets.{unless_so}
 
--- Its tree and type; whether a `.` behind it would make it another operand; and the place of a type that doesn't fit,
--- which counts once the token behind is one that may stand there: of a comparison or a chain, and of nothing that stands alone.
+-- Its tree and type; whether a `.` behind it would make it another operand; and the place of a type that
+-- doesn't fit, which counts once the token behind is one that may stand there: of a comparison or a chain,
+-- and of nothing that stands alone.
 pub record Operand : Type 0 where
   pub tree : ExprTree
   pub ty : ValueType
@@ -53,8 +54,8 @@ anything = record { expected = Anything; place = 0 }
 abbrev pub one_type : ValueType → ℕ → Wanted
 one_type ty place = record { expected = One ty; place = place }
 
--- An expression that begins with this operand may be of such a type: the operand is, or its parts, which are numbers, or
--- what compares it.
+-- An expression that begins with this operand may be of such a type: the operand is, or its parts, which are
+-- numbers, or what compares it.
 abbrev pub may_become : Expected → Operand → Bool
 may_become expected first =
     is_expected expected first.ty || ((first.is_open && is_expected expected Int) || (is_compared first.ty && is_expected expected Truth))

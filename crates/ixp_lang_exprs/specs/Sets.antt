@@ -111,8 +111,8 @@ abbrev pub may_be_triple : Option Arity → Bool
 may_be_triple (Some arity.Pair) = false
 may_be_triple _ = true
 
--- What is behind the second part, a number. A pair among triples is out of place at its end, unless a part is too great for
--- any pair, which has the lower code.
+-- What is behind the second part, a number. A pair among triples is out of place at its end, unless a part is
+-- too great for any pair, which has the lower code.
 abbrev pub second_end : Names → Option Arity → ℕ → ℕ → ℕ → ℕ → Grammar Tuple
 second_end names wanted first at second at_second =
     choice (only (may_be_triple wanted) (sequence (the_mark Comma) (λ tt. triple_end names first second)))

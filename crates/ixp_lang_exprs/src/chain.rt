@@ -6,11 +6,35 @@ ghost use Rattle.ixp_lang_tokens.specs.Grammars.{checks, gives, sequence};
 ghost use Rattle.ixp_lang_tokens.specs.Reading.{read, kinds, Gives};
 ghost use Rattle.ixp_lang_exprs.specs.declared.types.ValueType.TheVariants.{Bool as Truth};
 ghost use Rattle.ixp_lang_exprs.specs.Answers.{Refuses, Makes, Passes};
-ghost use Rattle.ixp_lang_exprs.specs.Operands.{operand_of, refused_now, fits_negation, negated, fits, fits_left, compared_operand, misfit_at};
+ghost use Rattle.ixp_lang_exprs.specs.Operands.{
+  operand_of,
+  refused_now,
+  fits_negation,
+  negated,
+  fits,
+  fits_left,
+  compared_operand,
+  misfit_at,
+};
 ghost use Rattle.ixp_lang_exprs.specs.Operands.{one_type, no_truth};
 ghost use Rattle.ixp_lang_exprs.specs.Groups.{least, limit, place_of, shape_of, parts_of};
-ghost use Rattle.ixp_lang_exprs.specs.Joints.{joint_mark, other_mark, joined_by, chain_of, ended_chain, linked};
-ghost use Rattle.ixp_lang_exprs.specs.Expressions.{part_misfit, begun_with, longer, chained, part_joint, unary_form, comparison_of};
+ghost use Rattle.ixp_lang_exprs.specs.Joints.{
+  joint_mark,
+  other_mark,
+  joined_by,
+  chain_of,
+  ended_chain,
+  linked,
+};
+ghost use Rattle.ixp_lang_exprs.specs.Expressions.{
+  part_misfit,
+  begun_with,
+  longer,
+  chained,
+  part_joint,
+  unary_form,
+  comparison_of,
+};
 ghost use Rattle.ixp_lang_exprs.specs.Expressions.{expression_form, enclosed, arguments};
 
 use crate::context::{deep, misfit};
@@ -25,7 +49,8 @@ use ixp_lang::{Expr, Op};
 use ixp_lang_tokens::{Fault, Mark, Token, after_mark, mark_at};
 use std::alloc::Global;
 
-/// Whether the operator at this place takes the operand on its right, or may take a part of it, which is a number.
+/// Whether the operator at this place takes the operand on its right, or may take a part of it, which is a
+/// number.
 fn fits_right(op: Op, left: &Typed, right: &Typed, place: usize) -> Result<(), Fault>
     ensures { Refuses result (refused_now op (operand_of left.now) (operand_of right.now) place) }
 {
@@ -44,7 +69,9 @@ fn negated<'t>(
     place: usize,
     rest: &'t [Token],
 ) -> Result<(Typed, &'t [Token]), Fault>
-    ensures reads { Gives (λ x. (operand_of x.0, kinds x.1.now)) result (read (checks (fits_negation (operand_of operand) place) (gives (negated (operand_of operand)))) (kinds rest.now)) }
+    ensures reads { Gives (λ x. (operand_of x.0, kinds x.1.now)) result
+        (read (checks (fits_negation (operand_of operand) place) (gives (negated (operand_of operand))))
+        (kinds rest.now)) }
     ensures shorter { IfOk result (λ x. length x.1.now ≤ length rest.now) }
 {
     if !operand.ty.is(ValueType::Bool) {
@@ -81,7 +108,10 @@ fn compared_operand<'t>(
     right: Typed,
     at: (usize, &'t [Token]),
 ) -> Result<(Typed, &'t [Token]), Fault>
-    ensures reads { Gives (λ x. (operand_of x.0, kinds x.1.now)) result (read (checks (refused_now op (operand_of left) (operand_of right) at.entry.0) (gives (compared_operand op (operand_of left) (operand_of right) at.entry.0))) (kinds at.entry.1.now)) }
+    ensures reads { Gives (λ x. (operand_of x.0, kinds x.1.now)) result
+        (read (checks (refused_now op (operand_of left) (operand_of right) at.entry.0)
+        (gives (compared_operand op (operand_of left) (operand_of right) at.entry.0)))
+        (kinds at.entry.1.now)) }
     ensures shorter { IfOk result (λ x. length x.1.now ≤ length at.entry.1.now) }
 {
     fits_right(op, &left, &right, at.0)?;
@@ -136,7 +166,8 @@ impl Chain {
 
     /// The chain that begins with this part. The joint is at this place.
     fn begun(alloc: Global, joint: Joint, first: Typed, place: usize) -> Result<Chain, Fault>
-        ensures exact { Passes chain_of result (fits (operand_of first) Truth place) (begun_with (operand_of first) place) }
+        ensures exact { Passes chain_of result (fits (operand_of first) Truth place)
+            (begun_with (operand_of first) place) }
         ensures joint { IfOk result (λ c. c.joint ≡ joint) }
     {
         fits(&first, ValueType::Bool, place)?;
@@ -152,7 +183,9 @@ impl Chain {
 
     /// Adds a part that isn't the last one: the joint behind it is at this place.
     fn push(&mut self, part: Typed, place: usize) -> Result<(), Fault>
-        ensures exact { Passes (λ x. chain_of self.new) result (option_map misfit_at (part_misfit (operand_of part) self.old.place)) (longer (chain_of self.old) (operand_of part) place) }
+        ensures exact { Passes (λ x. chain_of self.new) result
+            (option_map misfit_at (part_misfit (operand_of part) self.old.place))
+            (longer (chain_of self.old) (operand_of part) place) }
         ensures joint { self.new.joint ≡ self.old.joint }
     {
         if let Some(place) = misfit_of(&part, self.place) {
@@ -165,7 +198,8 @@ impl Chain {
 
     /// Adds the last part.
     fn end(&mut self, part: Typed) -> Result<(), Fault>
-        ensures exact { Makes (λ x. ended_chain self.new) result (chained (joined_by self.old.joint) (chain_of self.old) (operand_of part)) }
+        ensures exact { Makes (λ x. ended_chain self.new) result
+            (chained (joined_by self.old.joint) (chain_of self.old) (operand_of part)) }
         ensures joint { self.new.joint ≡ self.old.joint }
     {
         self.misfit = misfit_of(&part, self.place);
@@ -173,9 +207,12 @@ impl Chain {
         Ok(())
     }
 
-    /// Adds the part before these tokens. Gives whether it is the last one, and what follows it or the joint behind it.
+    /// Adds the part before these tokens. Gives whether it is the last one, and what follows it or the joint
+    /// behind it.
     fn link<'t>(&mut self, part: Typed, tokens: &'t [Token]) -> Result<(bool, &'t [Token]), Fault>
-        ensures reads { Gives (λ x. (linked x.0 self.new, kinds x.1.now)) result (read (part_joint (joint_mark self.old.joint) (other_mark self.old.joint) (joined_by self.old.joint) (chain_of self.old) (operand_of part)) (kinds tokens.now)) }
+        ensures reads { Gives (λ x. (linked x.0 self.new, kinds x.1.now)) result
+            (read (part_joint (joint_mark self.old.joint) (other_mark self.old.joint)
+            (joined_by self.old.joint) (chain_of self.old) (operand_of part)) (kinds tokens.now)) }
         ensures joint { self.new.joint ≡ self.old.joint }
         ensures shorter { IfOk result (λ x. length x.1.now ≤ length tokens.now) }
     {
@@ -221,7 +258,8 @@ fn unary<'t>(
     depth: u32,
     tokens: &'t [Token],
 ) -> Result<(Typed, &'t [Token]), Fault>
-    ensures reads { Gives (λ x. (operand_of x.0, kinds x.1.now)) result (read (unary_form (place_of cx.entry) depth) (kinds tokens.now)) }
+    ensures reads { Gives (λ x. (operand_of x.0, kinds x.1.now)) result
+        (read (unary_form (place_of cx.entry) depth) (kinds tokens.now)) }
     ensures shorter { IfOk result (λ x. length x.1.now < length tokens.now) }
 {
     if let Some(behind) = after_mark(Mark::Not, tokens) {
@@ -251,7 +289,8 @@ fn comparison<'t>(
     wanted: Wanted,
     tokens: &'t [Token],
 ) -> Result<(Typed, &'t [Token]), Fault>
-    ensures reads { Gives (λ x. (operand_of x.0, kinds x.1.now)) result (read (comparison_of (unary_form (place_of cx.entry) depth) wanted) (kinds tokens.now)) }
+    ensures reads { Gives (λ x. (operand_of x.0, kinds x.1.now)) result
+        (read (comparison_of (unary_form (place_of cx.entry) depth) wanted) (kinds tokens.now)) }
     ensures shorter { IfOk result (λ x. length x.1.now < length tokens.now) }
 {
     let (left, rest) = unary(cx, depth, tokens)?;
@@ -264,8 +303,9 @@ fn comparison<'t>(
     compared_operand(cx.alloc, op, left, right, (rest.len(), end))
 }
 
-/// The expression at the front, with so many levels below it at most. It is refused as soon as it can't be what is wanted,
-/// whatever is behind. What may stand behind it is the caller's to test, and then whether it fits.
+/// The expression at the front, with so many levels below it at most. It is refused as soon as it can't be
+/// what is wanted, whatever is behind. What may stand behind it is the caller's to test, and then whether it
+/// fits.
 #[cycle(expr)]
 pub fn expression<'t>(
     cx: Context<'_>,
@@ -273,7 +313,8 @@ pub fn expression<'t>(
     wanted: Wanted,
     tokens: &'t [Token],
 ) -> Result<(Typed, &'t [Token]), Fault>
-    ensures reads { Gives (λ x. (operand_of x.0, kinds x.1.now)) result (read (expression_form (place_of cx.entry) depth wanted) (kinds tokens.now)) }
+    ensures reads { Gives (λ x. (operand_of x.0, kinds x.1.now)) result
+        (read (expression_form (place_of cx.entry) depth wanted) (kinds tokens.now)) }
     ensures shorter { IfOk result (λ x. length x.1.now < length tokens.now) }
 {
     let (first, rest) = comparison(cx, depth, wanted, tokens)?;
@@ -300,9 +341,12 @@ fn parts_at<'t>(
     group: Group<'_>,
     tokens: &'t [Token],
 ) -> Result<(Parts, &'t [Token]), Fault>
-    ensures reads { Gives (λ x. (parts_of x.0, kinds x.1.now)) result (read (enclosed (place_of cx.entry) (expression_form (place_of cx.entry) depth) (shape_of group.entry.shape) group.entry.place) (kinds tokens.now)) }
+    ensures reads { Gives (λ x. (parts_of x.0, kinds x.1.now)) result
+        (read (enclosed (place_of cx.entry) (expression_form (place_of cx.entry) depth)
+        (shape_of group.entry.shape) group.entry.place) (kinds tokens.now)) }
     ensures enough { IfOk result (λ x. least group.entry.shape ≤ length x.0.exprs.items) }
-    ensures room { IfOk result (λ x. length x.0.exprs.items < limit group.entry.shape (length x.0.exprs.items)) }
+    ensures room { IfOk result
+        (λ x. length x.0.exprs.items < limit group.entry.shape (length x.0.exprs.items)) }
     ensures shorter { IfOk result (λ x. length x.1.now < length tokens.now) }
 {
     let mut parts = Parts::new(cx.alloc, tokens.len());
@@ -320,7 +364,8 @@ fn parts_at<'t>(
     }
 }
 
-/// The arguments of a call, from behind its parenthesis to its end. A fault of their number or types is at the place.
+/// The arguments of a call, from behind its parenthesis to its end. A fault of their number or types is at
+/// the place.
 pub fn arguments<'t>(
     cx: Context<'_>,
     depth: u32,
@@ -328,7 +373,10 @@ pub fn arguments<'t>(
     place: usize,
     tokens: &'t [Token],
 ) -> Result<(Vec<Expr>, &'t [Token]), Fault>
-    ensures reads { Gives (λ x. (exprs_view x.0.items, kinds x.1.now)) result (read (sequence (enclosed (place_of cx.entry) (expression_form (place_of cx.entry) depth) (arguments signature.now.params) place) (λ parts. gives parts.trees)) (kinds tokens.now)) }
+    ensures reads { Gives (λ x. (exprs_view x.0.items, kinds x.1.now)) result
+        (read (sequence (enclosed (place_of cx.entry) (expression_form (place_of cx.entry) depth)
+        (arguments signature.now.params) place) (λ parts. gives parts.trees))
+        (kinds tokens.now)) }
     ensures shorter { IfOk result (λ x. length x.1.now < length tokens.now) }
 {
     let shape = Shape::Call(signature);

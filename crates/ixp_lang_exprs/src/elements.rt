@@ -3,8 +3,27 @@ ghost use Rattle.std.specs.Prelude.{◌≡◌, ◌<◌, ◌≤◌, length, IfOk,
 ghost use Rattle.ixp_lang_tokens.specs.Reading.{read, kinds, Gives};
 ghost use Rattle.ixp_lang_exprs.specs.Names.{names_at};
 ghost use Rattle.ixp_lang_exprs.specs.Answers.{Refuses};
-ghost use Rattle.ixp_lang_exprs.specs.Sets.{numeral, range, bounded_length, bounds, pattern_end, set_pattern_form, too_great};
-ghost use Rattle.ixp_lang_exprs.specs.Sets.{star_in, part_too_great, has_great_part, pair_end, triple_end, may_be_pair, may_be_triple, second_end, tuple_end, tuple_form};
+ghost use Rattle.ixp_lang_exprs.specs.Sets.{
+  numeral,
+  range,
+  bounded_length,
+  bounds,
+  pattern_end,
+  set_pattern_form,
+  too_great,
+};
+ghost use Rattle.ixp_lang_exprs.specs.Sets.{
+  star_in,
+  part_too_great,
+  has_great_part,
+  pair_end,
+  triple_end,
+  may_be_pair,
+  may_be_triple,
+  second_end,
+  tuple_end,
+  tuple_form,
+};
 
 use crate::Context;
 use crate::context::{deep, unknown};
@@ -18,7 +37,8 @@ const PART_LIMIT: u32 = 65535;
 
 /// A number, or the name of a defined one.
 fn number_or_name_at<'t>(cx: Context<'_>, tokens: &'t [Token]) -> Result<(u32, &'t [Token]), Fault>
-    ensures reads { Gives (λ x. (x.0, kinds x.1.now)) result (read (numeral (names_at cx.entry)) (kinds tokens.now)) }
+    ensures reads { Gives (λ x. (x.0, kinds x.1.now)) result
+        (read (numeral (names_at cx.entry)) (kinds tokens.now)) }
     ensures shorter { IfOk result (λ x. length x.1.now < length tokens.now) }
 {
     let [first, rest @ ..] = tokens else {
@@ -39,7 +59,8 @@ pub(crate) fn range_at<'t>(
     cx: Context<'_>,
     tokens: &'t [Token],
 ) -> Result<((u32, u32), &'t [Token]), Fault>
-    ensures reads { Gives (λ x. (x.0, kinds x.1.now)) result (read (range (names_at cx.entry)) (kinds tokens.now)) }
+    ensures reads { Gives (λ x. (x.0, kinds x.1.now)) result
+        (read (range (names_at cx.entry)) (kinds tokens.now)) }
     ensures shorter { IfOk result (λ x. length x.1.now < length tokens.now) }
 {
     let (low, rest) = number_or_name_at(cx, tokens)?;
@@ -52,7 +73,8 @@ pub(crate) fn range_at<'t>(
 
 /// A length from the lowest one to the highest one that is lawful there.
 fn length_at(lowest: u8, highest: u8, tokens: &[Token]) -> Result<(u8, &[Token]), Fault>
-    ensures reads { Gives (λ x. (x.0, kinds x.1.now)) result (read (bounded_length lowest highest) (kinds tokens.now)) }
+    ensures reads { Gives (λ x. (x.0, kinds x.1.now)) result
+        (read (bounded_length lowest highest) (kinds tokens.now)) }
     ensures shorter { IfOk result (λ x. length x.1.now < length tokens.now) }
 {
     let (number, rest) = number_at(tokens)?;
@@ -168,7 +190,8 @@ fn pair_end<'t>(
     second: (Option<u32>, usize),
     tokens: &'t [Token],
 ) -> Result<(Tuple, &'t [Token]), Fault>
-    ensures reads { Gives (λ x. (x.0, kinds x.1.now)) result (read (pair_end first.0 first.1 second.0 second.1) (kinds tokens.now)) }
+    ensures reads { Gives (λ x. (x.0, kinds x.1.now)) result
+        (read (pair_end first.0 first.1 second.0 second.1) (kinds tokens.now)) }
     ensures shorter { IfOk result (λ x. length x.1.now < length tokens.now) }
 {
     let rest = mark_at(Mark::Close, tokens)?;
@@ -184,7 +207,8 @@ fn triple_end<'t>(
     b: u32,
     tokens: &'t [Token],
 ) -> Result<(Tuple, &'t [Token]), Fault>
-    ensures reads { Gives (λ x. (x.0, kinds x.1.now)) result (read (triple_end (names_at cx.entry) a b) (kinds tokens.now)) }
+    ensures reads { Gives (λ x. (x.0, kinds x.1.now)) result
+        (read (triple_end (names_at cx.entry) a b) (kinds tokens.now)) }
     ensures shorter { IfOk result (λ x. length x.1.now < length tokens.now) }
 {
     if let Some(rest) = after_mark(Mark::Star, tokens) {
@@ -204,7 +228,8 @@ fn second_end<'t>(
     second: (u32, usize),
     tokens: &'t [Token],
 ) -> Result<(Tuple, &'t [Token]), Fault>
-    ensures reads { Gives (λ x. (x.0, kinds x.1.now)) result (read (second_end (names_at cx.entry) wanted first.0 first.1 second.0 second.1) (kinds tokens.now)) }
+    ensures reads { Gives (λ x. (x.0, kinds x.1.now)) result
+        (read (second_end (names_at cx.entry) wanted first.0 first.1 second.0 second.1) (kinds tokens.now)) }
     ensures shorter { IfOk result (λ x. length x.1.now < length tokens.now) }
 {
     if may_be_triple(wanted)
@@ -238,7 +263,8 @@ fn tuple_end<'t>(
     first: (u32, usize),
     tokens: &'t [Token],
 ) -> Result<(Tuple, &'t [Token]), Fault>
-    ensures reads { Gives (λ x. (x.0, kinds x.1.now)) result (read (tuple_end (names_at cx.entry) wanted first.0 first.1) (kinds tokens.now)) }
+    ensures reads { Gives (λ x. (x.0, kinds x.1.now)) result
+        (read (tuple_end (names_at cx.entry) wanted first.0 first.1) (kinds tokens.now)) }
     ensures shorter { IfOk result (λ x. length x.1.now < length tokens.now) }
 {
     let place = tokens.len();
@@ -256,7 +282,8 @@ pub(crate) fn tuple_at<'t>(
     wanted: Option<Arity>,
     tokens: &'t [Token],
 ) -> Result<(Tuple, &'t [Token]), Fault>
-    ensures reads { Gives (λ x. (x.0, kinds x.1.now)) result (read (tuple_form (names_at cx.entry) (nat_lt 0 depth) wanted) (kinds tokens.now)) }
+    ensures reads { Gives (λ x. (x.0, kinds x.1.now)) result
+        (read (tuple_form (names_at cx.entry) (nat_lt 0 depth) wanted) (kinds tokens.now)) }
     ensures shorter { IfOk result (λ x. length x.1.now < length tokens.now) }
 {
     let rest = mark_at(Mark::Open, tokens)?;

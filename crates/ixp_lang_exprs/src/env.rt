@@ -5,8 +5,21 @@ ghost use Rattle.ixp_lang.specs.Views.{expr_view};
 ghost use Rattle.ixp_lang_tokens.specs.Pieces.{a_name};
 ghost use Rattle.ixp_lang_tokens.specs.Reading.{read, kinds, Gives};
 ghost use Rattle.ixp_lang_exprs.specs.Answers.{Makes};
-ghost use Rattle.ixp_lang_exprs.specs.Declarations.{nothing_declared, standing, gives_way, is_free_in, free_name};
-ghost use Rattle.ixp_lang_exprs.specs.Names.{names_of, number_of, table_of, function_of, value_of, defined_number};
+ghost use Rattle.ixp_lang_exprs.specs.Declarations.{
+  nothing_declared,
+  standing,
+  gives_way,
+  is_free_in,
+  free_name,
+};
+ghost use Rattle.ixp_lang_exprs.specs.Names.{
+  names_of,
+  number_of,
+  table_of,
+  function_of,
+  value_of,
+  defined_number,
+};
 
 use crate::{Scope, ValueType};
 use ixp_lang::{Expr, Value};
@@ -182,7 +195,8 @@ impl Env {
         alloc: Global,
         tokens: &'t [Token],
     ) -> Result<(Name, &'t [Token]), Fault>
-        ensures reads { Gives (λ x. (x.0, kinds x.1.now)) result (read (free_name (names_of self.now)) (kinds tokens.now)) }
+        ensures reads { Gives (λ x. (x.0, kinds x.1.now)) result
+            (read (free_name (names_of self.now)) (kinds tokens.now)) }
         ensures shorter { IfOk result (λ x. length x.1.now < length tokens.now) }
     {
         let (name, rest) = name_at(tokens)?;

@@ -1,15 +1,62 @@
 //! What stands in parentheses: one expression or a tuple, a call's arguments, the two values of `roa_check`.
-ghost use Rattle.std.specs.Prelude.{◌≡◌, ◌<◌, ◌≤◌, ◌+◌, length, drop, IfSome, IfOk, IsTrue, [], option_map, ◌-◌};
+ghost use Rattle.std.specs.Prelude.{
+  ◌≡◌,
+  ◌<◌,
+  ◌≤◌,
+  ◌+◌,
+  length,
+  drop,
+  IfSome,
+  IfOk,
+  IsTrue,
+  [],
+  option_map,
+  ◌-◌,
+};
 ghost use Rattle.ixp_lang_tokens.specs.Pieces.{if_so};
 ghost use Rattle.ixp_lang_tokens.specs.Reading.{read, kinds, Gives};
 ghost use Rattle.ixp_lang_exprs.specs.Answers.{Refuses, Leads, Begun};
 ghost use Rattle.ixp_lang_exprs.specs.declared.group.Opening.TheVariants.{Call, Check};
 ghost use Rattle.ixp_lang_exprs.specs.Lists.{never, first_in};
-ghost use Rattle.ixp_lang_exprs.specs.Groups.{least, limit, place_of, shape_of, shape_in, partless, below, call_in, call_or};
+ghost use Rattle.ixp_lang_exprs.specs.Groups.{
+  least,
+  limit,
+  place_of,
+  shape_of,
+  shape_in,
+  partless,
+  below,
+  call_in,
+  call_or,
+};
 ghost use Rattle.ixp_lang_exprs.specs.Groups.{check_or, plain_or, from_opening, finishing};
-ghost use Rattle.ixp_lang_exprs.specs.Expressions.{may_go_on, may_end, argument_wanted, wanted_part, is_front_mark, front_in, is_operand_name, front};
-ghost use Rattle.ixp_lang_exprs.specs.Expressions.{enclosed, no_parts, arguments, no_roa_table, roa_table, call_form};
-ghost use Rattle.ixp_lang_exprs.specs.Expressions.{outside_define, check_word, checked_form, expression_form, roa_values, word_in, called};
+ghost use Rattle.ixp_lang_exprs.specs.Expressions.{
+  may_go_on,
+  may_end,
+  argument_wanted,
+  wanted_part,
+  is_front_mark,
+  front_in,
+  is_operand_name,
+  front,
+};
+ghost use Rattle.ixp_lang_exprs.specs.Expressions.{
+  enclosed,
+  no_parts,
+  arguments,
+  no_roa_table,
+  roa_table,
+  call_form,
+};
+ghost use Rattle.ixp_lang_exprs.specs.Expressions.{
+  outside_define,
+  check_word,
+  checked_form,
+  expression_form,
+  roa_values,
+  word_in,
+  called,
+};
 
 use crate::context::{deep, misfit, unknown};
 use crate::leaf::{begins_operand, no_value};
@@ -156,7 +203,8 @@ fn is_front(kind: &Kind) -> bool
 
 /// Whether an expression may begin with the next token, as far as that token tells. What follows it.
 fn begins<'t>(cx: Context<'_>, tokens: &'t [Token]) -> Result<&'t [Token], Fault>
-    ensures reads { Gives (λ r. (tt, kinds r.now)) result (read (front (place_of cx.entry)) (kinds tokens.now)) }
+    ensures reads { Gives (λ r. (tt, kinds r.now)) result
+        (read (front (place_of cx.entry)) (kinds tokens.now)) }
 {
     let [first, rest @ ..] = tokens else {
         return Err(unexpected(tokens));
@@ -185,7 +233,8 @@ fn no_arguments_at<'t>(
     place: usize,
     tokens: &'t [Token],
 ) -> Result<&'t [Token], Fault>
-    ensures reads { Gives (λ r. (no_parts (length tokens.now), kinds r.now)) result (read (enclosed (place_of cx.entry) (λ wanted. never) (arguments []) place) (kinds tokens.now)) }
+    ensures reads { Gives (λ r. (no_parts (length tokens.now), kinds r.now)) result
+        (read (enclosed (place_of cx.entry) (λ wanted. never) (arguments []) place) (kinds tokens.now)) }
     ensures shorter { IfOk result (λ r. length r.now < length tokens.now) }
 {
     if let Some(rest) = after_mark(Mark::Close, tokens) {
@@ -201,7 +250,8 @@ pub(crate) fn no_parts_at<'t>(
     group: Group<'_>,
     tokens: &'t [Token],
 ) -> Result<Option<&'t [Token]>, Fault>
-    ensures reads { Begun (λ r. (no_parts (length tokens.now), kinds r.now)) result (partless (place_of cx.entry) (shape_of group.entry.shape) group.entry.place (kinds tokens.now)) }
+    ensures reads { Begun (λ r. (no_parts (length tokens.now), kinds r.now)) result
+        (partless (place_of cx.entry) (shape_of group.entry.shape) group.entry.place (kinds tokens.now)) }
     ensures enough { IfOk result (λ o. IfSome o (λ _. least group.entry.shape ≡ 0)) }
     ensures shorter { IfOk result (λ o. IfSome o (λ r. length r.now < length tokens.now)) }
 {
@@ -220,7 +270,8 @@ pub(crate) fn no_parts_at<'t>(
 
 /// Whether what the name stands for, which is next, is a ROA table. The place is that of `roa_check`.
 fn fits_roa_table(declared: Option<&Declared>, place: usize, tokens: &[Token]) -> Result<(), Fault>
-    ensures { Refuses result (no_roa_table (option_map (λ d. d.now) declared.entry) (length tokens.now) place) }
+    ensures { Refuses result
+        (no_roa_table (option_map (λ d. d.now) declared.entry) (length tokens.now) place) }
 {
     match declared {
         None | Some(Declared::Parameter(_, _)) => Err(unknown(tokens)),
@@ -235,7 +286,8 @@ fn roa_table_at<'t>(
     place: usize,
     tokens: &'t [Token],
 ) -> Result<(&'t Name, &'t [Token]), Fault>
-    ensures reads { Gives (λ x. (x.0.now, kinds x.1.now)) result (read (roa_table (place_of cx.entry) place) (kinds tokens.now)) }
+    ensures reads { Gives (λ x. (x.0.now, kinds x.1.now)) result
+        (read (roa_table (place_of cx.entry) place) (kinds tokens.now)) }
     ensures shorter { IfOk result (λ x. length x.1.now < length tokens.now) }
 {
     let (name, rest) = name_at(tokens)?;
@@ -250,7 +302,12 @@ fn check_group_at<'t>(
     place: usize,
     tokens: &'t [Token],
 ) -> Result<(&'t Name, &'t [Token]), Fault>
-    ensures reads { Leads (λ x. finishing (Check x.0) (read (enclosed (place_of cx.entry) (expression_form (place_of cx.entry) (depth - 1)) roa_values place) (kinds x.1.now))) result (read (checked_form (place_of cx.entry) (below (place_of cx.entry) depth) place) (kinds tokens.now)) }
+    ensures reads { Leads
+        (λ x. finishing (Check x.0)
+        (read (enclosed (place_of cx.entry)
+        (expression_form (place_of cx.entry) (depth - 1)) roa_values place)
+        (kinds x.1.now))) result
+        (read (checked_form (place_of cx.entry) (below (place_of cx.entry) depth) place) (kinds tokens.now)) }
     ensures deep { IfOk result (λ _. 0 < depth) }
     ensures shorter { IfOk result (λ x. length x.1.now < length tokens.now) }
 {
@@ -271,7 +328,13 @@ fn call_group_at<'t>(
     place: usize,
     tokens: &'t [Token],
 ) -> Result<&'t [Token], Fault>
-    ensures reads { Leads (λ r. finishing (Call call.entry.0 call.entry.1) (read (enclosed (place_of cx.entry) (expression_form (place_of cx.entry) (depth - 1)) (arguments call.entry.1.now.params) place) (kinds r.now))) result (read (call_form (place_of cx.entry) (below (place_of cx.entry) depth) call.entry.0.now place call.entry.1.now) (kinds tokens.now)) }
+    ensures reads { Leads
+        (λ r. finishing (Call call.entry.0 call.entry.1)
+        (read (enclosed (place_of cx.entry) (expression_form (place_of cx.entry) (depth - 1))
+        (arguments call.entry.1.now.params) place) (kinds r.now))) result
+        (read (call_form (place_of cx.entry)
+        (below (place_of cx.entry) depth) call.entry.0.now place call.entry.1.now)
+        (kinds tokens.now)) }
     ensures deep { IfOk result (λ _. 0 < depth) }
     ensures shorter { IfOk result (λ r. length r.now < length tokens.now) }
 {
@@ -306,7 +369,8 @@ struct Callee<'e, 't> {
 
 /// The function whose name is next, where an expression may call one.
 fn called_at<'e, 't>(cx: Context<'e>, tokens: &'t [Token]) -> Option<Callee<'e, 't>>
-    ensures reads { option_map (λ c. (c.name.now, c.signature.now, kinds c.behind.now)) result ≡ call_in (place_of cx.entry) (kinds tokens.now) }
+    ensures reads { option_map (λ c. (c.name.now, c.signature.now, kinds c.behind.now)) result
+        ≡ call_in (place_of cx.entry) (kinds tokens.now) }
     ensures shorter { IfSome result (λ c. length c.behind.now < length tokens.now) }
 {
     let [first, behind @ ..] = tokens else {
@@ -330,7 +394,8 @@ fn call_opening_at<'e, 't>(
     depth: u32,
     tokens: &'t [Token],
 ) -> Result<Option<Opened<'e, 't>>, Fault>
-    ensures reads { Leads (from_opening (place_of cx.entry) depth (kinds tokens.now)) result (read (call_or (place_of cx.entry) (below (place_of cx.entry) depth)) (kinds tokens.now)) }
+    ensures reads { Leads (from_opening (place_of cx.entry) depth (kinds tokens.now)) result
+        (read (call_or (place_of cx.entry) (below (place_of cx.entry) depth)) (kinds tokens.now)) }
     ensures deep { IfOk result (λ o. IfSome o (λ _. 0 < depth)) }
     ensures shorter { IfOk result (λ o. IfSome o (λ x. length x.behind.now < length tokens.now)) }
 {
@@ -350,7 +415,8 @@ fn call_opening_at<'e, 't>(
 
 /// What follows `roa_check`, if it is next and may stand here.
 fn after_check<'t>(cx: Context<'_>, tokens: &'t [Token]) -> Option<&'t [Token]>
-    ensures reads { option_map (λ r. (tt, kinds r.now)) result ≡ first_in (word_in (outside_define (place_of cx.entry) check_word)) (kinds tokens.now) }
+    ensures reads { option_map (λ r. (tt, kinds r.now)) result
+        ≡ first_in (word_in (outside_define (place_of cx.entry) check_word)) (kinds tokens.now) }
     ensures shorter { IfSome result (λ r. length r.now < length tokens.now) }
 {
     if cx.scope.is_define() {
@@ -365,7 +431,8 @@ fn check_opening_at<'e, 't>(
     depth: u32,
     tokens: &'t [Token],
 ) -> Result<Option<Opened<'e, 't>>, Fault>
-    ensures reads { Leads (from_opening (place_of cx.entry) depth (kinds tokens.now)) result (read (check_or (place_of cx.entry) (below (place_of cx.entry) depth)) (kinds tokens.now)) }
+    ensures reads { Leads (from_opening (place_of cx.entry) depth (kinds tokens.now)) result
+        (read (check_or (place_of cx.entry) (below (place_of cx.entry) depth)) (kinds tokens.now)) }
     ensures deep { IfOk result (λ o. IfSome o (λ _. 0 < depth)) }
     ensures shorter { IfOk result (λ o. IfSome o (λ x. length x.behind.now < length tokens.now)) }
 {
@@ -388,7 +455,8 @@ pub(crate) fn opening_at<'e, 't>(
     depth: u32,
     tokens: &'t [Token],
 ) -> Result<Option<Opened<'e, 't>>, Fault>
-    ensures reads { Leads (from_opening (place_of cx.entry) depth (kinds tokens.now)) result (read (plain_or (place_of cx.entry) (below (place_of cx.entry) depth)) (kinds tokens.now)) }
+    ensures reads { Leads (from_opening (place_of cx.entry) depth (kinds tokens.now)) result
+        (read (plain_or (place_of cx.entry) (below (place_of cx.entry) depth)) (kinds tokens.now)) }
     ensures deep { IfOk result (λ o. IfSome o (λ _. 0 < depth)) }
     ensures shorter { IfOk result (λ o. IfSome o (λ x. length x.behind.now < length tokens.now)) }
 {

@@ -9,9 +9,22 @@ ghost use Rattle.ixp_lang_exprs.specs.Types.{attribute_type};
 ghost use Rattle.ixp_lang_exprs.specs.Lists.{first_in};
 ghost use Rattle.ixp_lang_exprs.specs.Groups.{place_of, set_in, attribute_or_set, leaf_form, atom_form};
 ghost use Rattle.ixp_lang_exprs.specs.Answers.{fault_of};
-ghost use Rattle.ixp_lang_exprs.specs.Expressions.{literal_word, literal_in, outside_define, no_value, named_value};
+ghost use Rattle.ixp_lang_exprs.specs.Expressions.{
+  literal_word,
+  literal_in,
+  outside_define,
+  no_value,
+  named_value,
+};
 ghost use Rattle.ixp_lang_exprs.specs.Operands.{operand_of, closed};
-ghost use Rattle.ixp_lang_exprs.specs.Expressions.{truth_in, state_in, attribute_in, is_front_word, has_parts, length_of};
+ghost use Rattle.ixp_lang_exprs.specs.Expressions.{
+  truth_in,
+  state_in,
+  attribute_in,
+  is_front_word,
+  has_parts,
+  length_of,
+};
 ghost use Rattle.ixp_lang_exprs.specs.Expressions.{is_path, part_in, word_in, bare_attribute, attribute_form};
 
 use crate::context::unknown;
@@ -138,7 +151,8 @@ fn part_of(attr: Attr, word: &[u8]) -> Option<Attr>
 
 /// The part of the attribute that is named behind the dot.
 fn part_at(attr: Attr, tokens: &[Token]) -> Result<(Attr, &[Token]), Fault>
-    ensures reads { Gives (λ x. (x.0, kinds x.1.now)) result (read (takes (word_in (part_in attr))) (kinds tokens.now)) }
+    ensures reads { Gives (λ x. (x.0, kinds x.1.now)) result
+        (read (takes (word_in (part_in attr))) (kinds tokens.now)) }
     ensures shorter { IfOk result (λ x. length x.1.now < length tokens.now) }
 {
     let [first, rest @ ..] = tokens else {
@@ -155,7 +169,9 @@ fn part_at(attr: Attr, tokens: &[Token]) -> Result<(Attr, &[Token]), Fault>
 
 /// The part of the attribute behind the dot, if one is next.
 fn dotted_at(attr: Attr, tokens: &[Token]) -> Result<(Typed, &[Token]), Fault>
-    ensures reads { Gives (λ x. (operand_of x.0, kinds x.1.now)) result (read (sequence (takes (word_in (part_in attr))) (λ part. gives (closed (attribute part) (attribute_type part)))) (kinds tokens.now)) }
+    ensures reads { Gives (λ x. (operand_of x.0, kinds x.1.now)) result
+        (read (sequence (takes (word_in (part_in attr)))
+        (λ part. gives (closed (attribute part) (attribute_type part)))) (kinds tokens.now)) }
     ensures shorter { IfOk result (λ x. length x.1.now < length tokens.now) }
 {
     let (part, rest) = part_at(attr, tokens)?;
@@ -174,7 +190,8 @@ fn bare_attribute(attr: Attr) -> Typed
 
 /// The attribute, which a dot and a word make another one.
 fn attribute_at(attr: Attr, tokens: &[Token]) -> Result<(Typed, &[Token]), Fault>
-    ensures reads { Gives (λ x. (operand_of x.0, kinds x.1.now)) result (read (attribute_form attr) (kinds tokens.now)) }
+    ensures reads { Gives (λ x. (operand_of x.0, kinds x.1.now)) result
+        (read (attribute_form attr) (kinds tokens.now)) }
     ensures shorter { IfOk result (λ x. length x.1.now ≤ length tokens.now) }
 {
     if has_parts(attr)
@@ -229,7 +246,8 @@ fn attribute_word(cx: Context<'_>, word: &[u8]) -> Option<Attr>
 
 /// The attribute whose keyword is next, and what follows.
 fn attribute_next<'t>(cx: Context<'_>, tokens: &'t [Token]) -> Option<(Attr, &'t [Token])>
-    ensures reads { option_map (λ x. (x.0, kinds x.1.now)) result ≡ first_in (word_in (outside_define (place_of cx.entry) attribute_in)) (kinds tokens.now) }
+    ensures reads { option_map (λ x. (x.0, kinds x.1.now)) result
+        ≡ first_in (word_in (outside_define (place_of cx.entry) attribute_in)) (kinds tokens.now) }
     ensures shorter { IfSome result (λ x. length x.1.now < length tokens.now) }
 {
     let [first, rest @ ..] = tokens else {
@@ -242,8 +260,8 @@ fn attribute_next<'t>(cx: Context<'_>, tokens: &'t [Token]) -> Option<(Attr, &'t
     Some((attr, rest))
 }
 
-/// Why a name that is no value stands here in vain. What a definition calls is no name of the wrong sort: no text
-/// calls there.
+/// Why a name that is no value stands here in vain. What a definition calls is no name of the wrong sort: no
+/// text calls there.
 pub(crate) fn no_value(cx: Context<'_>, name: &Name, tokens: &[Token]) -> Fault
     ensures { result ≡ fault_of (no_value (place_of cx.entry) name.now (length tokens.now)) }
 {
@@ -261,7 +279,8 @@ fn name_leaf<'t>(
     tokens: &[Token],
     rest: &'t [Token],
 ) -> Result<(Typed, &'t [Token]), Fault>
-    ensures reads { Gives (λ x. (operand_of x.0, kinds x.1.now)) result (read (named_value (place_of cx.entry) name.now (length tokens.now)) (kinds rest.now)) }
+    ensures reads { Gives (λ x. (operand_of x.0, kinds x.1.now)) result
+        (read (named_value (place_of cx.entry) name.now (length tokens.now)) (kinds rest.now)) }
     ensures shorter { IfOk result (λ x. length x.1.now ≤ length rest.now) }
 {
     match cx.env.value(name, cx.scope) {
@@ -279,7 +298,8 @@ fn set_in<'t>(
     depth: u32,
     tokens: &'t [Token],
 ) -> Result<(Typed, &'t [Token]), Fault>
-    ensures reads { Gives (λ x. (operand_of x.0, kinds x.1.now)) result (read (set_in (place_of cx.entry) (nat_lt 0 depth)) (kinds tokens.now)) }
+    ensures reads { Gives (λ x. (operand_of x.0, kinds x.1.now)) result
+        (read (set_in (place_of cx.entry) (nat_lt 0 depth)) (kinds tokens.now)) }
     ensures shorter { IfOk result (λ x. length x.1.now < length tokens.now) }
 {
     let behind = mark_at(Mark::SetOpen, tokens)?;
@@ -292,7 +312,8 @@ fn attribute_or_set_at<'t>(
     depth: u32,
     tokens: &'t [Token],
 ) -> Result<(Typed, &'t [Token]), Fault>
-    ensures reads { Gives (λ x. (operand_of x.0, kinds x.1.now)) result (read (attribute_or_set (place_of cx.entry) (nat_lt 0 depth)) (kinds tokens.now)) }
+    ensures reads { Gives (λ x. (operand_of x.0, kinds x.1.now)) result
+        (read (attribute_or_set (place_of cx.entry) (nat_lt 0 depth)) (kinds tokens.now)) }
     ensures shorter { IfOk result (λ x. length x.1.now < length tokens.now) }
 {
     let Some((attr, behind)) = attribute_next(cx, tokens) else {
@@ -307,7 +328,8 @@ fn leaf_at<'t>(
     depth: u32,
     tokens: &'t [Token],
 ) -> Result<(Typed, &'t [Token]), Fault>
-    ensures reads { Gives (λ x. (operand_of x.0, kinds x.1.now)) result (read (leaf_form (place_of cx.entry) (nat_lt 0 depth)) (kinds tokens.now)) }
+    ensures reads { Gives (λ x. (operand_of x.0, kinds x.1.now)) result
+        (read (leaf_form (place_of cx.entry) (nat_lt 0 depth)) (kinds tokens.now)) }
     ensures shorter { IfOk result (λ x. length x.1.now < length tokens.now) }
 {
     let [first, rest @ ..] = tokens else {
@@ -325,7 +347,8 @@ pub(crate) fn atom_at<'t>(
     depth: u32,
     tokens: &'t [Token],
 ) -> Result<(Typed, &'t [Token]), Fault>
-    ensures reads { Gives (λ x. (operand_of x.0, kinds x.1.now)) result (read (atom_form (place_of cx.entry) (nat_lt 0 depth)) (kinds tokens.now)) }
+    ensures reads { Gives (λ x. (operand_of x.0, kinds x.1.now)) result
+        (read (atom_form (place_of cx.entry) (nat_lt 0 depth)) (kinds tokens.now)) }
     ensures shorter { IfOk result (λ x. length x.1.now < length tokens.now) }
 {
     let [first, rest @ ..] = tokens else {

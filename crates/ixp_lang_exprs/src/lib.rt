@@ -1,8 +1,8 @@
 //! The reader of expressions of filter texts (BIRD 2 User's Guide, chapter "Filters").
 //!
-//! [`expression`] reads the expression at the front of some tokens, with its type. [`Env`] holds the names that are
-//! declared so far. Every reader takes tokens and gives what it read and the tokens behind it; a fault says how many
-//! tokens are left at its place. Depth is handed on as what is left of it.
+//! [`expression`] reads the expression at the front of some tokens, with its type. [`Env`] holds the names
+//! that are declared so far. Every reader takes tokens and gives what it read and the tokens behind it; a
+//! fault says how many tokens are left at its place. Depth is handed on as what is left of it.
 #![tactic(auto)]
 
 mod chain;

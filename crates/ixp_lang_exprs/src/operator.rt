@@ -79,7 +79,8 @@ impl Joint {
 
     /// What follows this joint, if it is next. The other one can't stand here.
     pub(crate) fn after(self, tokens: &[Token]) -> Result<Option<&[Token]>, Fault>
-        ensures reads { Gives (λ o. (option_map (λ r. kinds r.now) o, [])) result (joined_behind self (kinds tokens.now)) }
+        ensures reads { Gives (λ o. (option_map (λ r. kinds r.now) o, [])) result
+            (joined_behind self (kinds tokens.now)) }
         ensures shorter { IfOk result (λ o. IfSome o (λ r. length r.now < length tokens.now)) }
     {
         if after_mark(self.other(), tokens).is_some() {

@@ -7,7 +7,14 @@ ghost use Rattle.ixp_lang_exprs.specs.Answers.{Refuses, Makes};
 ghost use Rattle.ixp_lang_exprs.specs.Sets.{unless_so};
 ghost use Rattle.ixp_lang_exprs.specs.Operands.{operand_of, literal_number, misfit_at};
 ghost use Rattle.ixp_lang_exprs.specs.Groups.{least, limit, shape_of, parts_of};
-ghost use Rattle.ixp_lang_exprs.specs.Expressions.{part_end_in, fits_argument, fits_pair, fits_plain, fits_next, no_parts};
+ghost use Rattle.ixp_lang_exprs.specs.Expressions.{
+  part_end_in,
+  fits_argument,
+  fits_pair,
+  fits_plain,
+  fits_next,
+  no_parts,
+};
 ghost use Rattle.ixp_lang_exprs.specs.Expressions.{with_part, ends_with, wanted_part, part_ending};
 
 use crate::context::misfit;
@@ -67,7 +74,8 @@ fn part_end<'t>(
     index: usize,
     tokens: &'t [Token],
 ) -> Result<(bool, &'t [Token]), Fault>
-    ensures reads { Gives (λ x. (x.0, kinds x.1.now)) result (read (takes (part_end_in (shape_of group.entry.shape) index)) (kinds tokens.now)) }
+    ensures reads { Gives (λ x. (x.0, kinds x.1.now)) result
+        (read (takes (part_end_in (shape_of group.entry.shape) index)) (kinds tokens.now)) }
     ensures enough { IfOk result (λ x. IsTrue x.0 → least group.entry.shape ≤ index + 1) }
     ensures room { IfOk result (λ x. IsFalse x.0 → index + 2 < limit group.entry.shape (index + 1)) }
     ensures shorter { IfOk result (λ x. length x.1.now < length tokens.now) }
@@ -88,7 +96,8 @@ fn holds_there(is_so: bool, place: usize) -> Result<(), Fault>
     if is_so { Ok(()) } else { Err(misfit(place)) }
 }
 
-/// Whether the argument has the type of the first of these parameters, and whether it is the last one where that one is.
+/// Whether the argument has the type of the first of these parameters, and whether it is the last one where
+/// that one is.
 fn fits_first(params: &[ValueType], is_last: bool, part: &Typed, place: usize) -> Result<(), Fault>
     ensures { Refuses result (fits_argument params.now 0 is_last (operand_of part.now) place) }
 {
@@ -122,7 +131,8 @@ fn fits_argument(
 impl Parts {
     /// What is wanted of the next part.
     pub(crate) fn wanted(&self, group: Group<'_>) -> Wanted
-        ensures { result ≡ wanted_part (shape_of group.entry.shape) (length (parts_of self.now).trees) group.entry.place }
+        ensures { result ≡ wanted_part (shape_of group.entry.shape)
+            (length (parts_of self.now).trees) group.entry.place }
     {
         group.wanted(self.exprs.len())
     }
@@ -138,8 +148,8 @@ impl Parts {
         }
     }
 
-    /// Whether the next part fits, of one expression in parentheses or a tuple. It begins where so many tokens are left;
-    /// misfits are at the place.
+    /// Whether the next part fits, of one expression in parentheses or a tuple. It begins where so many
+    /// tokens are left; misfits are at the place.
     fn fits_plain(
         &self,
         is_last: bool,
@@ -147,7 +157,8 @@ impl Parts {
         left: usize,
         place: usize,
     ) -> Result<(), Fault>
-        ensures { Refuses result (fits_plain (parts_of self.now).trees self.now.first is_last (operand_of part.now) left place) }
+        ensures { Refuses result
+            (fits_plain (parts_of self.now).trees self.now.first is_last (operand_of part.now) left place) }
     {
         match self.exprs.as_slice() {
             [] if is_last => settled(part),
@@ -168,7 +179,9 @@ impl Parts {
         part: &Typed,
         left: usize,
     ) -> Result<(), Fault>
-        ensures { Refuses result (fits_next (shape_of group.entry.shape) (parts_of self.now) is_last (operand_of part.now) left group.entry.place) }
+        ensures { Refuses result
+            (fits_next (shape_of group.entry.shape) (parts_of self.now) is_last
+            (operand_of part.now) left group.entry.place) }
     {
         let index = self.exprs.len();
         match group.shape {
@@ -183,7 +196,8 @@ impl Parts {
     }
 
     fn push(&mut self, part: Typed) -> Result<(), Fault>
-        ensures exact { Makes (λ x. parts_of self.new) result (with_part (parts_of self.old) (operand_of part)) }
+        ensures exact { Makes (λ x. parts_of self.new) result
+            (with_part (parts_of self.old) (operand_of part)) }
         ensures longer { OnOk result (length self.new.exprs.items ≡ length self.old.exprs.items + 1) }
     {
         self.ty = part.ty;
@@ -191,7 +205,8 @@ impl Parts {
         Ok(())
     }
 
-    /// Adds a part, which begins where so many tokens are left. Gives whether it is the last one, and what follows.
+    /// Adds a part, which begins where so many tokens are left. Gives whether it is the last one, and what
+    /// follows.
     pub(crate) fn add<'t>(
         &mut self,
         group: Group<'_>,
@@ -199,9 +214,14 @@ impl Parts {
         left: usize,
         tokens: &'t [Token],
     ) -> Result<(bool, &'t [Token]), Fault>
-        ensures reads { Gives (λ x. (ends_with x.0 (parts_of self.new), kinds x.1.now)) result (read (part_ending (shape_of group.entry.shape) group.entry.place left (parts_of self.old) (operand_of part)) (kinds tokens.now)) }
-        ensures enough { IfOk result (λ x. IsTrue x.0 → least group.entry.shape ≤ length self.new.exprs.items) }
-        ensures room { IfOk result (λ x. IsFalse x.0 → length self.new.exprs.items + 1 < limit group.entry.shape (length self.new.exprs.items)) }
+        ensures reads { Gives (λ x. (ends_with x.0 (parts_of self.new), kinds x.1.now)) result
+            (read (part_ending (shape_of group.entry.shape) group.entry.place left (parts_of self.old)
+            (operand_of part)) (kinds tokens.now)) }
+        ensures enough { IfOk result
+            (λ x. IsTrue x.0 → least group.entry.shape ≤ length self.new.exprs.items) }
+        ensures room { IfOk result
+            (λ x. IsFalse x.0 → length self.new.exprs.items + 1
+            < limit group.entry.shape (length self.new.exprs.items)) }
         ensures longer { IfOk result (λ _. length self.new.exprs.items ≡ length self.old.exprs.items + 1) }
         ensures shorter { IfOk result (λ x. length x.1.now < length tokens.now) }
     {

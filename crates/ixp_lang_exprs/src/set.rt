@@ -9,7 +9,15 @@ ghost use Rattle.ixp_lang_exprs.specs.Answers.{Makes};
 ghost use Rattle.ixp_lang_exprs.specs.Groups.{closing};
 ghost use Rattle.ixp_lang_exprs.specs.Lists.{list_round, listed};
 ghost use Rattle.ixp_lang_exprs.specs.Operands.{operand_of, closed};
-ghost use Rattle.ixp_lang_exprs.specs.Sets.{range, set_pattern_form, tuple_form, arity_of, pairs_in, triples_in, tuples_set};
+ghost use Rattle.ixp_lang_exprs.specs.Sets.{
+  range,
+  set_pattern_form,
+  tuple_form,
+  arity_of,
+  pairs_in,
+  triples_in,
+  tuples_set,
+};
 ghost use Rattle.ixp_lang_exprs.specs.Sets.{range_set, addr_set, pattern_set, tuple_set, elements};
 
 use crate::elements::{Arity, Tuple, pattern_at, range_at, tuple_at};
@@ -25,7 +33,8 @@ fn range_round<'t>(
     ranges: &mut Items<(u32, u32)>,
     tokens: &'t [Token],
 ) -> Result<(bool, &'t [Token]), Fault>
-    ensures reads { Gives (λ x. (closing x.0 ranges.new, kinds x.1.now)) result (read (list_round (λ before. range (names_at cx.entry)) ranges.old) (kinds tokens.now)) }
+    ensures reads { Gives (λ x. (closing x.0 ranges.new, kinds x.1.now)) result
+        (read (list_round (λ before. range (names_at cx.entry)) ranges.old) (kinds tokens.now)) }
     ensures shorter { IfOk result (λ x. length x.1.now < length tokens.now) }
 {
     let (range, rest) = range_at(cx, tokens)?;
@@ -41,7 +50,8 @@ fn ranges_at<'t>(
     cx: Context<'_>,
     tokens: &'t [Token],
 ) -> Result<(Items<(u32, u32)>, &'t [Token]), Fault>
-    ensures reads { Gives (λ x. (x.0, kinds x.1.now)) result (read (listed (λ before. range (names_at cx.entry))) (kinds tokens.now)) }
+    ensures reads { Gives (λ x. (x.0, kinds x.1.now)) result
+        (read (listed (λ before. range (names_at cx.entry))) (kinds tokens.now)) }
     ensures shorter { IfOk result (λ x. length x.1.now < length tokens.now) }
 {
     let mut ranges = Items::new(cx.alloc);
@@ -60,7 +70,8 @@ fn range_set<'t>(
     cx: Context<'_>,
     tokens: &'t [Token],
 ) -> Result<((SetLit, ValueType), &'t [Token]), Fault>
-    ensures reads { Gives (λ x. (x.0, kinds x.1.now)) result (read (range_set (names_at cx.entry)) (kinds tokens.now)) }
+    ensures reads { Gives (λ x. (x.0, kinds x.1.now)) result
+        (read (range_set (names_at cx.entry)) (kinds tokens.now)) }
     ensures shorter { IfOk result (λ x. length x.1.now < length tokens.now) }
 {
     let (ranges, rest) = ranges_at(cx, tokens)?;
@@ -73,7 +84,8 @@ fn addr_round<'t>(
     addrs: &mut Items<Addr>,
     tokens: &'t [Token],
 ) -> Result<(bool, &'t [Token]), Fault>
-    ensures reads { Gives (λ x. (closing x.0 addrs.new, kinds x.1.now)) result (read (list_round (λ before. an_addr) addrs.old) (kinds tokens.now)) }
+    ensures reads { Gives (λ x. (closing x.0 addrs.new, kinds x.1.now)) result
+        (read (list_round (λ before. an_addr) addrs.old) (kinds tokens.now)) }
     ensures shorter { IfOk result (λ x. length x.1.now < length tokens.now) }
 {
     let (addr, rest) = addr_at(tokens)?;
@@ -86,7 +98,8 @@ fn addr_round<'t>(
 
 /// Addresses, with commas between.
 fn addrs_at<'t>(cx: Context<'_>, tokens: &'t [Token]) -> Result<(Items<Addr>, &'t [Token]), Fault>
-    ensures reads { Gives (λ x. (x.0, kinds x.1.now)) result (read (listed (λ before. an_addr)) (kinds tokens.now)) }
+    ensures reads { Gives (λ x. (x.0, kinds x.1.now)) result
+        (read (listed (λ before. an_addr)) (kinds tokens.now)) }
     ensures shorter { IfOk result (λ x. length x.1.now < length tokens.now) }
 {
     let mut addrs = Items::new(cx.alloc);
@@ -118,7 +131,8 @@ fn pattern_round<'t>(
     patterns: &mut Items<Pattern>,
     tokens: &'t [Token],
 ) -> Result<(bool, &'t [Token]), Fault>
-    ensures reads { Gives (λ x. (closing x.0 patterns.new, kinds x.1.now)) result (read (list_round (λ before. set_pattern_form) patterns.old) (kinds tokens.now)) }
+    ensures reads { Gives (λ x. (closing x.0 patterns.new, kinds x.1.now)) result
+        (read (list_round (λ before. set_pattern_form) patterns.old) (kinds tokens.now)) }
     ensures shorter { IfOk result (λ x. length x.1.now < length tokens.now) }
 {
     let (pattern, rest) = pattern_at(tokens)?;
@@ -134,7 +148,8 @@ fn patterns_at<'t>(
     cx: Context<'_>,
     tokens: &'t [Token],
 ) -> Result<(Items<Pattern>, &'t [Token]), Fault>
-    ensures reads { Gives (λ x. (x.0, kinds x.1.now)) result (read (listed (λ before. set_pattern_form)) (kinds tokens.now)) }
+    ensures reads { Gives (λ x. (x.0, kinds x.1.now)) result
+        (read (listed (λ before. set_pattern_form)) (kinds tokens.now)) }
     ensures shorter { IfOk result (λ x. length x.1.now < length tokens.now) }
 {
     let mut patterns = Items::new(cx.alloc);
@@ -187,7 +202,9 @@ fn tuple_round<'t>(
     tuples: &mut Items<Tuple>,
     tokens: &'t [Token],
 ) -> Result<(bool, &'t [Token]), Fault>
-    ensures reads { Gives (λ x. (closing x.0 tuples.new, kinds x.1.now)) result (read (list_round (λ before. tuple_form (names_at cx.entry) (nat_lt 0 depth) (arity_of before)) tuples.old) (kinds tokens.now)) }
+    ensures reads { Gives (λ x. (closing x.0 tuples.new, kinds x.1.now)) result
+        (read (list_round (λ before. tuple_form (names_at cx.entry) (nat_lt 0 depth)
+        (arity_of before)) tuples.old) (kinds tokens.now)) }
     ensures shorter { IfOk result (λ x. length x.1.now < length tokens.now) }
 {
     let arity = arity_of(tuples.as_slice());
@@ -205,7 +222,9 @@ fn tuples_at<'t>(
     depth: u32,
     tokens: &'t [Token],
 ) -> Result<(Items<Tuple>, &'t [Token]), Fault>
-    ensures reads { Gives (λ x. (x.0, kinds x.1.now)) result (read (listed (λ before. tuple_form (names_at cx.entry) (nat_lt 0 depth) (arity_of before))) (kinds tokens.now)) }
+    ensures reads { Gives (λ x. (x.0, kinds x.1.now)) result
+        (read (listed (λ before. tuple_form (names_at cx.entry) (nat_lt 0 depth) (arity_of before)))
+        (kinds tokens.now)) }
     ensures shorter { IfOk result (λ x. length x.1.now < length tokens.now) }
 {
     let mut tuples = Items::new(cx.alloc);
@@ -271,7 +290,8 @@ fn tuple_set<'t>(
     depth: u32,
     tokens: &'t [Token],
 ) -> Result<((SetLit, ValueType), &'t [Token]), Fault>
-    ensures reads { Gives (λ x. (x.0, kinds x.1.now)) result (read (tuple_set (names_at cx.entry) (nat_lt 0 depth)) (kinds tokens.now)) }
+    ensures reads { Gives (λ x. (x.0, kinds x.1.now)) result
+        (read (tuple_set (names_at cx.entry) (nat_lt 0 depth)) (kinds tokens.now)) }
     ensures shorter { IfOk result (λ x. length x.1.now < length tokens.now) }
 {
     let (tuples, rest) = tuples_at(cx, depth, tokens)?;
@@ -286,7 +306,8 @@ fn elements_at<'t>(
     depth: u32,
     tokens: &'t [Token],
 ) -> Result<((SetLit, ValueType), &'t [Token]), Fault>
-    ensures reads { Gives (λ x. (x.0, kinds x.1.now)) result (read (elements (names_at cx.entry) (nat_lt 0 depth)) (kinds tokens.now)) }
+    ensures reads { Gives (λ x. (x.0, kinds x.1.now)) result
+        (read (elements (names_at cx.entry) (nat_lt 0 depth)) (kinds tokens.now)) }
     ensures shorter { IfOk result (λ x. length x.1.now < length tokens.now) }
 {
     let [first, ..] = tokens else {
@@ -306,7 +327,9 @@ pub(crate) fn set_at<'t>(
     depth: u32,
     tokens: &'t [Token],
 ) -> Result<(Typed, &'t [Token]), Fault>
-    ensures reads { Gives (λ x. (operand_of x.0, kinds x.1.now)) result (read (sequence (elements (names_at cx.entry) (nat_lt 0 depth)) (λ s. gives (closed (set_literal s.0) s.1))) (kinds tokens.now)) }
+    ensures reads { Gives (λ x. (operand_of x.0, kinds x.1.now)) result
+        (read (sequence (elements (names_at cx.entry) (nat_lt 0 depth))
+        (λ s. gives (closed (set_literal s.0) s.1))) (kinds tokens.now)) }
     ensures shorter { IfOk result (λ x. length x.1.now < length tokens.now) }
 {
     let ((set, ty), rest) = elements_at(cx, depth, tokens)?;

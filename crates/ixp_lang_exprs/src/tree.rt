@@ -2,11 +2,25 @@
 ghost use Rattle.std.specs.Prelude.{◌≡◌, ◌≤◌, ◌<◌, ◌++◌, ◌∷◌, [], length, IfOk, IfErr, box_value};
 ghost use Rattle.ixp_lang.specs.Views.{expr_view, exprs_view};
 ghost use Rattle.ixp_lang_tokens.specs.declared.fault.Fault.TheVariants.{NoMemory};
-ghost use Rattle.ixp_lang_exprs.specs.declared.types.ValueType.TheVariants.{Bool as Truth, State, Pair, Triple};
+ghost use Rattle.ixp_lang_exprs.specs.declared.types.ValueType.TheVariants.{
+  Bool as Truth,
+  State,
+  Pair,
+  Triple,
+};
 ghost use Rattle.ixp_lang_exprs.specs.Answers.{Makes};
 ghost use Rattle.ixp_lang_exprs.specs.Operands.{operand_of, closed};
 ghost use Rattle.ixp_lang_exprs.specs.Expressions.{plain_tree, check_tree};
-ghost use Rattle.ixp_lang_exprs.specs.Groups.{least, limit, shape_in, parts_of, finished, literal_pair, literal_triple, call_tree};
+ghost use Rattle.ixp_lang_exprs.specs.Groups.{
+  least,
+  limit,
+  shape_in,
+  parts_of,
+  finished,
+  literal_pair,
+  literal_triple,
+  call_tree,
+};
 
 use crate::group::Opening;
 use crate::parts::{Parts, literal_number};

@@ -1,7 +1,14 @@
 //! Types, and expressions with theirs.
 ghost use Rattle.std.specs.Prelude.{◌≡◌};
 ghost use Rattle.ixp_lang.specs.Views.{expr_view};
-ghost use Rattle.ixp_lang_exprs.specs.Types.{type_rank, same_type, type_of, attribute_type, is_comparable, is_sought};
+ghost use Rattle.ixp_lang_exprs.specs.Types.{
+  type_rank,
+  same_type,
+  type_of,
+  attribute_type,
+  is_comparable,
+  is_sought,
+};
 ghost use Rattle.ixp_lang_exprs.specs.Types.{is_of_values, holds, takes_left, takes_right, is_compared};
 ghost use Rattle.ixp_lang_exprs.specs.Answers.{Refuses};
 ghost use Rattle.ixp_lang_exprs.specs.Operands.{operand_of, closed, settled, fits};
@@ -216,8 +223,8 @@ pub fn settled(typed: &Typed) -> Result<(), Fault>
     }
 }
 
-/// Whether the expression, behind which such a token stands as may, has the type that is wanted. Else the misfit is at
-/// the place, or where one waited.
+/// Whether the expression, behind which such a token stands as may, has the type that is wanted. Else the
+/// misfit is at the place, or where one waited.
 pub fn fits(typed: &Typed, wanted: ValueType, place: usize) -> Result<(), Fault>
     ensures { Refuses result (fits (operand_of typed.now) wanted place) }
 {

@@ -1,7 +1,14 @@
 //! What is wanted of an expression.
 ghost use Rattle.std.specs.Prelude.{◌≡◌};
 ghost use Rattle.ixp_lang_exprs.specs.Types.{same_as, is_expected};
-ghost use Rattle.ixp_lang_exprs.specs.Operands.{operand_of, anything, one_type, may_become, in_vain, no_truth};
+ghost use Rattle.ixp_lang_exprs.specs.Operands.{
+  operand_of,
+  anything,
+  one_type,
+  may_become,
+  in_vain,
+  no_truth,
+};
 ghost use Rattle.ixp_lang_exprs.specs.Answers.{Refuses};
 
 use crate::context::misfit;

@@ -1,5 +1,6 @@
--- The tokens of the canonical text of an expression (BIRD 2 User's Guide, chapter "Filters", expressions): parentheses only
--- where they are needed, and in a set a number in place of its name. Each is said with the tokens that follow it.
+-- The tokens of the canonical text of an expression (BIRD 2 User's Guide, chapter "Filters", expressions):
+-- parentheses only where they are needed, and in a set a number in place of its name. Each is said with the
+-- tokens that follow it.
 use Rattle.std.specs.Prelude.{ℕ, Bool, true, false, ◌&&◌, ◌==◌, List, [], ◌∷◌, Option, Some, None, codes, if◌then◌else◌}
 use Rattle.ixp_num.specs.declared.addr.Addr.{Addr}
 use Rattle.ixp_num.specs.declared.pattern.Pattern.{Pattern}

@@ -1,5 +1,5 @@
--- The tokens of the canonical text of statements, items and configurations (BIRD 2 User's Guide, chapters "Configuration" and
--- "Filters"), with braces round each branch. Each is said with the tokens that follow it.
+-- The tokens of the canonical text of statements, items and configurations (BIRD 2 User's Guide, chapters
+-- "Configuration" and "Filters"), with braces round each branch. Each is said with the tokens that follow it.
 use Rattle.std.specs.Prelude.{ℕ, Bool, true, false, List, [], ◌∷◌, Option, Some, None, codes}
 use Rattle.ixp_num.specs.declared.addr.Addr.{Addr}
 use Rattle.ixp_lang.specs.declared.stmt.Label.{Label}

@@ -1,4 +1,5 @@
--- Which trees of expressions a text can spell: names are declared, types fit, numbers are within bounds, and there are levels enough.
+-- Which trees of expressions a text can spell: names are declared, types fit, numbers are within bounds, and
+-- there are levels enough.
 use Rattle.std.specs.Prelude.{ℕ, zero, suc, Bool, true, false, ◌&&◌, not, nat_le, List, [], ◌∷◌, Option, Some, None, if◌then◌else◌}
 use Rattle.std.specs.Option.{is_some, is_none}
 use Rattle.std.specs.List.{list_all}

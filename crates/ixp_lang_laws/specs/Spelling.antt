@@ -12,8 +12,9 @@ use Rattle.ixp_lang_exprs.specs.Names.{Names}
 use Rattle.ixp_lang_exprs.specs.Operands.{Operand}
 use Rattle.ixp_lang_exprs.specs.Expressions.{expression_form}
 
--- Where names stand for these and this is wanted, the tokens at the front are an expression of so many levels, whose types fit,
--- and say this tree of this type. So many tokens are left at the first one of its statement.
+-- Where names stand for these and this is wanted, the tokens at the front are an expression of so many
+-- levels, whose types fit, and say this tree of this type. So many tokens are left at the first one of its
+-- statement.
 abbrev pub Spells : Names → Scope → ℕ → ℕ → Wanted → ExprTree → ValueType → List Kind → List Kind → Type 0
 Spells names scope levels statement wanted tree ty tokens rest =
     (o : Operand) × (o.tree ≡ tree) × (o.ty ≡ ty) × (o.misfit ≡ None)

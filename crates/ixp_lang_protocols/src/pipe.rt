@@ -27,7 +27,8 @@ fn ends_at<'t>(
     env: &mut Env,
     tokens: &'t [Token],
 ) -> Result<(Ends, &'t [Token]), Fault>
-    ensures reads { Gives (λ x. (ends_of x.0 (names_of env.new), kinds x.1.now)) result (read (ends_form (names_of env.old)) (kinds tokens.now)) }
+    ensures reads { Gives (λ x. (ends_of x.0 (names_of env.new), kinds x.1.now)) result
+        (read (ends_form (names_of env.old)) (kinds tokens.now)) }
     ensures shorter { IfOk result (λ x. length x.1.now < length tokens.now) }
 {
     let (table, rest) = table_of_at(alloc, env, Owner::Pipe, tokens)?;
@@ -42,7 +43,8 @@ pub(crate) fn pipe_at<'t>(
     env: &mut Env,
     tokens: &'t [Token],
 ) -> Result<(Item, &'t [Token]), Fault>
-    ensures reads { Gives (λ x. ((item_view x.0, names_of env.new), kinds x.1.now)) result (read (pipe_end (names_of env.old)) (kinds tokens.now)) }
+    ensures reads { Gives (λ x. ((item_view x.0, names_of env.new), kinds x.1.now)) result
+        (read (pipe_end (names_of env.old)) (kinds tokens.now)) }
     ensures shorter { IfOk result (λ x. length x.1.now < length tokens.now) }
 {
     let (name, rest) = env.free_name_at(alloc, tokens)?;
@@ -67,7 +69,8 @@ pub(crate) fn device_at<'t>(
     env: &mut Env,
     tokens: &'t [Token],
 ) -> Result<(Item, &'t [Token]), Fault>
-    ensures reads { Gives (λ x. ((item_view x.0, names_of env.new), kinds x.1.now)) result (read (device_end (names_of env.old)) (kinds tokens.now)) }
+    ensures reads { Gives (λ x. ((item_view x.0, names_of env.new), kinds x.1.now)) result
+        (read (device_end (names_of env.old)) (kinds tokens.now)) }
     ensures shorter { IfOk result (λ x. length x.1.now < length tokens.now) }
 {
     if let Some(rest) = after_mark(Mark::BlockOpen, tokens) {

@@ -18,7 +18,8 @@ pub fn protocol_at<'t>(
     env: &mut Env,
     tokens: &'t [Token],
 ) -> Result<(Item, &'t [Token]), Fault>
-    ensures reads { Gives (λ x. ((item_view x.0, names_of env.new), kinds x.1.now)) result (read (protocol_end (names_of env.old)) (kinds tokens.now)) }
+    ensures reads { Gives (λ x. ((item_view x.0, names_of env.new), kinds x.1.now)) result
+        (read (protocol_end (names_of env.old)) (kinds tokens.now)) }
     ensures shorter { IfOk result (λ x. length x.1.now < length tokens.now) }
 {
     if let Some(rest) = after_word(b"device", tokens) {

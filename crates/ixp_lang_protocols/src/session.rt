@@ -4,7 +4,18 @@ ghost use Rattle.ixp_lang_tokens.specs.Pieces.{addr_in};
 ghost use Rattle.ixp_lang_tokens.specs.Reading.{read, kinds, Gives};
 ghost use Rattle.ixp_lang.specs.Views.{item_view};
 ghost use Rattle.ixp_lang_exprs.specs.Names.{names_of};
-ghost use Rattle.ixp_lang_protocols.specs.Protocols.{as_number_form, local_form, neighbor_form, client_form, password_form, limit_form, family_form, channel_form, peering_form, bgp_end};
+ghost use Rattle.ixp_lang_protocols.specs.Protocols.{
+  as_number_form,
+  local_form,
+  neighbor_form,
+  client_form,
+  password_form,
+  limit_form,
+  family_form,
+  channel_form,
+  peering_form,
+  bgp_end,
+};
 ghost use Rattle.ixp_lang_protocols.specs.Views.{local_of, neighbor_of, channel_of, peering_of, a_string};
 
 use crate::tables::{Owner, table_of_at};
@@ -69,7 +80,8 @@ struct Neighbor {
 
 /// `neighbor IP as NUM;`
 fn neighbor_at(tokens: &[Token]) -> Result<(Neighbor, &[Token]), Fault>
-    ensures reads { Gives (λ x. (neighbor_of x.0, kinds x.1.now)) result (read neighbor_form (kinds tokens.now)) }
+    ensures reads { Gives (λ x. (neighbor_of x.0, kinds x.1.now)) result
+        (read neighbor_form (kinds tokens.now)) }
     ensures shorter { IfOk result (λ x. length x.1.now < length tokens.now) }
 {
     let rest = word_at(b"neighbor", tokens)?;
@@ -164,7 +176,8 @@ fn channel_at<'t>(
     env: &mut Env,
     tokens: &'t [Token],
 ) -> Result<(Channel, &'t [Token]), Fault>
-    ensures reads { Gives (λ x. (channel_of x.0 (names_of env.new), kinds x.1.now)) result (read (channel_form (names_of env.old)) (kinds tokens.now)) }
+    ensures reads { Gives (λ x. (channel_of x.0 (names_of env.new), kinds x.1.now)) result
+        (read (channel_form (names_of env.old)) (kinds tokens.now)) }
     ensures shorter { IfOk result (λ x. length x.1.now < length tokens.now) }
 {
     let (family, rest) = family_at(tokens)?;
@@ -193,7 +206,8 @@ struct Peering {
 }
 
 fn peering_at(alloc: Global, tokens: &[Token]) -> Result<(Peering, &[Token]), Fault>
-    ensures reads { Gives (λ x. (peering_of x.0, kinds x.1.now)) result (read peering_form (kinds tokens.now)) }
+    ensures reads { Gives (λ x. (peering_of x.0, kinds x.1.now)) result
+        (read peering_form (kinds tokens.now)) }
     ensures shorter { IfOk result (λ x. length x.1.now < length tokens.now) }
 {
     let (local, rest) = local_at(tokens)?;
@@ -215,7 +229,8 @@ pub(crate) fn bgp_at<'t>(
     env: &mut Env,
     tokens: &'t [Token],
 ) -> Result<(Item, &'t [Token]), Fault>
-    ensures reads { Gives (λ x. ((item_view x.0, names_of env.new), kinds x.1.now)) result (read (bgp_end (names_of env.old)) (kinds tokens.now)) }
+    ensures reads { Gives (λ x. ((item_view x.0, names_of env.new), kinds x.1.now)) result
+        (read (bgp_end (names_of env.old)) (kinds tokens.now)) }
     ensures shorter { IfOk result (λ x. length x.1.now < length tokens.now) }
 {
     let (name, rest) = env.free_name_at(alloc, tokens)?;

@@ -56,7 +56,8 @@ pub(crate) fn table_of_at<'t>(
     owner: Owner,
     tokens: &'t [Token],
 ) -> Result<(Name, &'t [Token]), Fault>
-    ensures reads { Gives (λ x. (owned_of x.0 (names_of env.new), kinds x.1.now)) result (read (owned_table (owner_of owner) (names_of env.old)) (kinds tokens.now)) }
+    ensures reads { Gives (λ x. (owned_of x.0 (names_of env.new), kinds x.1.now)) result
+        (read (owned_table (owner_of owner) (names_of env.old)) (kinds tokens.now)) }
     ensures shorter { IfOk result (λ x. length x.1.now < length tokens.now) }
 {
     let tokens = word_at(b"table", tokens)?;

@@ -27,7 +27,8 @@ fn filter_name_at<'t>(
     env: &Env,
     tokens: &'t [Token],
 ) -> Result<(Name, &'t [Token]), Fault>
-    ensures reads { Gives (λ x. (x.0, kinds x.1.now)) result (read (filter_name (names_of env.now)) (kinds tokens.now)) }
+    ensures reads { Gives (λ x. (x.0, kinds x.1.now)) result
+        (read (filter_name (names_of env.now)) (kinds tokens.now)) }
     ensures shorter { IfOk result (λ x. length x.1.now < length tokens.now) }
 {
     let (name, rest) = own_name_at(alloc, tokens)?;
@@ -43,7 +44,8 @@ fn named_use_at<'t>(
     env: &Env,
     tokens: &'t [Token],
 ) -> Result<(Use, &'t [Token]), Fault>
-    ensures reads { Gives (λ x. (x.0, kinds x.1.now)) result (read (named_use (names_of env.now)) (kinds tokens.now)) }
+    ensures reads { Gives (λ x. (x.0, kinds x.1.now)) result
+        (read (named_use (names_of env.now)) (kinds tokens.now)) }
     ensures shorter { IfOk result (λ x. length x.1.now < length tokens.now) }
 {
     let rest = word_at(b"filter", tokens)?;
@@ -54,7 +56,8 @@ fn named_use_at<'t>(
 
 /// `all`, `none` or a filter, and the semicolon.
 fn use_at<'t>(alloc: Global, env: &Env, tokens: &'t [Token]) -> Result<(Use, &'t [Token]), Fault>
-    ensures reads { Gives (λ x. (x.0, kinds x.1.now)) result (read (use_form (names_of env.now)) (kinds tokens.now)) }
+    ensures reads { Gives (λ x. (x.0, kinds x.1.now)) result
+        (read (use_form (names_of env.now)) (kinds tokens.now)) }
     ensures shorter { IfOk result (λ x. length x.1.now < length tokens.now) }
 {
     if let Some(rest) = after_word(b"all", tokens) {
@@ -81,7 +84,8 @@ pub(crate) fn ways_at<'t>(
     env: &Env,
     tokens: &'t [Token],
 ) -> Result<(Ways, &'t [Token]), Fault>
-    ensures reads { Gives (λ x. (ways_of x.0, kinds x.1.now)) result (read (ways_form (names_of env.now)) (kinds tokens.now)) }
+    ensures reads { Gives (λ x. (ways_of x.0, kinds x.1.now)) result
+        (read (ways_form (names_of env.now)) (kinds tokens.now)) }
     ensures shorter { IfOk result (λ x. length x.1.now < length tokens.now) }
 {
     let rest = word_at(b"import", tokens)?;

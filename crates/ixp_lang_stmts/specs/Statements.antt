@@ -38,7 +38,8 @@ abbrev pub may_return : Scope → Bool
 may_return (scope.Function number) = true
 may_return _ = false
 
--- What a function returns, as far as it is read: the type that was written or that of the first `return`, and whether there was one.
+-- What a function returns, as far as it is read: the type that was written or that of the first `return`, and
+-- whether there was one.
 pub record Returned : Type 0 where
   pub ty : Option ValueType
   pub is_met : Bool

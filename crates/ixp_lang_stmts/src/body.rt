@@ -11,7 +11,19 @@ ghost use Rattle.ixp_lang_exprs.specs.Answers.{Refuses, fault_of};
 ghost use Rattle.ixp_lang_exprs.specs.Groups.{place_of};
 ghost use Rattle.ixp_lang_exprs.specs.Sets.{unless_so, if_missing};
 ghost use Rattle.ixp_lang_exprs.specs.Operands.{misfit_at};
-ghost use Rattle.ixp_lang_stmts.specs.Statements.{Said, place_in, may_return, may_meet, met, begins_control, begins_change, is_verdict, begins_statement, deep_word, no_branch};
+ghost use Rattle.ixp_lang_stmts.specs.Statements.{
+  Said,
+  place_in,
+  may_return,
+  may_meet,
+  met,
+  begins_control,
+  begins_change,
+  is_verdict,
+  begins_statement,
+  deep_word,
+  no_branch,
+};
 ghost use Rattle.ixp_lang_stmts.specs.Views.{frame_of, returned_of, Stops};
 
 use ixp_lang_exprs::{Context, Env, Scope, ValueType};
@@ -139,7 +151,10 @@ pub(crate) fn begins_statement(word: &[u8]) -> bool
 
 /// Why no call begins at this place, one level too deep.
 fn no_call(frame: Frame<'_>, name: &Name, place: usize) -> Fault
-    ensures { Some result ≡ option_map fault_of (option_or (if_missing (function_of (names_of frame.entry.env.now name.now)) (Unknown, place)) (Some (Deep, place))) }
+    ensures { Some result
+        ≡ option_map fault_of
+        (option_or (if_missing (function_of (names_of frame.entry.env.now name.now)) (Unknown, place))
+        (Some (Deep, place))) }
 {
     match frame.env.function(name) {
         Some(_) => Fault::Stop(Cause::Deep, place),
@@ -159,7 +174,8 @@ fn no_word(frame: Frame<'_>, word: &[u8], place: usize) -> Fault
 
 /// Why no branch begins with these tokens, one level too deep. What is no statement is refused as such.
 pub(crate) fn no_branch(frame: Frame<'_>, tokens: &[Token]) -> Fault
-    ensures { Stops {A = Said (List StmtTree)} result (read (no_branch (frame_of frame.entry)) (kinds tokens.now)) }
+    ensures { Stops {A = Said (List StmtTree)} result
+        (read (no_branch (frame_of frame.entry)) (kinds tokens.now)) }
 {
     let [first, ..] = tokens else {
         return unexpected(tokens);

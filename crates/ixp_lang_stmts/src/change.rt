@@ -13,7 +13,22 @@ ghost use Rattle.ixp_lang_exprs.specs.Groups.{place_of};
 ghost use Rattle.ixp_lang_exprs.specs.Sets.{unless_so};
 ghost use Rattle.ixp_lang_exprs.specs.Operands.{operand_of, settled, misfit_at};
 ghost use Rattle.ixp_lang_stmts.specs.Methods.{method_call};
-ghost use Rattle.ixp_lang_stmts.specs.Statements.{said, may_meet, met, value_end, enclosed_end, call_form, return_end, next_hop_end, prepend_end, change_end, pairs_end, triples_end, change_form, plain_form};
+ghost use Rattle.ixp_lang_stmts.specs.Statements.{
+  said,
+  may_meet,
+  met,
+  value_end,
+  enclosed_end,
+  call_form,
+  return_end,
+  next_hop_end,
+  prepend_end,
+  change_end,
+  pairs_end,
+  triples_end,
+  change_form,
+  plain_form,
+};
 ghost use Rattle.ixp_lang_stmts.specs.Views.{frame_of, returned_of};
 
 use crate::body::{Frame, Returned, misfit, unknown};
@@ -30,7 +45,8 @@ fn last_at<'t>(
     ty: ValueType,
     tokens: &'t [Token],
 ) -> Result<(Expr, &'t [Token]), Fault>
-    ensures reads { Gives (λ x. (expr_view x.0, kinds x.1.now)) result (read (value_end (place_of cx.entry) depth ty) (kinds tokens.now)) }
+    ensures reads { Gives (λ x. (expr_view x.0, kinds x.1.now)) result
+        (read (value_end (place_of cx.entry) depth ty) (kinds tokens.now)) }
     ensures shorter { IfOk result (λ x. length x.1.now < length tokens.now) }
 {
     let wanted = Wanted {
@@ -50,7 +66,8 @@ fn enclosed_at<'t>(
     ty: ValueType,
     tokens: &'t [Token],
 ) -> Result<(Expr, &'t [Token]), Fault>
-    ensures reads { Gives (λ x. (expr_view x.0, kinds x.1.now)) result (read (enclosed_end (place_of cx.entry) depth ty) (kinds tokens.now)) }
+    ensures reads { Gives (λ x. (expr_view x.0, kinds x.1.now)) result
+        (read (enclosed_end (place_of cx.entry) depth ty) (kinds tokens.now)) }
     ensures shorter { IfOk result (λ x. length x.1.now < length tokens.now) }
 {
     let rest = mark_at(Mark::Open, tokens)?;
@@ -72,7 +89,8 @@ fn return_at<'t>(
     returned: &mut Returned,
     tokens: &'t [Token],
 ) -> Result<(Stmt, &'t [Token]), Fault>
-    ensures reads { Gives (λ x. (said (returned_of returned.new) (stmt_view x.0), kinds x.1.now)) result (read (return_end (place_of cx.entry) depth (returned_of returned.old)) (kinds tokens.now)) }
+    ensures reads { Gives (λ x. (said (returned_of returned.new) (stmt_view x.0), kinds x.1.now)) result
+        (read (return_end (place_of cx.entry) depth (returned_of returned.old)) (kinds tokens.now)) }
     ensures shorter { IfOk result (λ x. length x.1.now < length tokens.now) }
 {
     let wanted = Wanted {
@@ -87,7 +105,9 @@ fn return_at<'t>(
 
 /// Whether the value may be returned at this place.
 fn met(returned: &mut Returned, typed: &Typed, place: usize) -> Result<(), Fault>
-    ensures cause { Refuses result (option_or (settled (operand_of typed.now)) (unless_so (may_meet (returned_of returned.old) typed.now.ty) (misfit_at place))) }
+    ensures cause { Refuses result
+        (option_or (settled (operand_of typed.now))
+        (unless_so (may_meet (returned_of returned.old) typed.now.ty) (misfit_at place))) }
     ensures kept { OnOk result (returned_of returned.new ≡ met typed.now.ty) }
 {
     settled(typed)?;
@@ -100,7 +120,8 @@ fn call_at<'t>(
     depth: u32,
     tokens: &'t [Token],
 ) -> Result<(Stmt, &'t [Token]), Fault>
-    ensures reads { Gives (λ x. (stmt_view x.0, kinds x.1.now)) result (read (call_form (place_of cx.entry) depth) (kinds tokens.now)) }
+    ensures reads { Gives (λ x. (stmt_view x.0, kinds x.1.now)) result
+        (read (call_form (place_of cx.entry) depth) (kinds tokens.now)) }
     ensures shorter { IfOk result (λ x. length x.1.now < length tokens.now) }
 {
     let (name, rest) = name_at(tokens)?;
@@ -120,7 +141,8 @@ fn next_hop_at<'t>(
     depth: u32,
     tokens: &'t [Token],
 ) -> Result<(Stmt, &'t [Token]), Fault>
-    ensures reads { Gives (λ x. (stmt_view x.0, kinds x.1.now)) result (read (next_hop_end (place_of cx.entry) depth) (kinds tokens.now)) }
+    ensures reads { Gives (λ x. (stmt_view x.0, kinds x.1.now)) result
+        (read (next_hop_end (place_of cx.entry) depth) (kinds tokens.now)) }
     ensures shorter { IfOk result (λ x. length x.1.now < length tokens.now) }
 {
     let rest = mark_at(Mark::Equal, tokens)?;
@@ -161,7 +183,9 @@ fn method_at<'t>(
     method: Method,
     tokens: &'t [Token],
 ) -> Result<(Stmt, &'t [Token]), Fault>
-    ensures reads { Gives (λ x. (stmt_view x.0, kinds x.1.now)) result (read (sequence (enclosed_end (place_of cx.entry) depth ty) (λ value. gives (method_call method value))) (kinds tokens.now)) }
+    ensures reads { Gives (λ x. (stmt_view x.0, kinds x.1.now)) result
+        (read (sequence (enclosed_end (place_of cx.entry) depth ty)
+        (λ value. gives (method_call method value))) (kinds tokens.now)) }
     ensures shorter { IfOk result (λ x. length x.1.now < length tokens.now) }
 {
     let (value, rest) = enclosed_at(cx, depth, ty, tokens)?;
@@ -174,7 +198,8 @@ fn prepend_at<'t>(
     depth: u32,
     tokens: &'t [Token],
 ) -> Result<(Stmt, &'t [Token]), Fault>
-    ensures reads { Gives (λ x. (stmt_view x.0, kinds x.1.now)) result (read (prepend_end (place_of cx.entry) depth) (kinds tokens.now)) }
+    ensures reads { Gives (λ x. (stmt_view x.0, kinds x.1.now)) result
+        (read (prepend_end (place_of cx.entry) depth) (kinds tokens.now)) }
     ensures shorter { IfOk result (λ x. length x.1.now < length tokens.now) }
 {
     let rest = mark_at(Mark::Dot, tokens)?;
@@ -192,7 +217,9 @@ fn list_at<'t>(
     delete: Method,
     tokens: &'t [Token],
 ) -> Result<(Stmt, &'t [Token]), Fault>
-    ensures reads { Gives (λ x. (stmt_view x.0, kinds x.1.now)) result (read (change_end (place_of cx.entry) depth one (method_call add) many (method_call delete)) (kinds tokens.now)) }
+    ensures reads { Gives (λ x. (stmt_view x.0, kinds x.1.now)) result
+        (read (change_end (place_of cx.entry) depth one (method_call add) many (method_call delete))
+        (kinds tokens.now)) }
     ensures shorter { IfOk result (λ x. length x.1.now < length tokens.now) }
 {
     let rest = mark_at(Mark::Dot, tokens)?;
@@ -209,7 +236,8 @@ fn pairs_at<'t>(
     depth: u32,
     tokens: &'t [Token],
 ) -> Result<(Stmt, &'t [Token]), Fault>
-    ensures reads { Gives (λ x. (stmt_view x.0, kinds x.1.now)) result (read (pairs_end (place_of cx.entry) depth) (kinds tokens.now)) }
+    ensures reads { Gives (λ x. (stmt_view x.0, kinds x.1.now)) result
+        (read (pairs_end (place_of cx.entry) depth) (kinds tokens.now)) }
     ensures shorter { IfOk result (λ x. length x.1.now < length tokens.now) }
 {
     let one = ValueType::Pair;
@@ -231,7 +259,8 @@ fn triples_at<'t>(
     depth: u32,
     tokens: &'t [Token],
 ) -> Result<(Stmt, &'t [Token]), Fault>
-    ensures reads { Gives (λ x. (stmt_view x.0, kinds x.1.now)) result (read (triples_end (place_of cx.entry) depth) (kinds tokens.now)) }
+    ensures reads { Gives (λ x. (stmt_view x.0, kinds x.1.now)) result
+        (read (triples_end (place_of cx.entry) depth) (kinds tokens.now)) }
     ensures shorter { IfOk result (λ x. length x.1.now < length tokens.now) }
 {
     let one = ValueType::Triple;
@@ -249,7 +278,8 @@ fn triples_at<'t>(
 
 /// What follows `accept`.
 fn accept_end(tokens: &[Token]) -> Result<(Stmt, &[Token]), Fault>
-    ensures reads { Gives (λ x. (stmt_view x.0, kinds x.1.now)) result (read (ended Semicolon accept) (kinds tokens.now)) }
+    ensures reads { Gives (λ x. (stmt_view x.0, kinds x.1.now)) result
+        (read (ended Semicolon accept) (kinds tokens.now)) }
     ensures shorter { IfOk result (λ x. length x.1.now < length tokens.now) }
 {
     let rest = mark_at(Mark::Semicolon, tokens)?;
@@ -258,7 +288,8 @@ fn accept_end(tokens: &[Token]) -> Result<(Stmt, &[Token]), Fault>
 
 /// What follows `reject`.
 fn reject_end(tokens: &[Token]) -> Result<(Stmt, &[Token]), Fault>
-    ensures reads { Gives (λ x. (stmt_view x.0, kinds x.1.now)) result (read (ended Semicolon reject) (kinds tokens.now)) }
+    ensures reads { Gives (λ x. (stmt_view x.0, kinds x.1.now)) result
+        (read (ended Semicolon reject) (kinds tokens.now)) }
     ensures shorter { IfOk result (λ x. length x.1.now < length tokens.now) }
 {
     let rest = mark_at(Mark::Semicolon, tokens)?;
@@ -285,7 +316,8 @@ fn change_at<'t>(
     depth: u32,
     tokens: &'t [Token],
 ) -> Result<(Stmt, &'t [Token]), Fault>
-    ensures reads { Gives (λ x. (stmt_view x.0, kinds x.1.now)) result (read (change_form (place_of cx.entry) depth) (kinds tokens.now)) }
+    ensures reads { Gives (λ x. (stmt_view x.0, kinds x.1.now)) result
+        (read (change_form (place_of cx.entry) depth) (kinds tokens.now)) }
     ensures shorter { IfOk result (λ x. length x.1.now < length tokens.now) }
 {
     if is_name(tokens) {
@@ -317,7 +349,8 @@ pub(crate) fn plain_at<'t>(
     returned: &mut Returned,
     tokens: &'t [Token],
 ) -> Result<(Stmt, &'t [Token]), Fault>
-    ensures reads { Gives (λ x. (said (returned_of returned.new) (stmt_view x.0), kinds x.1.now)) result (read (plain_form (frame_of frame.entry) depth (returned_of returned.old)) (kinds tokens.now)) }
+    ensures reads { Gives (λ x. (said (returned_of returned.new) (stmt_view x.0), kinds x.1.now)) result
+        (read (plain_form (frame_of frame.entry) depth (returned_of returned.old)) (kinds tokens.now)) }
     ensures shorter { IfOk result (λ x. length x.1.now < length tokens.now) }
 {
     let cx = frame.statement(tokens);

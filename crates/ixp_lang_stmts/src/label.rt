@@ -69,7 +69,8 @@ fn range_at(low: u32, tokens: &[Token]) -> Result<(Label, &[Token]), Fault>
 
 /// One label of the case.
 fn label_at(case: Case, tokens: &[Token]) -> Result<(Label, &[Token]), Fault>
-    ensures reads { Gives (λ x. (x.0, kinds x.1.now)) result (read (label_form case.is_of_states case.place) (kinds tokens.now)) }
+    ensures reads { Gives (λ x. (x.0, kinds x.1.now)) result
+        (read (label_form case.is_of_states case.place) (kinds tokens.now)) }
     ensures shorter { IfOk result (λ x. length x.1.now < length tokens.now) }
 {
     let [first, rest @ ..] = tokens else {
@@ -97,7 +98,9 @@ fn label_round<'t>(
     labels: &mut Items<Label>,
     tokens: &'t [Token],
 ) -> Result<(bool, &'t [Token]), Fault>
-    ensures reads { Gives (λ x. (closing x.0 labels.new, kinds x.1.now)) result (read (list_round (λ before. label_form case.is_of_states case.place) labels.old) (kinds tokens.now)) }
+    ensures reads { Gives (λ x. (closing x.0 labels.new, kinds x.1.now)) result
+        (read (list_round (λ before. label_form case.is_of_states case.place) labels.old)
+        (kinds tokens.now)) }
     ensures shorter { IfOk result (λ x. length x.1.now < length tokens.now) }
 {
     let (label, rest) = label_at(case, tokens)?;
@@ -110,7 +113,8 @@ fn label_round<'t>(
 
 /// Labels, with commas between.
 fn labels_in(alloc: Global, case: Case, tokens: &[Token]) -> Result<(Items<Label>, &[Token]), Fault>
-    ensures reads { Gives (λ x. (x.0, kinds x.1.now)) result (read (listed (λ before. label_form case.is_of_states case.place)) (kinds tokens.now)) }
+    ensures reads { Gives (λ x. (x.0, kinds x.1.now)) result
+        (read (listed (λ before. label_form case.is_of_states case.place)) (kinds tokens.now)) }
     ensures shorter { IfOk result (λ x. length x.1.now < length tokens.now) }
 {
     let mut labels = Items::new(alloc);
@@ -130,7 +134,8 @@ pub(crate) fn labels_at(
     case: Case,
     tokens: &[Token],
 ) -> Result<(Items<Label>, &[Token]), Fault>
-    ensures reads { Gives (λ x. (x.0, kinds x.1.now)) result (read (labels_form case.is_of_states case.place) (kinds tokens.now)) }
+    ensures reads { Gives (λ x. (x.0, kinds x.1.now)) result
+        (read (labels_form case.is_of_states case.place) (kinds tokens.now)) }
     ensures shorter { IfOk result (λ x. length x.1.now < length tokens.now) }
 {
     let (labels, rest) = labels_in(alloc, case, tokens)?;

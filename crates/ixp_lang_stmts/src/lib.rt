@@ -1,7 +1,8 @@
 //! The reader of statements of filter texts (BIRD 2 User's Guide, chapter "Filters", control structures).
 //!
-//! [`block_end`] reads the statements of a block up to its closing brace, for the function or filter that a [`Frame`]
-//! tells, and notes in [`Returned`] what it returns. A fault says how many tokens are left at its place.
+//! [`block_end`] reads the statements of a block up to its closing brace, for the function or filter that a
+//! [`Frame`] tells, and notes in [`Returned`] what it returns. A fault says how many tokens are left at its
+//! place.
 #![tactic(auto)]
 
 mod body;

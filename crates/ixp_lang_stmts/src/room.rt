@@ -1,4 +1,5 @@
-//! Lists without spare room: most bodies have one statement or two, and a list that grows has room for four at least.
+//! Lists without spare room: most bodies have one statement or two, and a list that grows has room for four
+//! at least.
 ghost use Rattle.std.specs.Prelude.{◌≡◌};
 
 /// The list with its spare room given back.

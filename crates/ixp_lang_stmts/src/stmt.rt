@@ -5,8 +5,29 @@ ghost use Rattle.ixp_lang_tokens.specs.declared.token.Mark.TheVariants.{Colon};
 ghost use Rattle.ixp_lang_tokens.specs.Pieces.{is_mark, is_next};
 ghost use Rattle.ixp_lang_tokens.specs.Reading.{read, kinds, Gives};
 ghost use Rattle.ixp_lang_exprs.specs.Groups.{place_of};
-ghost use Rattle.ixp_lang_stmts.specs.Statements.{said, below, test_end, subject_end, branch_form, if_end, arms_form, case_end, case_body, statement_form, statements_of, body_form};
-ghost use Rattle.ixp_lang_stmts.specs.Views.{frame_of, returned_of, begins_with, behind_else, else_read, subject_view, arms_list};
+ghost use Rattle.ixp_lang_stmts.specs.Statements.{
+  said,
+  below,
+  test_end,
+  subject_end,
+  branch_form,
+  if_end,
+  arms_form,
+  case_end,
+  case_body,
+  statement_form,
+  statements_of,
+  body_form,
+};
+ghost use Rattle.ixp_lang_stmts.specs.Views.{
+  frame_of,
+  returned_of,
+  begins_with,
+  behind_else,
+  else_read,
+  subject_view,
+  arms_list,
+};
 
 use crate::body::{Frame, Returned, begins_statement, deep, no_branch};
 use crate::change::plain_at;
@@ -63,7 +84,8 @@ fn test_at<'t>(
     depth: u32,
     tokens: &'t [Token],
 ) -> Result<(Expr, &'t [Token]), Fault>
-    ensures reads { Gives (λ x. (expr_view x.0, kinds x.1.now)) result (read (test_end (place_of cx.entry) depth) (kinds tokens.now)) }
+    ensures reads { Gives (λ x. (expr_view x.0, kinds x.1.now)) result
+        (read (test_end (place_of cx.entry) depth) (kinds tokens.now)) }
     ensures shorter { IfOk result (λ x. length x.1.now < length tokens.now) }
 {
     let wanted = Wanted {
@@ -88,7 +110,8 @@ fn subject_at<'t>(
     depth: u32,
     tokens: &'t [Token],
 ) -> Result<(Subject, &'t [Token]), Fault>
-    ensures reads { Gives (λ x. (subject_view x.0, kinds x.1.now)) result (read (subject_end (place_of cx.entry) depth) (kinds tokens.now)) }
+    ensures reads { Gives (λ x. (subject_view x.0, kinds x.1.now)) result
+        (read (subject_end (place_of cx.entry) depth) (kinds tokens.now)) }
     ensures place { IfOk result (λ x. x.0.case.place ≡ cx.entry.statement) }
     ensures shorter { IfOk result (λ x. length x.1.now < length tokens.now) }
 {
@@ -115,7 +138,9 @@ fn statement<'t>(
     returned: &mut Returned,
     tokens: &'t [Token],
 ) -> Result<(Stmt, &'t [Token]), Fault>
-    ensures reads { Gives (λ x. (said (returned_of returned.new) (stmt_view x.0), kinds x.1.now)) result (read (statement_form (frame_of frame.entry) depth in_arm (returned_of returned.old)) (kinds tokens.now)) }
+    ensures reads { Gives (λ x. (said (returned_of returned.new) (stmt_view x.0), kinds x.1.now)) result
+        (read (statement_form (frame_of frame.entry) depth in_arm (returned_of returned.old))
+        (kinds tokens.now)) }
     ensures shorter { IfOk result (λ x. length x.1.now < length tokens.now) }
 {
     if let Some(behind) = after_mark(Mark::BlockOpen, tokens) {
@@ -154,7 +179,9 @@ fn if_at<'t>(
     returned: &mut Returned,
     tokens: &'t [Token],
 ) -> Result<(Stmt, &'t [Token]), Fault>
-    ensures reads { Gives (λ x. (said (returned_of returned.new) (stmt_view x.0), kinds x.1.now)) result (read (if_end (place_of cx.entry) (frame_of frame.entry) depth (below (frame_of frame.entry) depth) in_arm (returned_of returned.old)) (kinds tokens.now)) }
+    ensures reads { Gives (λ x. (said (returned_of returned.new) (stmt_view x.0), kinds x.1.now)) result
+        (read (if_end (place_of cx.entry) (frame_of frame.entry) depth
+        (below (frame_of frame.entry) depth) in_arm (returned_of returned.old)) (kinds tokens.now)) }
     ensures shorter { IfOk result (λ x. length x.1.now < length tokens.now) }
 {
     let (test, rest) = test_at(cx, depth, tokens)?;
@@ -172,7 +199,10 @@ fn else_at<'t>(
     returned: &mut Returned,
     tokens: &'t [Token],
 ) -> Result<(Vec<Stmt>, &'t [Token]), Fault>
-    ensures reads { Gives (λ x. (said (returned_of returned.new) (stmts_view x.0.items), kinds x.1.now)) result (else_read (frame_of frame.entry) (below (frame_of frame.entry) depth) in_arm (returned_of returned.old) (kinds tokens.now) (behind_else in_arm (kinds tokens.now))) }
+    ensures reads { Gives
+        (λ x. (said (returned_of returned.new) (stmts_view x.0.items), kinds x.1.now)) result
+        (else_read (frame_of frame.entry) (below (frame_of frame.entry) depth) in_arm
+        (returned_of returned.old) (kinds tokens.now) (behind_else in_arm (kinds tokens.now))) }
     ensures shorter { IfOk result (λ x. length x.1.now ≤ length tokens.now) }
 {
     let Some(behind) = after_else(in_arm, tokens) else {
@@ -190,7 +220,9 @@ fn case_at<'t>(
     returned: &mut Returned,
     tokens: &'t [Token],
 ) -> Result<(Stmt, &'t [Token]), Fault>
-    ensures reads { Gives (λ x. (said (returned_of returned.new) (stmt_view x.0), kinds x.1.now)) result (read (case_body (place_of cx.entry) depth (statement_form (frame_of frame.entry) depth) (returned_of returned.old)) (kinds tokens.now)) }
+    ensures reads { Gives (λ x. (said (returned_of returned.new) (stmt_view x.0), kinds x.1.now)) result
+        (read (case_body (place_of cx.entry) depth (statement_form (frame_of frame.entry) depth)
+        (returned_of returned.old)) (kinds tokens.now)) }
     ensures shorter { IfOk result (λ x. length x.1.now < length tokens.now) }
 {
     let (subject, rest) = subject_at(cx, depth, tokens)?;
@@ -209,7 +241,10 @@ fn statements<'t>(
     returned: &mut Returned,
     tokens: &'t [Token],
 ) -> Result<(Vec<Stmt>, &'t [Token]), Fault>
-    ensures reads { Gives (λ x. (said (returned_of returned.new) (stmts_view x.0.items), kinds x.1.now)) result (read (statements_of (statement_form (frame_of frame.entry) depth) in_arm (returned_of returned.old)) (kinds tokens.now)) }
+    ensures reads { Gives
+        (λ x. (said (returned_of returned.new) (stmts_view x.0.items), kinds x.1.now)) result
+        (read (statements_of (statement_form (frame_of frame.entry) depth) in_arm (returned_of returned.old))
+        (kinds tokens.now)) }
     ensures shorter { IfOk result (λ x. length x.1.now ≤ length tokens.now) }
 {
     let mut body = Vec::new(frame.alloc);
@@ -230,7 +265,9 @@ pub fn block_end<'t>(
     returned: &mut Returned,
     tokens: &'t [Token],
 ) -> Result<(Vec<Stmt>, &'t [Token]), Fault>
-    ensures reads { Gives (λ x. (said (returned_of returned.new) (stmts_view x.0.items), kinds x.1.now)) result (read (body_form (frame_of frame.entry) depth (returned_of returned.old)) (kinds tokens.now)) }
+    ensures reads { Gives
+        (λ x. (said (returned_of returned.new) (stmts_view x.0.items), kinds x.1.now)) result
+        (read (body_form (frame_of frame.entry) depth (returned_of returned.old)) (kinds tokens.now)) }
     ensures shorter { IfOk result (λ x. length x.1.now < length tokens.now) }
 {
     let (body, rest) = statements(frame, depth, false, returned, tokens)?;
@@ -247,7 +284,10 @@ fn branch<'t>(
     returned: &mut Returned,
     tokens: &'t [Token],
 ) -> Result<(Vec<Stmt>, &'t [Token]), Fault>
-    ensures reads { Gives (λ x. (said (returned_of returned.new) (stmts_view x.0.items), kinds x.1.now)) result (read (branch_form (frame_of frame.entry) (below (frame_of frame.entry) depth) in_arm (returned_of returned.old)) (kinds tokens.now)) }
+    ensures reads { Gives
+        (λ x. (said (returned_of returned.new) (stmts_view x.0.items), kinds x.1.now)) result
+        (read (branch_form (frame_of frame.entry) (below (frame_of frame.entry) depth) in_arm
+        (returned_of returned.old)) (kinds tokens.now)) }
     ensures shorter { IfOk result (λ x. length x.1.now < length tokens.now) }
 {
     if depth == 0 {
@@ -271,7 +311,9 @@ fn arms_at<'t>(
     returned: &mut Returned,
     tokens: &'t [Token],
 ) -> Result<(Arms, &'t [Token]), Fault>
-    ensures reads { Gives (λ x. (said (returned_of returned.new) (arms_list x.0.items), kinds x.1.now)) result (read (arms_form (statement_form (frame_of frame.entry) depth) case.is_of_states case.place (returned_of returned.old)) (kinds tokens.now)) }
+    ensures reads { Gives (λ x. (said (returned_of returned.new) (arms_list x.0.items), kinds x.1.now)) result
+        (read (arms_form (statement_form (frame_of frame.entry) depth) case.is_of_states case.place
+        (returned_of returned.old)) (kinds tokens.now)) }
     ensures shorter { IfOk result (λ x. length x.1.now ≤ length tokens.now) }
 {
     let mut arms = Vec::new(frame.alloc);
@@ -293,7 +335,10 @@ fn case_end<'t>(
     returned: &mut Returned,
     tokens: &'t [Token],
 ) -> Result<(Vec<Stmt>, &'t [Token]), Fault>
-    ensures reads { Gives (λ x. (said (returned_of returned.new) (stmts_view x.0.items), kinds x.1.now)) result (read (case_end (statement_form (frame_of frame.entry) depth) (returned_of returned.old)) (kinds tokens.now)) }
+    ensures reads { Gives
+        (λ x. (said (returned_of returned.new) (stmts_view x.0.items), kinds x.1.now)) result
+        (read (case_end (statement_form (frame_of frame.entry) depth) (returned_of returned.old))
+        (kinds tokens.now)) }
     ensures shorter { IfOk result (λ x. length x.1.now < length tokens.now) }
 {
     if let Some(rest) = after_word(b"else", tokens) {

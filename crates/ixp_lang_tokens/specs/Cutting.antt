@@ -162,7 +162,8 @@ piece_at text = piece_with text (behind_address text)
 abbrev pub Plain : List ℕ → ℕ → Type 0
 Plain text plain = (front rest : List ℕ) → text ≡ front ++ rest → plain < length rest → is_colon_text rest ≡ false
 
--- the same number behind the first token of the text: where that ends within the run of an address, none begins in the rest of the run
+-- the same number behind the first token of the text: where that ends within the run of an address, none
+-- begins in the rest of the run
 abbrev pub plain_behind : List ℕ → List ℕ → ℕ → ℕ
 plain_behind text after plain =
     if nat_le (length text) plain && not (begins_with (λ b. b == 46) text) && nat_lt (length (behind_run class.Address text)) (length after)

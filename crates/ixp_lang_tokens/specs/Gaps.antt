@@ -11,8 +11,9 @@ is_blank b = b == 32 || b == 9 || b == 13 || b == 10
 abbrev pub HasEnd : List ℕ → Type 0
 HasEnd text = (before behind : List ℕ) × (text ≡ before ++ (42 ∷ 47 ∷ behind))
 
--- One blank or one comment stands at the front of the text, and the rest is behind it. A comment goes from `#` to the end of
--- the line or of the text, or from `/*` to the first `*/` behind it; without that, `/*` begins none.
+-- One blank or one comment stands at the front of the text, and the rest is behind it. A comment goes from
+-- `#` to the end of the line or of the text, or from `/*` to the first `*/` behind it; without that, `/*`
+-- begins none.
 abbrev pub Blank : List ℕ → List ℕ → Type 0
 Blank text rest =
     ((b : ℕ) × (is_blank b ≡ true) × (text ≡ b ∷ rest))

@@ -1,8 +1,8 @@
 -- Grammars over tokens, as data: which tokens stand at the front of a text, and what they say.
 --
--- A grammar of `A` says a value of `A` of each of its texts. `sequence` hands the value of the first part on to the second,
--- so that what may follow can depend on what was said: on a name's type, say. What a text must be like, `Took`, knows
--- nothing of how a text is read.
+-- A grammar of `A` says a value of `A` of each of its texts. `sequence` hands the value of the first part on
+-- to the second, so that what may follow can depend on what was said: on a name's type, say. What a text must
+-- be like, `Took`, knows nothing of how a text is read.
 use Rattle.std.specs.Prelude.{◌≡◌, ◌⊎◌, ℕ, zero, suc, Bool, false, List, [], ◌∷◌, length, Option, Some, None}
 use Rattle.ixp_lang_tokens.specs.declared.fault.Cause.{Cause}
 use Rattle.ixp_lang_tokens.specs.declared.token.Kind.{Kind}

@@ -1,5 +1,5 @@
--- How the tokens of a grammar are read, from left to right: what is said and what is left, or the fault and how many
--- tokens are left at its place. Of two alternatives the first token decides.
+-- How the tokens of a grammar are read, from left to right: what is said and what is left, or the fault and
+-- how many tokens are left at its place. Of two alternatives the first token decides.
 use Rattle.std.specs.Prelude.{◌≡◌, ℕ, zero, suc, Bool, false, ◌||◌, ◌&&◌, not, List, [], ◌∷◌, length, map, Option, Some, None, Result, Ok, Err, if◌then◌else◌}
 use Rattle.std.specs.Option.{is_some}
 pub use Rattle.ixp_num.specs.Reading.{◌>>=◌}
@@ -18,7 +18,8 @@ Read A = Result (A × List Kind) (Cause × ℕ)
 abbrev pub stop : {A : Type 0} → Cause → List Kind → Read A
 stop cause tokens = Err (cause, length tokens)
 
--- a text of the grammar may begin with these tokens, as far as the first one tells; what is barred is refused there
+-- a text of the grammar may begin with these tokens, as far as the first one tells; what is barred is refused
+-- there
 abbrev pub begins : {A : Type 0} → Grammar A → List Kind → Bool
 begins (gives v) tokens = false
 begins (takes class) [] = false
@@ -63,7 +64,7 @@ read (here f) tokens = read (f (length tokens)) tokens
 abbrev pub kinds : List Token → List Kind
 kinds tokens = map (λ t. t.kind) tokens
 
--- the program's answer is what is read; want of memory is free
+-- the program's answer is what is read; running out of memory is free
 abbrev pub Gives : {X A : Type 0} → (X → A × List Kind) → Result X Fault → Read A → Type 0
 Gives view (Ok x) r = r ≡ Ok (view x)
 Gives view (Err NoMemory) r = Unit {0}

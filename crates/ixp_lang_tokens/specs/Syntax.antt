@@ -1,4 +1,5 @@
--- Syntax alone: what a grammar asks of tokens, but for what it checks of what they say (types, names, the ranges of numbers).
+-- Syntax alone: what a grammar asks of tokens, but for what it checks of what they say (types, names, the
+-- ranges of numbers).
 use Rattle.std.specs.Prelude.{◌≡◌, ◌⊎◌, ℕ, zero, suc, pred, Bool, false, ◌||◌, ◌&&◌, not, List, [], ◌∷◌, ◌++◌, length, Option, Some, None, if◌then◌else◌}
 use Rattle.std.specs.Option.{is_some}
 use Rattle.ixp_lang_tokens.specs.declared.fault.Cause.{Cause}
@@ -6,8 +7,9 @@ use Rattle.ixp_lang_tokens.specs.declared.fault.Cause.TheVariants.{Unexpected}
 use Rattle.ixp_lang_tokens.specs.declared.token.Kind.{Kind}
 use Rattle.ixp_lang_tokens.specs.Grammars.{Step, onward, done, Grammar, gives, takes, sequence, choice, rounds, checks, bars, unless, here}
 
--- A place: its number, and the tokens from there on. In a text it is how many these are; in one that is only thought to go on
--- otherwise, places keep the numbers that they have in the text. Token by token it goes down, to 0.
+-- A place: its number, and the tokens from there on. In a text it is how many these are; in one that is only
+-- thought to go on otherwise, places keep the numbers that they have in the text. Token by token it goes
+-- down, to 0.
 abbrev pub Spot : Type 0
 Spot = ℕ × List Kind
 
@@ -32,8 +34,8 @@ Fine (bars next cause f) v x y = (next x.1 ≡ false) × Fine f v x y
 Fine (unless next f) v x y = (next x.1 ≡ false) × Fine f v x y
 Fine (here f) v x y = Fine (f x.0) v x y
 
--- Such tokens stand there, and each check passes too: the same as `Took`, but that the places of a text that is only thought to go
--- on otherwise keep the numbers that they have in the text.
+-- Such tokens stand there, and each check passes too: the same as `Took`, but that the places of a text that
+-- is only thought to go on otherwise keep the numbers that they have in the text.
 abbrev pub Lawful : {A : Type 0} → Grammar A → A → Spot → Spot → Type 0
 Lawful (gives w) v x y = (v ≡ w) × (x ≡ y)
 Lawful (takes class) v (p, []) y = ⊥
@@ -115,8 +117,9 @@ IsFineText {A} g number tokens = (v : A) × (last : ℕ) × Fine g v (spot numbe
 abbrev pub IsLawfulText : {A : Type 0} → Grammar A → ℕ → List Kind → Type 0
 IsLawfulText {A} g number tokens = (v : A) × (last : ℕ) × Lawful g v (spot number tokens) (spot last [])
 
--- With so many tokens left no text goes on: what is before the place is the front of a text of `Longer`, and with the token that
--- stands there, or without one where none is left, it is none of a text of `Text`. Mostly both are the same texts.
+-- With so many tokens left no text goes on: what is before the place is the front of a text of `Longer`, and
+-- with the token that stands there, or without one where none is left, it is none of a text of `Text`. Mostly
+-- both are the same texts.
 pub record StopsAt (Longer Text : List Kind → Type 0) (tokens : List Kind) (left : ℕ) : Type 0 where
   pub front : List Kind
   pub rest : List Kind
@@ -126,8 +129,8 @@ pub record StopsAt (Longer Text : List Kind → Type 0) (tokens : List Kind) (le
   pub no_more : (token : Kind) (others more : List Kind) → rest ≡ token ∷ others → ¬ (Text (front ++ token ∷ more))
   pub not_in : ¬ (Text tokens)
 
--- A check refuses a reading where `rest` is next. What is before that place is, with the token that stands there, the front of no
--- lawful text, whatever is behind it; and the tokens are none themselves.
+-- A check refuses a reading where `rest` is next. What is before that place is, with the token that stands
+-- there, the front of no lawful text, whatever is behind it; and the tokens are none themselves.
 pub record RefusedAt {A : Type 0} (g : Grammar A) (tokens : List Kind) : Type 0 where
   pub front : List Kind
   pub rest : List Kind

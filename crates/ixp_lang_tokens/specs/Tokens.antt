@@ -1,4 +1,5 @@
--- The tokens of a filter text (BIRD 2 User's Guide, "Configuration" and "Filters"), and how many bytes are left where each begins.
+-- The tokens of a filter text (BIRD 2 User's Guide, "Configuration" and "Filters"), and how many bytes are
+-- left where each begins.
 use Rattle.std.specs.Prelude.{◌≡◌, ◌≢◌, ◌⊎◌, ◌≤◌, ◌<◌, ◌+◌, ℕ, Bool, true, false, ◌==◌, List, [], ◌∷◌, ◌++◌, length, map, Result, Ok, Err, if◌then◌else◌}
 use Rattle.std.specs.List.{list_all}
 use Rattle.ixp_num.specs.declared.addr.Addr.{Addr}
@@ -63,8 +64,8 @@ AreDotted text =
     (a b c d : List ℕ) × (text ≡ a ++ (46 ∷ (b ++ (46 ∷ (c ++ (46 ∷ d))))))
     × AreDigits a × AreDigits b × AreDigits c × AreDigits d
 
--- An IPv6 address stands at the front, well formed or not: the longest run of hexadecimal digits, `:` and `.`, if it has two
--- colons or more and doesn't begin with a dot.
+-- An IPv6 address stands at the front, well formed or not: the longest run of hexadecimal digits, `:` and
+-- `.`, if it has two colons or more and doesn't begin with a dot.
 abbrev pub ColonRun : List ℕ → List ℕ → List ℕ → Type 0
 ColonRun text run rest = Run class.Address text run rest × (begins_with (λ b. b == 46) text ≡ false) × (2 ≤ colons run)
 
@@ -81,8 +82,8 @@ NoAddress text = (run rest : List ℕ) → ¬ (AddressRun text run rest)
 abbrev pub LengthRun : List ℕ → List ℕ → List ℕ → Type 0
 LengthRun text run rest = (behind digits : List ℕ) × (text ≡ 47 ∷ behind) × (run ≡ 47 ∷ digits) × (0 < length digits) × Run class.Digit behind digits rest
 
--- How a text is cut: a piece of this shape stands at its front, and the rest is behind it. A string's piece is what stands
--- between the quotes; of a mark the shape says all, and the piece is empty.
+-- How a text is cut: a piece of this shape stands at its front, and the rest is behind it. A string's piece
+-- is what stands between the quotes; of a mark the shape says all, and the piece is empty.
 abbrev pub Cut : Shape → List ℕ → List ℕ → List ℕ → Type 0
 Cut shape.Address text piece rest = AddressRun text piece rest × ((run behind : List ℕ) → ¬ (LengthRun rest run behind))
 Cut shape.Prefix text piece rest = (addr mid run : List ℕ) × AddressRun text addr mid × LengthRun mid run rest × (piece ≡ addr ++ run)

@@ -1,4 +1,5 @@
--- The words of the language: those of this profile, and those of BIRD 2 (User's Guide, "Filters") that it leaves out.
+-- The words of the language: those of this profile, and those of BIRD 2 (User's Guide, "Filters") that it
+-- leaves out.
 use Rattle.std.specs.Prelude.{ℕ, List, [], ◌∷◌, ◌++◌, codes}
 
 abbrev pub profile_words : List (List ℕ)

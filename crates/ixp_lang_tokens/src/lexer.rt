@@ -51,7 +51,8 @@ fn kind_of(alloc: Global, shape: Shape, text: &[u8]) -> Result<Kind, AllocError>
     }
 }
 
-/// The token at the front of a text, and what is behind it. Where more than `plain` bytes are left, it is no IPv6 address.
+/// The token at the front of a text, and what is behind it. Where more than `plain` bytes are left, it is no
+/// IPv6 address.
 fn token_at(alloc: Global, bytes: &[u8], plain: usize) -> Result<(Kind, &[u8]), AllocError>
     requires some { 0 < length bytes.now }
     requires known { plain < length bytes.now → is_colon_text bytes.now ≡ false }
@@ -85,7 +86,8 @@ pub fn tokens_of(alloc: Global, bytes: &[u8]) -> Result<Vec<Token>, AllocError>
 /// How many bytes of a text are left where the token begins before which there are so many others.
 pub fn left_at(bytes: &[u8], others: usize) -> usize
     requires { (tokens : List Placed) × Tokens bytes.now tokens × (others < length tokens) }
-    ensures { (tokens : List Placed) → Tokens bytes.now tokens → IfSome (slice_get tokens others) (λ t. result ≡ t.left) }
+    ensures { (tokens : List Placed) → Tokens bytes.now tokens
+        → IfSome (slice_get tokens others) (λ t. result ≡ t.left) }
 {
     let mut rest = behind_gap(bytes);
     let mut plain = rest.len();

@@ -1,12 +1,12 @@
 //! The tokens of a filter text.
 //!
 //! [`tokens_of`] cuts any bytes into the tokens of the profile of BIRD 2's language (User's Guide, chapter
-//! "Configuration"). It refuses nothing: where a byte begins no token, or a number or an address has no value, a token
-//! that no text has stands there and is the last. So a reader meets an earlier fault of its own first.
-//! Which tokens a text has is `Tokens` of `specs/Tokens.antt`: a text is cut into pieces, each as long as it can be, and
-//! each piece says a token. A text has one such list ([`one_list`]), and what is written so is read again
-//! ([`written_tokens`]).
-//! The readers of one token, from which all others are made, stand here too.
+//! "Configuration"). It refuses nothing: where a byte begins no token, or a number or an address has no
+//! value, a token that no text has stands there and is the last. So a reader meets an earlier fault of its
+//! own first. Which tokens a text has is `Tokens` of `specs/Tokens.antt`: a text is cut into pieces, each as
+//! long as it can be, and each piece says a token. A text has one such list ([`one_list`]), and what is
+//! written so is read again ([`written_tokens`]). The readers of one token, from which all others are made,
+//! stand here too.
 #![tactic(auto)]
 
 mod boxed;

@@ -1,8 +1,30 @@
 //! How a text is cut into pieces, each as long as it can be.
 ghost use Rattle.std.specs.Prelude.{◌≡◌, ◌==◌, false, [], ◌∷◌, ◌≤◌, ◌<◌, length, IfSome, option_map};
 ghost use Rattle.ixp_lang_tokens.specs.Bytes.{begins_with};
-ghost use Rattle.ixp_lang_tokens.specs.Cutting.{behind_digits, behind_number, behind_dotted, has_two_colons, is_colon_text, behind_address};
-ghost use Rattle.ixp_lang_tokens.specs.Cutting.{plain_behind, double_mark, bracket, point, operator, single_mark, piece, mark_piece, text_piece, plain_piece, address_piece, piece_at, run_of, behind_run};
+ghost use Rattle.ixp_lang_tokens.specs.Cutting.{
+  behind_digits,
+  behind_number,
+  behind_dotted,
+  has_two_colons,
+  is_colon_text,
+  behind_address,
+};
+ghost use Rattle.ixp_lang_tokens.specs.Cutting.{
+  plain_behind,
+  double_mark,
+  bracket,
+  point,
+  operator,
+  single_mark,
+  piece,
+  mark_piece,
+  text_piece,
+  plain_piece,
+  address_piece,
+  piece_at,
+  run_of,
+  behind_run,
+};
 
 use crate::Mark;
 use crate::runs::{Class, before, behind_run, is_digit, is_letter, run_of};
@@ -100,8 +122,8 @@ fn is_colon_text(bytes: &[u8]) -> bool
     }
 }
 
-/// What is behind an address of either family, be it well formed or not. Where more than `plain` bytes are left, the first
-/// isn't an IPv6 address.
+/// What is behind an address of either family, be it well formed or not. Where more than `plain` bytes are
+/// left, the first isn't an IPv6 address.
 #[tactic(auto, unfolding(crate::specs::Cutting::behind_address))]
 fn behind_address(bytes: &[u8], plain: usize) -> Option<&[u8]>
     requires { plain < length bytes.now → is_colon_text bytes.now ≡ false }
@@ -222,7 +244,8 @@ fn text_piece(bytes: &[u8]) -> Piece<'_>
 }
 
 fn run_piece(shape: Shape, class: Class, bytes: &[u8]) -> Piece<'_>
-    ensures { piece result.shape result.text.now result.rest.now ≡ piece shape (run_of class bytes.now) (behind_run class bytes.now) }
+    ensures { piece result.shape result.text.now result.rest.now
+        ≡ piece shape (run_of class bytes.now) (behind_run class bytes.now) }
 {
     Piece {
         shape,
@@ -253,7 +276,8 @@ fn plain_piece(bytes: &[u8]) -> Piece<'_>
 
 /// The address, or the prefix where a slash and digits are behind it.
 fn address_piece<'a>(bytes: &'a [u8], behind: &'a [u8]) -> Piece<'a>
-    ensures { piece result.shape result.text.now result.rest.now ≡ address_piece bytes.now behind.now (behind_number 47 behind.now) }
+    ensures { piece result.shape result.text.now result.rest.now
+        ≡ address_piece bytes.now behind.now (behind_number 47 behind.now) }
 {
     match behind_number(b'/', behind) {
         Some(rest) => Piece {
@@ -290,8 +314,8 @@ fn begins_with_dot(bytes: &[u8]) -> bool
     }
 }
 
-/// No IPv6 address begins where more bytes than this are left, once the text's first token was read, and what is `after` it
-/// comes next. So no run of digits and dots is looked through again at each of its numbers.
+/// No IPv6 address begins where more bytes than this are left, once the text's first token was read, and what
+/// is `after` it comes next. So no run of digits and dots is looked through again at each of its numbers.
 pub(crate) fn plain_behind(bytes: &[u8], after: &[u8], plain: usize) -> usize
     ensures { result ≡ plain_behind bytes.now after.now plain }
 {

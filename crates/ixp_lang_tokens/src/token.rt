@@ -109,7 +109,8 @@ impl Mark {
     }
 }
 
-/// What a token is. All that is larger than a word of memory stands on the heap, since most tokens are marks and numbers.
+/// What a token is. All that is larger than a word of memory stands on the heap, since most tokens are marks
+/// and numbers.
 #[derive(Drop)]
 pub enum Kind {
     /// A name that is no keyword.
@@ -140,7 +141,8 @@ impl Kind {
     }
 }
 
-/// A token of a text. It doesn't keep its place, since only a fault asks for one: [`crate::left_at`] finds it.
+/// A token of a text. It doesn't keep its place, since only a fault asks for one: [`crate::left_at`] finds
+/// it.
 #[derive(Drop)]
 pub struct Token {
     pub kind: Kind,

@@ -22,8 +22,8 @@ use Rattle.ixp_machine.specs.declared.question.AskFault.TheVariants as fault
 use Rattle.ixp_machine.specs.declared.question.Query.{Query}
 use Rattle.ixp_machine.specs.declared.question.Query.TheVariants.{Member as OfMember, Contacts, Rules, Use, Ixf}
 
--- A member's own rows are shown to it and to the staff, the use of addresses to the staff alone. The export is for everybody, and
--- asks for no key.
+-- A member's own rows are shown to it and to the staff, the use of addresses to the staff alone. The export
+-- is for everybody, and asks for no key.
 abbrev pub right_asked : Query → Option Right
 right_asked (OfMember m) = Some (right.Member m)
 right_asked (Contacts m) = Some (right.Member m)

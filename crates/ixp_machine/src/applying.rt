@@ -40,7 +40,8 @@ impl Keeper for NoStore {
     }
 }
 
-/// Makes the edit of an owner's request that is accepted, and keeps its number. Where memory runs out, the state is as before.
+/// Makes the edit of an owner's request that is accepted, and keeps its number. Where memory runs out, the
+/// state is as before.
 pub(crate) fn apply_for(
     alloc: Global,
     state: &mut State,
@@ -62,7 +63,8 @@ pub(crate) fn apply_for(
     }
 }
 
-/// Makes the edit of a request that is accepted, and keeps its number. Where memory runs out, the state is as before.
+/// Makes the edit of a request that is accepted, and keeps its number. Where memory runs out, the state is as
+/// before.
 pub fn apply(alloc: Global, state: &mut State, entry: Entry) -> Result<Reply, AllocError>
     requires valid { ValidState state.old }
     requires accepted { verdict state.old entry ≡ Accepted }

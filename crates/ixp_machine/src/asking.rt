@@ -6,7 +6,14 @@ ghost use Rattle.ixp_registry.specs.Keys.{rules_key, member_key, vlan_key};
 ghost use Rattle.ixp_registry.specs.declared.kind.Kind.TheVariants as kind;
 ghost use Rattle.ixp_registry.specs.declared.refusal.RowKey.TheVariants as key;
 ghost use Rattle.ixp_machine_edits.specs.Tests.{unless_there};
-ghost use Rattle.ixp_machine.specs.Questions.{right_asked, unless_known, refusal_without, ask_refusal, IsAnswer, IsFault};
+ghost use Rattle.ixp_machine.specs.Questions.{
+  right_asked,
+  unless_known,
+  refusal_without,
+  ask_refusal,
+  IsAnswer,
+  IsFault,
+};
 
 use crate::question::{Answer, AskFault, Query};
 use crate::rights::has_right;
@@ -77,7 +84,8 @@ fn unless_member(registry: &Registry, member: u32) -> Option<Refusal>
 }
 
 fn unless_vlan(registry: &Registry, vlan: u32) -> Option<Refusal>
-    ensures { result ≡ unless_there (find vlan_key (vlan ∷ []) registry.now.vlans) kind.Vlans (key.Number vlan) }
+    ensures { result ≡ unless_there (find vlan_key (vlan ∷ []) registry.now.vlans) kind.Vlans
+        (key.Number vlan) }
 {
     if has_vlan(&registry.vlans, vlan) {
         return None;

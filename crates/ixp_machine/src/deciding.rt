@@ -41,7 +41,8 @@ fn decide_of(
     entry: &Entry,
 ) -> Result<Decision, AllocError>
     requires { ValidState state.now }
-    ensures decision { IfOk result (Says entry.now.number (verdict_of state.now owner entry.now.number entry.now.edit)) }
+    ensures decision { IfOk result
+        (Says entry.now.number (verdict_of state.now owner entry.now.number entry.now.edit)) }
     ensures owner { IfOk result (IsFor (Some owner)) }
 {
     let right = right_of(&entry.edit);

@@ -1,5 +1,19 @@
 //! Numbers of requests are kept, and their edits made.
-ghost use Rattle.std.specs.Prelude.{◌≡◌, ◌≤◌, ◌<◌, ◌^◌, [], ◌∷◌, length, None, Ok, OnOk, OnErr, IfSome, IfNone};
+ghost use Rattle.std.specs.Prelude.{
+  ◌≡◌,
+  ◌≤◌,
+  ◌<◌,
+  ◌^◌,
+  [],
+  ◌∷◌,
+  length,
+  None,
+  Ok,
+  OnOk,
+  OnErr,
+  IfSome,
+  IfNone,
+};
 ghost use Rattle.ixp_machine_effects.specs.Changes.{with_change};
 ghost use Rattle.ixp_machine_effects.specs.Saving.{Saves};
 ghost use Rattle.ixp_machine.specs.Keeping.{trimmed};
@@ -67,7 +81,8 @@ fn carry_known<P: Keeper>(
     ensures row { OnOk result (row.new ≡ noted number row.old) }
     ensures no_change { OnErr result (registry.new ≡ registry.old) }
     ensures no_row { OnErr result (row.new ≡ row.old) }
-    ensures saved { Saves batch.now (P.table keeper.old) (P.table keeper.new) (P.faults keeper.old) (P.faults keeper.new) result }
+    ensures saved { Saves batch.now (P.table keeper.old) (P.table keeper.new) (P.faults keeper.old)
+        (P.faults keeper.new) result }
     ensures counts { P.faults keeper.old ≤ P.faults keeper.new }
 {
     let key = number.number;
@@ -100,7 +115,8 @@ fn carry_new<P: Keeper>(
     ensures kept { OnOk result (kept.new ≡ noted_for owner number kept.old) }
     ensures no_change { OnErr result (registry.new ≡ registry.old) }
     ensures no_row { OnErr result (kept.new ≡ kept.old) }
-    ensures saved { Saves batch.now (P.table keeper.old) (P.table keeper.new) (P.faults keeper.old) (P.faults keeper.new) result }
+    ensures saved { Saves batch.now (P.table keeper.old) (P.table keeper.new) (P.faults keeper.old)
+        (P.faults keeper.new) result }
     ensures counts { P.faults keeper.old ≤ P.faults keeper.new }
 {
     let mut numbers = Table::new(alloc);
@@ -135,7 +151,8 @@ pub(crate) fn carry<P: Keeper>(
     ensures kept { OnOk result (kept.new ≡ noted_for owner number kept.old) }
     ensures no_change { OnErr result (registry.new ≡ registry.old) }
     ensures no_row { OnErr result (kept.new ≡ kept.old) }
-    ensures saved { Saves batch.now (P.table keeper.old) (P.table keeper.new) (P.faults keeper.old) (P.faults keeper.new) result }
+    ensures saved { Saves batch.now (P.table keeper.old) (P.table keeper.new) (P.faults keeper.old)
+        (P.faults keeper.new) result }
     ensures counts { P.faults keeper.old ≤ P.faults keeper.new }
 {
     let Some(at) = place_of(kept.as_slice(), owner) else {

@@ -14,7 +14,8 @@ pub(crate) fn kept_number<'a>(
     owner: &Owner,
     number: u64,
 ) -> Option<&'a KeptNumber>
-    ensures { option_map (λ k. k.now) result ≡ find kept_key (number ∷ []) (kept_of kept.entry.now owner.now).numbers }
+    ensures { option_map (λ k. k.now) result
+        ≡ find kept_key (number ∷ []) (kept_of kept.entry.now owner.now).numbers }
 {
     match kept.find(owner) {
         Some(row) => row.numbers.find(&number),
@@ -32,8 +33,8 @@ pub(crate) fn floor_of(kept: &Table<KeptOwner>, owner: &Owner) -> u64
     }
 }
 
-/// How many edits had been accepted right after the owner's request with the number: the present count where the number is
-/// below the floor, and None where it is neither kept nor below it.
+/// How many edits had been accepted right after the owner's request with the number: the present count where
+/// the number is below the floor, and None where it is neither kept nor below it.
 pub fn place_of(state: &State, owner: &Owner, number: u64) -> Option<u64>
     ensures { result ≡ place_of state.now owner.now number }
 {

@@ -1,6 +1,12 @@
 //! An edit keeps what the types of its fields keep.
 ghost use Rattle.std.specs.Prelude.{◌≡◌, true};
-ghost use Rattle.ixp_machine_edits.specs.declared.edit.Edit.TheVariants.{PutContact, AddPort, AddInterface, PutIrr, PutOrigins};
+ghost use Rattle.ixp_machine_edits.specs.declared.edit.Edit.TheVariants.{
+  PutContact,
+  AddPort,
+  AddInterface,
+  PutIrr,
+  PutOrigins,
+};
 ghost use Rattle.ixp_machine_edits.specs.Edits.{IsLawful, IsPublicList, SettingsFit};
 ghost use Rattle.ixp_registry.specs.Widths.{IsNumber, owner_number};
 ghost use Rattle.ixp_machine_steps.specs.Requests.{has_family};

@@ -1,10 +1,11 @@
-//! The machine of edits: what is decided of a request, the state after one that is accepted, after how many accepted ones
-//! one stands, and what questions are answered.
+//! The machine of edits: what is decided of a request, the state after one that is accepted, after how many
+//! accepted ones one stands, and what questions are answered.
 //!
-//! `specs/Steps.antt` of `ixp_machine_steps` says what is decided of a request and which state comes after it,
-//! `specs/Questions.antt` here what a question is answered. [`apply`] changes a state in place. Where requests are stored,
-//! [`prepare`] and [`carry_out`] do so, with the store's batch between them: it is stored and the state changed, or neither.
-//! [`request`] decides requests to a valid state one after the other, makes each that is accepted, and leaves a valid state.
+//! `specs/Steps.antt` of `ixp_machine_steps` says what is decided of a request and which state comes after
+//! it, `specs/Questions.antt` here what a question is answered. [`apply`] changes a state in place. Where
+//! requests are stored, [`prepare`] and [`carry_out`] do so, with the store's batch between them: it is
+//! stored and the state changed, or neither. [`request`] decides requests to a valid state one after the
+//! other, makes each that is accepted, and leaves a valid state.
 #![tactic(auto)]
 
 mod applying;

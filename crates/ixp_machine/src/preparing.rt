@@ -43,7 +43,8 @@ fn kept_entry(alloc: Global, entry: &Entry, place: u64) -> Result<KeptNumber, Al
     })
 }
 
-/// Makes a request of the owner ready that is accepted: all that takes memory but a place in a table, with the state as it is.
+/// Makes a request of the owner ready that is accepted: all that takes memory but a place in a table, with
+/// the state as it is.
 pub fn prepare(
     alloc: Global,
     state: &State,
@@ -84,7 +85,8 @@ pub fn carry_out<P: Keeper>(
     ensures ok { OnOk result (state.new ≡ spec.prepared state.old prepared) }
     ensures reply { IfOk result (λ r. r.number ≡ prepared.kept.number) }
     ensures err { OnErr result (state.new ≡ state.old) }
-    ensures saved { Saves batch.now (P.table keeper.old) (P.table keeper.new) (P.faults keeper.old) (P.faults keeper.new) result }
+    ensures saved { Saves batch.now (P.table keeper.old) (P.table keeper.new) (P.faults keeper.old)
+        (P.faults keeper.new) result }
     ensures counts { P.faults keeper.old ≤ P.faults keeper.new }
 {
     let number = prepared.kept.number;

@@ -1,4 +1,5 @@
-//! The numbers of an edit fit into their types. A proof knows that of a number once it is read, and so they are read here.
+//! The numbers of an edit fit into their types. A proof knows that of a number once it is read, and so they
+//! are read here.
 ghost use Rattle.std.specs.List.{AllByRecursion};
 
 use ixp_machine_edits::NewRule;

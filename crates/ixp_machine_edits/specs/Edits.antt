@@ -94,7 +94,8 @@ IsPublicList (BogonAs xs) = Ascends range_key xs × AllByRecursion RangeFits xs
 IsPublicList (Transit xs) = Ascends asn_key xs × AllByRecursion AsnFits xs
 IsPublicList (Roas xs) = Ascends roa_key xs × AllByRecursion RoaFits xs
 
--- What the type of an edit keeps: numbers of 32 bits, bytes, lists that ascend; and the prefixes of a list are of its family.
+-- What the type of an edit keeps: numbers of 32 bits, bytes, lists that ascend; and the prefixes of a list
+-- are of its family.
 abbrev pub IsLawful : Edit → Type 0
 IsLawful (AddMember number asn name) = IsNumber number × AsnFits asn × AreBytes name
 IsLawful (RenameMember member name) = AreBytes name

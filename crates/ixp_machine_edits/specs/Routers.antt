@@ -39,8 +39,8 @@ blackhole_is_host r q = if_there q.blackhole true (λ b. is_host_in r.vlans q.vl
 abbrev pub holds_blackhole : Router → Interface → Bool
 holds_blackhole q i = if_there q.blackhole false (λ b. has_addr b i)
 
--- X15: bounds beyond the family's lengths, too many communities, or a blackhole address for AS 65535, whose communities are the
--- well-known ones (RFC 1997)
+-- X15: bounds beyond the family's lengths, too many communities, or a blackhole address for AS 65535, whose
+-- communities are the well-known ones (RFC 1997)
 abbrev pub is_beyond_bounds : Router → Bool
 is_beyond_bounds q = not (has_bounds q && nat_le q.max_comms 1000 && not (is_some q.blackhole && q.asn.0 == 65535))
 
@@ -87,7 +87,8 @@ with_settings s q = record q { asn = s.asn; id = s.id; low = s.low; high = s.hig
 abbrev pub set_routers : List ℕ → RouterSettings → List Router → List Router
 set_routers handle s qs = changed router_key handle (with_settings s) qs
 
--- Of the router with its new settings. Its own address, which stays, counts among those that its blackhole address may not be.
+-- Of the router with its new settings. Its own address, which stays, counts among those that its blackhole
+-- address may not be.
 abbrev pub settings_tests : Registry → List Router → Router → Tests
 settings_tests r after q =
     refused (is_no_router_asn r q.asn.0) (AsnReserved q.asn)

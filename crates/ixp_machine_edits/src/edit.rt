@@ -41,8 +41,9 @@ pub enum PublicList {
     Roas(Sorted<Roa>),
 }
 
-/// What is to be changed. `Add` makes a row and `Drop` deletes it; the other kinds replace a row, a field or a list, and
-/// `Put` and `SetAddress` make it where it isn't there. Texts may be any bytes: whether they are lawful is tested.
+/// What is to be changed. `Add` makes a row and `Drop` deletes it; the other kinds replace a row, a field or
+/// a list, and `Put` and `SetAddress` make it where it isn't there. Texts may be any bytes: whether they are
+/// lawful is tested.
 #[derive(Debug, Drop)]
 pub enum Edit {
     AddMember {

@@ -5,7 +5,8 @@ ghost use Rattle.ixp_registry.specs.Valid.{Valid};
 ghost use Rattle.ixp_machine_edits.specs.declared.edit.Edit.{Edit};
 ghost use Rattle.ixp_machine_edits.specs.Edits.{next, refusal, IsLawful};
 
-/// An edit of a valid registry that isn't refused leaves a valid registry, its limits and its weight included.
+/// An edit of a valid registry that isn't refused leaves a valid registry, its limits and its weight
+/// included.
 pub fn edits_keep_validity()
     ensures { (r : Registry) (e : Edit) → Valid r → IsLawful e → refusal r e ≡ None → Valid (next r e) }
 {}

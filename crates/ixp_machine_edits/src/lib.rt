@@ -1,8 +1,9 @@
-//! Edits of a registry: why each is refused, what each does, and that an accepted one leaves the registry valid.
+//! Edits of a registry: why each is refused, what each does, and that an accepted one leaves the registry
+//! valid.
 //!
-//! `specs/` has a file for each subject: for each kind of edits of it the tests, in the order of their codes, and what an
-//! accepted edit makes of the table. `specs/Edits.antt` puts them together: the refusal of an edit is what the first test
-//! that fails says, and `next` is the registry after an edit that isn't refused.
+//! `specs/` has a file for each subject: for each kind of edits of it the tests, in the order of their codes,
+//! and what an accepted edit makes of the table. `specs/Edits.antt` puts them together: the refusal of an
+//! edit is what the first test that fails says, and `next` is the registry after an edit that isn't refused.
 #![tactic(auto)]
 
 mod edit;

@@ -62,7 +62,8 @@ pub(crate) fn set_router(
     handle: &Name,
     settings: RouterSettings,
 ) -> Result<TableChange<Router, Name>, AllocError>
-    ensures { IfOk result (λ c. changed_rows router_key (λ k. k) c routers.now ≡ set_routers handle.now settings routers.now) }
+    ensures { IfOk result
+        (λ c. changed_rows router_key (λ k. k) c routers.now ≡ set_routers handle.now settings routers.now) }
 {
     let Some(found) = routers.find(handle) else {
         return Ok(TableChange::Keep);
@@ -77,7 +78,8 @@ pub(crate) fn put_irr(
     family: Family,
     prefixes: Sorted<Prefix>,
 ) -> TableChange<IrrList, (u32, Family)>
-    ensures { changed_rows irr_key (λ k. k.0 ∷ version_of k.1 ∷ []) result lists.now ≡ with_prefixes member family prefixes lists.now }
+    ensures { changed_rows irr_key (λ k. k.0 ∷ version_of k.1 ∷ []) result lists.now
+        ≡ with_prefixes member family prefixes lists.now }
 {
     if prefixes.as_slice().first().is_none() {
         return TableChange::Take((member, family));
@@ -95,7 +97,8 @@ pub(crate) fn put_origins(
     family: Family,
     asns: Sorted<Asn>,
 ) -> TableChange<OriginList, (u32, Family)>
-    ensures { changed_rows origins_key (λ k. k.0 ∷ version_of k.1 ∷ []) result lists.now ≡ with_origins member family asns lists.now }
+    ensures { changed_rows origins_key (λ k. k.0 ∷ version_of k.1 ∷ []) result lists.now
+        ≡ with_origins member family asns lists.now }
 {
     if asns.as_slice().first().is_none() {
         return TableChange::Take((member, family));
@@ -136,7 +139,8 @@ pub(crate) fn set_rules(
     rules: &[NewRule],
 ) -> Result<TableChange<RuleList, u32>, AllocError>
     requires { length rules.now < 2 ^ 32 - 1 }
-    ensures { IfOk result (λ c. changed_rows rules_key (λ k. k ∷ []) c lists.now ≡ with_rules member rules.now lists.now) }
+    ensures { IfOk result
+        (λ c. changed_rows rules_key (λ k. k ∷ []) c lists.now ≡ with_rules member rules.now lists.now) }
 {
     if rules.first().is_none() {
         return Ok(TableChange::Take(member));

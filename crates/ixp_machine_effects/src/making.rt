@@ -16,14 +16,16 @@ use std::alloc::Global;
 
 /// Stores the batch, or leaves the store as it is.
 fn store<P: Keeper>(alloc: Global, keeper: &mut P, batch: &[Change]) -> Result<(), KeepFault>
-    ensures saved { Saves batch.now (P.table keeper.old) (P.table keeper.new) (P.faults keeper.old) (P.faults keeper.new) result }
+    ensures saved { Saves batch.now (P.table keeper.old) (P.table keeper.new) (P.faults keeper.old)
+        (P.faults keeper.new) result }
     ensures counts { P.faults keeper.old ≤ P.faults keeper.new }
 {
     keeper.commit(alloc, batch)
 }
 
-/// Puts a row in and stores the batch, or does neither. Where the row's key is there already, the row is put in once the batch
-/// is stored, since that does not allocate; else it is taken out again where the batch isn't stored.
+/// Puts a row in and stores the batch, or does neither. Where the row's key is there already, the row is put
+/// in once the batch is stored, since that does not allocate; else it is taken out again where the batch
+/// isn't stored.
 fn put_row<R: Keyed + Drop, P: Keeper>(
     alloc: Global,
     table: &mut Table<R>,
@@ -35,7 +37,8 @@ where
     R::Key: Drop,
     ensures ok { OnOk result (table.new ≡ put R.Row.key_of row table.old) }
     ensures err { OnErr result (table.new ≡ table.old) }
-    ensures saved { Saves batch.now (P.table keeper.old) (P.table keeper.new) (P.faults keeper.old) (P.faults keeper.new) result }
+    ensures saved { Saves batch.now (P.table keeper.old) (P.table keeper.new) (P.faults keeper.old)
+        (P.faults keeper.new) result }
     ensures counts { P.faults keeper.old ≤ P.faults keeper.new }
 {
     let key = row.key(alloc)?;
@@ -66,7 +69,8 @@ where
     R::Key: Drop,
     ensures ok { OnOk result (table.new ≡ changed_rows R.Row.key_of R.Row.named change table.old) }
     ensures err { OnErr result (table.new ≡ table.old) }
-    ensures saved { Saves batch.now (P.table keeper.old) (P.table keeper.new) (P.faults keeper.old) (P.faults keeper.new) result }
+    ensures saved { Saves batch.now (P.table keeper.old) (P.table keeper.new) (P.faults keeper.old)
+        (P.faults keeper.new) result }
     ensures counts { P.faults keeper.old ≤ P.faults keeper.new }
 {
     match change {
@@ -89,7 +93,8 @@ fn change_public<P: Keeper>(
 ) -> Result<(), KeepFault>
     ensures ok { OnOk result (public.new ≡ with_public list public.old) }
     ensures err { OnErr result (public.new ≡ public.old) }
-    ensures saved { Saves batch.now (P.table keeper.old) (P.table keeper.new) (P.faults keeper.old) (P.faults keeper.new) result }
+    ensures saved { Saves batch.now (P.table keeper.old) (P.table keeper.new) (P.faults keeper.old)
+        (P.faults keeper.new) result }
     ensures counts { P.faults keeper.old ≤ P.faults keeper.new }
 {
     store(alloc, keeper, batch)?;
@@ -107,7 +112,8 @@ pub fn make<P: Keeper>(
 ) -> Result<(), KeepFault>
     ensures ok { OnOk result (registry.new ≡ with_change registry.old change) }
     ensures err { OnErr result (registry.new ≡ registry.old) }
-    ensures saved { Saves batch.now (P.table keeper.old) (P.table keeper.new) (P.faults keeper.old) (P.faults keeper.new) result }
+    ensures saved { Saves batch.now (P.table keeper.old) (P.table keeper.new) (P.faults keeper.old)
+        (P.faults keeper.new) result }
     ensures counts { P.faults keeper.old ≤ P.faults keeper.new }
 {
     match change {

@@ -29,7 +29,8 @@ pub(crate) fn rename_member(
     member: u32,
     name: Items<u8>,
 ) -> Result<TableChange<Member, u32>, AllocError>
-    ensures { IfOk result (λ c. changed_rows member_key (λ k. k ∷ []) c members.now ≡ renamed member name members.now) }
+    ensures { IfOk result
+        (λ c. changed_rows member_key (λ k. k ∷ []) c members.now ≡ renamed member name members.now) }
 {
     let Some(found) = members.find(&member) else {
         return Ok(TableChange::Keep);
@@ -45,7 +46,8 @@ pub(crate) fn move_status(
     member: u32,
     to: Status,
 ) -> Result<TableChange<Member, u32>, AllocError>
-    ensures { IfOk result (λ c. changed_rows member_key (λ k. k ∷ []) c members.now ≡ with_status member to members.now) }
+    ensures { IfOk result
+        (λ c. changed_rows member_key (λ k. k ∷ []) c members.now ≡ with_status member to members.now) }
 {
     let Some(found) = members.find(&member) else {
         return Ok(TableChange::Keep);
@@ -61,7 +63,8 @@ pub(crate) fn set_macro(
     member: u32,
     as_macro: Items<u8>,
 ) -> Result<TableChange<Member, u32>, AllocError>
-    ensures { IfOk result (λ c. changed_rows member_key (λ k. k ∷ []) c members.now ≡ with_macro member as_macro members.now) }
+    ensures { IfOk result
+        (λ c. changed_rows member_key (λ k. k ∷ []) c members.now ≡ with_macro member as_macro members.now) }
 {
     let Some(found) = members.find(&member) else {
         return Ok(TableChange::Keep);

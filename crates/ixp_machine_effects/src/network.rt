@@ -29,7 +29,8 @@ pub(crate) fn assign_port(
     port: u32,
     member: u32,
 ) -> Result<TableChange<Port, u32>, AllocError>
-    ensures { IfOk result (λ c. changed_rows port_key (λ k. k ∷ []) c ports.now ≡ assigned port member ports.now) }
+    ensures { IfOk result
+        (λ c. changed_rows port_key (λ k. k ∷ []) c ports.now ≡ assigned port member ports.now) }
 {
     let Some(found) = ports.find(&port) else {
         return Ok(TableChange::Keep);
@@ -85,7 +86,9 @@ pub(crate) fn set_address(
     family: Family,
     address: IfAddr,
 ) -> Result<TableChange<Interface, u32>, AllocError>
-    ensures { IfOk result (λ c. changed_rows interface_key (λ k. k ∷ []) c interfaces.now ≡ with_address interface family address interfaces.now) }
+    ensures { IfOk result
+        (λ c. changed_rows interface_key (λ k. k ∷ []) c interfaces.now
+        ≡ with_address interface family address interfaces.now) }
 {
     let Some(found) = interfaces.find(&interface) else {
         return Ok(TableChange::Keep);

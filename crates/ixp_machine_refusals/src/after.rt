@@ -25,9 +25,12 @@ use ixp_registry::{
 /// With the member, which is there, in the status. `before` is the weight that there is, here and below.
 pub fn weight_with_status(registry: &Registry, before: u64, member: u32, to: Status) -> u64
     requires valid { Valid registry.now }
-    requires weight { before ≡ weight registry.now.members registry.now.interfaces registry.now.routers registry.now.irr }
+    requires weight { before
+        ≡ weight registry.now.members registry.now.interfaces registry.now.routers registry.now.irr }
     requires there { is_some (find member_key (member ∷ []) registry.now.members) ≡ true }
-    ensures { result ≡ weight (with_status member to registry.now.members) registry.now.interfaces registry.now.routers registry.now.irr }
+    ensures { result ≡ weight
+        (with_status member to registry.now.members) registry.now.interfaces registry.now.routers
+        registry.now.irr }
 {
     let part = Part::OfMember(member);
     let connected = is_connected(to);
@@ -46,9 +49,11 @@ pub fn weight_with_list(
     prefixes: &[Prefix],
 ) -> u64
     requires valid { Valid registry.now }
-    requires weight { before ≡ weight registry.now.members registry.now.interfaces registry.now.routers registry.now.irr }
+    requires weight { before
+        ≡ weight registry.now.members registry.now.interfaces registry.now.routers registry.now.irr }
     requires few { length prefixes.now ≤ 300000 }
-    ensures { result ≡ weight registry.now.members registry.now.interfaces registry.now.routers (with_prefixes member family prefixes.now registry.now.irr) }
+    ensures { result ≡ weight registry.now.members registry.now.interfaces registry.now.routers
+        (with_prefixes member family prefixes.now registry.now.irr) }
 {
     let part = Part::OfMember(member);
     let length = prefixes.len() as u64;
@@ -72,9 +77,11 @@ pub fn weight_with_address(
     address: &IfAddr,
 ) -> u64
     requires valid { Valid registry.now }
-    requires weight { before ≡ weight registry.now.members registry.now.interfaces registry.now.routers registry.now.irr }
+    requires weight { before
+        ≡ weight registry.now.members registry.now.interfaces registry.now.routers registry.now.irr }
     requires there { find interface_key (number ∷ []) registry.now.interfaces ≡ Some interface.now }
-    ensures { result ≡ weight registry.now.members (with_address number family address.now registry.now.interfaces) registry.now.routers registry.now.irr }
+    ensures { result ≡ weight registry.now.members
+        (with_address number family address.now registry.now.interfaces) registry.now.routers registry.now.irr }
 {
     let more = addressed_weight(registry, interface, family, address);
     before + more - interface_weight(registry, Change::Nothing, interface)
@@ -88,9 +95,11 @@ pub fn weight_without_interface(
     interface: &Interface,
 ) -> u64
     requires valid { Valid registry.now }
-    requires weight { before ≡ weight registry.now.members registry.now.interfaces registry.now.routers registry.now.irr }
+    requires weight { before
+        ≡ weight registry.now.members registry.now.interfaces registry.now.routers registry.now.irr }
     requires there { find interface_key (number ∷ []) registry.now.interfaces ≡ Some interface.now }
-    ensures { result ≡ weight registry.now.members (without_interface number registry.now.interfaces) registry.now.routers registry.now.irr }
+    ensures { result ≡ weight registry.now.members
+        (without_interface number registry.now.interfaces) registry.now.routers registry.now.irr }
 {
     before - interface_weight(registry, Change::Nothing, interface)
 }
@@ -100,8 +109,10 @@ fn shifted(registry: &Registry, before: u64, new: NewRouters) -> u64
     requires valid { Valid registry.now }
     requires weight { before ≤ 8000000 }
     requires small { new.more ≤ 2 }
-    requires enough { part_weight registry.now Nothing (InVlan new.vlan) registry.now.interfaces ≤ before + part_weight registry.now (Routers new) (InVlan new.vlan) registry.now.interfaces }
-    ensures { result + part_weight registry.now Nothing (InVlan new.vlan) registry.now.interfaces ≡ before + part_weight registry.now (Routers new) (InVlan new.vlan) registry.now.interfaces }
+    requires enough { part_weight registry.now Nothing (InVlan new.vlan) registry.now.interfaces
+        ≤ before + part_weight registry.now (Routers new) (InVlan new.vlan) registry.now.interfaces }
+    ensures { result + part_weight registry.now Nothing (InVlan new.vlan) registry.now.interfaces
+        ≡ before + part_weight registry.now (Routers new) (InVlan new.vlan) registry.now.interfaces }
 {
     let part = Part::InVlan(new.vlan);
     let old = part_weight(registry, Change::Nothing, part);
@@ -112,9 +123,11 @@ fn shifted(registry: &Registry, before: u64, new: NewRouters) -> u64
 /// With the router, whose handle no router has.
 pub fn weight_with_router(registry: &Registry, before: u64, router: &Router) -> u64
     requires valid { Valid registry.now }
-    requires weight { before ≡ weight registry.now.members registry.now.interfaces registry.now.routers registry.now.irr }
+    requires weight { before
+        ≡ weight registry.now.members registry.now.interfaces registry.now.routers registry.now.irr }
     requires new { find router_key router.now.handle registry.now.routers ≡ None }
-    ensures { result ≡ weight registry.now.members registry.now.interfaces (with_router router.now registry.now.routers) registry.now.irr }
+    ensures { result ≡ weight registry.now.members registry.now.interfaces
+        (with_router router.now registry.now.routers) registry.now.irr }
 {
     let more = router_weight(router);
     let new = NewRouters {
@@ -142,9 +155,11 @@ pub fn weight_with_settings(
     settings: &RouterSettings,
 ) -> u64
     requires valid { Valid registry.now }
-    requires weight { before ≡ weight registry.now.members registry.now.interfaces registry.now.routers registry.now.irr }
+    requires weight { before
+        ≡ weight registry.now.members registry.now.interfaces registry.now.routers registry.now.irr }
     requires there { find router_key handle.now registry.now.routers ≡ Some router.now }
-    ensures { result ≡ weight registry.now.members registry.now.interfaces (set_routers handle.now settings.now registry.now.routers) registry.now.irr }
+    ensures { result ≡ weight registry.now.members registry.now.interfaces
+        (set_routers handle.now settings.now registry.now.routers) registry.now.irr }
 {
     let more = settings_weight(settings);
     let less = router_weight(router);
@@ -165,9 +180,11 @@ pub fn weight_without_router(
     router: &Router,
 ) -> u64
     requires valid { Valid registry.now }
-    requires weight { before ≡ weight registry.now.members registry.now.interfaces registry.now.routers registry.now.irr }
+    requires weight { before
+        ≡ weight registry.now.members registry.now.interfaces registry.now.routers registry.now.irr }
     requires there { find router_key handle.now registry.now.routers ≡ Some router.now }
-    ensures { result ≡ weight registry.now.members registry.now.interfaces (without_router handle.now registry.now.routers) registry.now.irr }
+    ensures { result ≡ weight registry.now.members registry.now.interfaces
+        (without_router handle.now registry.now.routers) registry.now.irr }
 {
     let less = router_weight(router);
     let new = NewRouters {

@@ -4,7 +4,15 @@ ghost use Rattle.ixp_registry.specs.Valid.{Valid};
 ghost use Rattle.ixp_registry.specs.Weight.{vlan_weight, list_length};
 ghost use Rattle.ixp_machine_edits.specs.Interfaces.{addressed};
 ghost use Rattle.ixp_machine_refusals.specs.declared.change.Change.TheVariants.{Nothing};
-ghost use Rattle.ixp_machine_refusals.specs.Changes.{connected_by, vlan_weight_by, list_length_by, address_weight_by, column_weight_by, weight_by, IsSmall};
+ghost use Rattle.ixp_machine_refusals.specs.Changes.{
+  connected_by,
+  vlan_weight_by,
+  list_length_by,
+  address_weight_by,
+  column_weight_by,
+  weight_by,
+  IsSmall,
+};
 
 use ixp_num::Family;
 use ixp_registry::{IfAddr, Interface, Registry, is_member_connected, list_length, vlan_weight};
@@ -91,7 +99,8 @@ fn address_weight(
 ) -> u64
     requires valid { Valid registry.now }
     requires change { IsSmall change }
-    ensures weight { result ≡ address_weight_by registry.now.routers registry.now.irr change member vlan address.now }
+    ensures weight { result
+        ≡ address_weight_by registry.now.routers registry.now.irr change member vlan address.now }
     ensures small { result ≤ 10200000 }
 {
     if address.rs && address.irr {
@@ -112,7 +121,8 @@ fn column_weight(
 ) -> u64
     requires valid { Valid registry.now }
     requires change { IsSmall change }
-    ensures weight { result ≡ column_weight_by registry.now.routers registry.now.irr change member vlan address.now }
+    ensures weight { result
+        ≡ column_weight_by registry.now.routers registry.now.irr change member vlan address.now }
     ensures small { result ≤ 10200000 }
 {
     match address {

@@ -5,7 +5,13 @@ ghost use Rattle.ixp_machine_edits.specs.Edits.{next, refusal};
 ghost use Rattle.ixp_machine_edits.specs.Lists.{prefixes_in, put_irr_tests, with_prefixes};
 ghost use Rattle.ixp_machine_edits.specs.Members.{with_status};
 ghost use Rattle.ixp_machine_edits.specs.Interfaces.{with_address, without_interface};
-ghost use Rattle.ixp_machine_edits.specs.Routers.{add_router_tests, new_router, with_router, set_routers, without_router};
+ghost use Rattle.ixp_machine_edits.specs.Routers.{
+  add_router_tests,
+  new_router,
+  with_router,
+  set_routers,
+  without_router,
+};
 ghost use Rattle.ixp_machine_edits.specs.Tests.{first_refused};
 ghost use Rattle.ixp_registry.specs.Weight.{weight};
 ghost use Rattle.ixp_registry.specs.Weight.{weight_of};
@@ -22,7 +28,9 @@ use std::alloc::{AllocError, Global};
 fn with_status(registry: &Registry, before: u64, member: u32, to: Status) -> u64
     requires valid { Valid registry.now }
     requires weight { before ≡ weight_of registry.now }
-    ensures { result ≡ weight (with_status member to registry.now.members) registry.now.interfaces registry.now.routers registry.now.irr }
+    ensures { result ≡ weight
+        (with_status member to registry.now.members) registry.now.interfaces registry.now.routers
+        registry.now.irr }
 {
     if registry.members.find(&member).is_none() {
         return before;
@@ -39,7 +47,9 @@ fn with_address(
 ) -> u64
     requires valid { Valid registry.now }
     requires weight { before ≡ weight_of registry.now }
-    ensures { result ≡ weight registry.now.members (with_address interface family address.now registry.now.interfaces) registry.now.routers registry.now.irr }
+    ensures { result ≡ weight registry.now.members
+        (with_address interface family address.now registry.now.interfaces) registry.now.routers
+        registry.now.irr }
 {
     match registry.interfaces.find(&interface) {
         Some(row) => weight_with_address(registry, before, interface, row, family, address),
@@ -50,7 +60,8 @@ fn with_address(
 fn without_interface(registry: &Registry, before: u64, interface: u32) -> u64
     requires valid { Valid registry.now }
     requires weight { before ≡ weight_of registry.now }
-    ensures { result ≡ weight registry.now.members (without_interface interface registry.now.interfaces) registry.now.routers registry.now.irr }
+    ensures { result ≡ weight registry.now.members
+        (without_interface interface registry.now.interfaces) registry.now.routers registry.now.irr }
 {
     match registry.interfaces.find(&interface) {
         Some(row) => weight_without_interface(registry, before, interface, row),
@@ -61,7 +72,8 @@ fn without_interface(registry: &Registry, before: u64, interface: u32) -> u64
 fn with_settings(registry: &Registry, before: u64, handle: &Name, settings: &RouterSettings) -> u64
     requires valid { Valid registry.now }
     requires weight { before ≡ weight_of registry.now }
-    ensures { result ≡ weight registry.now.members registry.now.interfaces (set_routers handle.now settings.now registry.now.routers) registry.now.irr }
+    ensures { result ≡ weight registry.now.members registry.now.interfaces
+        (set_routers handle.now settings.now registry.now.routers) registry.now.irr }
 {
     match registry.routers.find(handle) {
         Some(row) => weight_with_settings(registry, before, handle, row, settings),
@@ -72,7 +84,8 @@ fn with_settings(registry: &Registry, before: u64, handle: &Name, settings: &Rou
 fn without_router(registry: &Registry, before: u64, handle: &Name) -> u64
     requires valid { Valid registry.now }
     requires weight { before ≡ weight_of registry.now }
-    ensures { result ≡ weight registry.now.members registry.now.interfaces (without_router handle.now registry.now.routers) registry.now.irr }
+    ensures { result ≡ weight registry.now.members registry.now.interfaces
+        (without_router handle.now registry.now.routers) registry.now.irr }
 {
     match registry.routers.find(handle) {
         Some(row) => weight_without_router(registry, before, handle, row),
@@ -92,8 +105,12 @@ fn with_router(
 ) -> Result<u64, AllocError>
     requires valid { Valid registry.now }
     requires weight { before ≡ weight_of registry.now }
-    requires unrefused { first_refused (add_router_tests registry.now (new_router handle.now vlan family address.now settings.now)) ≡ None }
-    ensures { IfOk result (λ w. w ≡ weight registry.now.members registry.now.interfaces (with_router (new_router handle.now vlan family address.now settings.now) registry.now.routers) registry.now.irr) }
+    requires unrefused { first_refused
+        (add_router_tests registry.now (new_router handle.now vlan family address.now settings.now)) ≡ None }
+    ensures { IfOk result
+        (λ w. w ≡ weight registry.now.members registry.now.interfaces
+        (with_router (new_router handle.now vlan family address.now settings.now) registry.now.routers)
+        registry.now.irr) }
 {
     let handle = Name::new(alloc, handle)?;
     let router = Router {
@@ -122,7 +139,8 @@ fn with_list(
     requires valid { Valid registry.now }
     requires weight { before ≡ weight_of registry.now }
     requires unrefused { first_refused (put_irr_tests registry.now member family prefixes.now) ≡ None }
-    ensures { result ≡ weight registry.now.members registry.now.interfaces registry.now.routers (with_prefixes member family prefixes.now registry.now.irr) }
+    ensures { result ≡ weight registry.now.members registry.now.interfaces registry.now.routers
+        (with_prefixes member family prefixes.now registry.now.irr) }
 {
     weight_with_list(registry, before, member, family, prefixes)
 }

@@ -8,7 +8,15 @@ ghost use Rattle.ixp_registry.specs.Keys.{port_key};
 ghost use Rattle.ixp_registry.specs.Lookups.{overlap, listed, vlan_prefixes};
 ghost use Rattle.ixp_registry.specs.Valid.{Valid};
 ghost use Rattle.ixp_registry.specs.Words.{is_of, is_vlan_length, overlaps_any};
-ghost use Rattle.ixp_machine_edits.specs.Interfaces.{new_vlan, holder_of, add_vlan_tests, drop_vlan_tests, add_interface_tests, set_address_tests, drop_interface_tests};
+ghost use Rattle.ixp_machine_edits.specs.Interfaces.{
+  new_vlan,
+  holder_of,
+  add_vlan_tests,
+  drop_vlan_tests,
+  add_interface_tests,
+  set_address_tests,
+  drop_interface_tests,
+};
 ghost use Rattle.ixp_machine_edits.specs.Tests.{first_refused, refused, in_use_by};
 ghost use Rattle.ixp_registry.specs.declared.kind.Kind.TheVariants as kind;
 ghost use Rattle.ixp_registry.specs.Weight.{weight_of};
@@ -64,7 +72,8 @@ fn vlans_overlap(vlan: &Vlan, v4: &Option<Prefix>, v6: &Option<Prefix>) -> bool
 }
 
 fn overlapping(vlans: &[Vlan], v4: &Option<Prefix>, v6: &Option<Prefix>) -> Option<u32>
-    ensures { result ≡ option_map (λ u. u.number) (find (λ u. list_any (overlaps_any (vlan_prefixes u)) (listed v4.now ++ listed v6.now)) vlans.now) }
+    ensures { result ≡ option_map (λ u. u.number)
+        (find (λ u. list_any (overlaps_any (vlan_prefixes u)) (listed v4.now ++ listed v6.now)) vlans.now) }
 {
     let found = vlans.iter().find(|u| vlans_overlap(u, v4, v6));
     match found {
@@ -105,7 +114,8 @@ pub(crate) fn add_vlan(
     v4: &Option<Prefix>,
     v6: &Option<Prefix>,
 ) -> Option<Refusal>
-    ensures { result ≡ first_refused (add_vlan_tests registry.now (new_vlan number name.now tag v4.now v6.now)) }
+    ensures { result ≡ first_refused
+        (add_vlan_tests registry.now (new_vlan number name.now tag v4.now v6.now)) }
 {
     if !is_label(name) {
         return Some(bad_text(TextField::Name));
@@ -140,7 +150,8 @@ fn interface_in(interfaces: &[Interface], vlan: u32) -> Option<u32>
 }
 
 fn unless_router_in(routers: &[Router], vlan: u32) -> Option<Refusal>
-    ensures { result ≡ in_use_by kind.Routers (λ q. key.Handle q.handle) (find (λ q. q.vlan == vlan) routers.now) }
+    ensures { result ≡ in_use_by kind.Routers (λ q. key.Handle q.handle)
+        (find (λ q. q.vlan == vlan) routers.now) }
 {
     let found = routers.iter().find(|q| q.vlan == vlan);
     match found {
@@ -174,7 +185,8 @@ fn holder_of(port: &Port) -> Option<u32>
 }
 
 fn unless_port_of(ports: &Table<Port>, port: u32, member: u32) -> Option<Refusal>
-    ensures { result ≡ if_there (row_of port_key (port ∷ []) ports.now) None (λ p. refused (not (p.member == member)) (PortTaken (holder_of p))) }
+    ensures { result ≡ if_there (row_of port_key (port ∷ []) ports.now) None
+        (λ p. refused (not (p.member == member)) (PortTaken (holder_of p))) }
 {
     let port = ports.find(&port)?;
     if port.member == member {

@@ -1,11 +1,12 @@
 //! Why an edit of a registry is refused, and what an accepted one does to the counts of the registry.
 //!
-//! Each kind of edits has a function with its tests, in the order of their codes; the first that fails says why. No test looks at
-//! the lists of other members: the weight of the registry and its number of prefixes are supplied.
+//! Each kind of edits has a function with its tests, in the order of their codes; the first that fails says
+//! why. No test looks at the lists of other members: the weight of the registry and its number of prefixes
+//! are supplied.
 //!
-//! The weight is how many rows of prefix lists all sessions read together. It is kept as a count, as the number of prefixes
-//! is: [`weight_after`] and [`prefixes_after`] give them after an edit from those that there are, and look only at the
-//! interfaces that the edit is about.
+//! The weight is how many rows of prefix lists all sessions read together. It is kept as a count, as the
+//! number of prefixes is: [`weight_after`] and [`prefixes_after`] give them after an edit from those that
+//! there are, and look only at the interfaces that the edit is about.
 #![tactic(auto)]
 
 mod after;

@@ -4,7 +4,14 @@ ghost use Rattle.std.specs.List.{list_all, position};
 ghost use Rattle.ixp_registry.specs.declared.refusal.Refusal.TheVariants.{BadRule};
 ghost use Rattle.ixp_registry.specs.Valid.{Valid};
 ghost use Rattle.ixp_registry.specs.Words.{is_action_of, pattern_has_bounds, range_ascends, roa_has_bounds};
-ghost use Rattle.ixp_machine_edits.specs.Lists.{is_bad, prefixes_in, put_irr_tests, put_origins_tests, set_rules_tests, put_public_tests};
+ghost use Rattle.ixp_machine_edits.specs.Lists.{
+  is_bad,
+  prefixes_in,
+  put_irr_tests,
+  put_origins_tests,
+  set_rules_tests,
+  put_public_tests,
+};
 ghost use Rattle.ixp_machine_edits.specs.Tests.{first_refused, refused, beyond};
 ghost use Rattle.ixp_registry.specs.Weight.{weight_of};
 

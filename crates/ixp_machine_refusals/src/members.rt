@@ -4,7 +4,14 @@ ghost use Rattle.std.specs.List.{list_any};
 ghost use Rattle.ixp_registry.specs.Lookups.{is_left};
 ghost use Rattle.ixp_registry.specs.Valid.{Valid};
 ghost use Rattle.ixp_registry.specs.Words.{is_reserved};
-ghost use Rattle.ixp_machine_edits.specs.Members.{add_member_tests, rename_member_tests, move_status_tests, set_macro_tests, put_contact_tests, drop_contact_tests};
+ghost use Rattle.ixp_machine_edits.specs.Members.{
+  add_member_tests,
+  rename_member_tests,
+  move_status_tests,
+  set_macro_tests,
+  put_contact_tests,
+  drop_contact_tests,
+};
 ghost use Rattle.ixp_machine_edits.specs.Tests.{first_refused, in_use_by};
 ghost use Rattle.ixp_registry.specs.declared.kind.Kind.TheVariants as kind;
 ghost use Rattle.ixp_registry.specs.declared.refusal.RowKey.TheVariants as key;
@@ -87,7 +94,8 @@ fn is_left(status: Status) -> bool
 
 /// The first interface of the member stands against it, where it is to leave.
 fn unless_left(interfaces: &[Interface], member: u32, to: Status) -> Option<Refusal>
-    ensures { result ≡ in_use_by kind.Interfaces (λ i. key.Number i.number) (find (λ i. is_left to && i.member == member) interfaces.now) }
+    ensures { result ≡ in_use_by kind.Interfaces (λ i. key.Number i.number)
+        (find (λ i. is_left to && i.member == member) interfaces.now) }
 {
     let found = interfaces
         .iter()
@@ -144,7 +152,8 @@ pub(crate) fn put_contact(
     mail: &[u8],
     role: &[u8],
 ) -> Option<Refusal>
-    ensures { result ≡ first_refused (put_contact_tests registry.now member place name.now mail.now role.now) }
+    ensures { result ≡ first_refused
+        (put_contact_tests registry.now member place name.now mail.now role.now) }
 {
     if !has_member(&registry.members, member) {
         return Some(unknown(Kind::Members, member));

@@ -17,8 +17,8 @@ use ixp_machine_edits::Edit;
 use ixp_registry::{Refusal, Registry};
 use std::alloc::{AllocError, Global};
 
-/// Why the edit is refused; None where it isn't. `weight` and `prefixes` are the registry's. Only the edits of route servers take
-/// memory.
+/// Why the edit is refused; None where it isn't. `weight` and `prefixes` are the registry's. Only the edits
+/// of route servers take memory.
 pub fn refusal(
     alloc: Global,
     registry: &Registry,

@@ -1,6 +1,12 @@
 //! Why edits of switches and ports are refused.
 ghost use Rattle.std.specs.Prelude.{◌≡◌, ◌==◌, find, option_map};
-ghost use Rattle.ixp_machine_edits.specs.Ports.{add_switch_tests, drop_switch_tests, add_port_tests, assign_port_tests, idle_port_tests};
+ghost use Rattle.ixp_machine_edits.specs.Ports.{
+  add_switch_tests,
+  drop_switch_tests,
+  add_port_tests,
+  assign_port_tests,
+  idle_port_tests,
+};
 ghost use Rattle.ixp_machine_edits.specs.Tests.{first_refused};
 
 use crate::refusing::{bad_text, exists, full, in_use, out_of_bounds, unknown};

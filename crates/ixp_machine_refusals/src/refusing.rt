@@ -1,6 +1,13 @@
 //! What a test says where it fails.
 ghost use Rattle.std.specs.Prelude.{◌≡◌, ◌<◌, ◌^◌, nat_le, not, option_map};
-ghost use Rattle.ixp_registry.specs.declared.refusal.Refusal.TheVariants.{Unknown, BadText, Taken, InUse, Exists, BadRule};
+ghost use Rattle.ixp_registry.specs.declared.refusal.Refusal.TheVariants.{
+  Unknown,
+  BadText,
+  Taken,
+  InUse,
+  Exists,
+  BadRule,
+};
 ghost use Rattle.ixp_registry.specs.declared.refusal.RowKey.TheVariants as key;
 ghost use Rattle.ixp_registry.specs.declared.kind.Kind.TheVariants as kind;
 ghost use Rattle.ixp_machine_edits.specs.Tests.{full, beyond, too_heavy};

@@ -1,5 +1,19 @@
 //! Why edits of route servers are refused.
-ghost use Rattle.std.specs.Prelude.{◌≡◌, ◌==◌, ◌||◌, ◌&&◌, [], ◌∷◌, None, Some, true, IfOk, length, find, option_map};
+ghost use Rattle.std.specs.Prelude.{
+  ◌≡◌,
+  ◌==◌,
+  ◌||◌,
+  ◌&&◌,
+  [],
+  ◌∷◌,
+  None,
+  Some,
+  true,
+  IfOk,
+  length,
+  find,
+  option_map,
+};
 ghost use Rattle.std.specs.List.{list_any};
 ghost use Rattle.std.specs.Option.{is_some};
 ghost use Rattle.ixp_num_tables.specs.Tables.{find as row_of};
@@ -14,7 +28,20 @@ ghost use Rattle.ixp_registry.specs.Valid.{Valid};
 ghost use Rattle.ixp_registry.specs.Words.{has_bounds};
 ghost use Rattle.ixp_plan.specs.Checks.{router_with};
 ghost use Rattle.ixp_plan.specs.Holders.{uses};
-ghost use Rattle.ixp_machine_edits.specs.Routers.{is_no_router_asn, blackhole_has_family, blackhole_is_host, holds_blackhole, is_beyond_bounds, new_router, with_settings, add_router_tests, set_router_tests, settings_tests, set_routers, drop_router_tests};
+ghost use Rattle.ixp_machine_edits.specs.Routers.{
+  is_no_router_asn,
+  blackhole_has_family,
+  blackhole_is_host,
+  holds_blackhole,
+  is_beyond_bounds,
+  new_router,
+  with_settings,
+  add_router_tests,
+  set_router_tests,
+  settings_tests,
+  set_routers,
+  drop_router_tests,
+};
 ghost use Rattle.ixp_machine_edits.specs.Tests.{first_refused, taken_by};
 ghost use Rattle.ixp_machine_refusals.specs.Columns.{placed_tests, address_tests, last_tests};
 ghost use Rattle.ixp_registry.specs.Weight.{weight_of};
@@ -119,7 +146,8 @@ fn unless_used(registry: &Registry, addr: &Addr) -> Option<Refusal>
 }
 
 fn unless_blackhole_used(registry: &Registry, router: &Router) -> Option<Refusal>
-    ensures { result ≡ taken_by kind.Routers (λ p. key.Handle p.handle) (find (λ p. has_blackhole router.now p.addr) registry.now.routers) }
+    ensures { result ≡ taken_by kind.Routers (λ p. key.Handle p.handle)
+        (find (λ p. has_blackhole router.now p.addr) registry.now.routers) }
 {
     let routers = registry.routers.as_slice();
     let found = routers.iter().find(|p| has_blackhole(router, &p.addr));
@@ -175,7 +203,9 @@ fn address_refusal(registry: &Registry, weight: u64, router: &Router) -> Option<
 
 /// Its addresses are of its family, of which the VLAN has a prefix.
 fn has_its_family(registry: &Registry, router: &Router) -> bool
-    ensures { result ≡ (same_family router.now.addr.family router.now.family && is_some (prefix_in registry.now.vlans router.now.vlan router.now.family) && blackhole_has_family router.now) }
+    ensures { result ≡ (same_family router.now.addr.family router.now.family && is_some
+        (prefix_in registry.now.vlans router.now.vlan router.now.family) && blackhole_has_family
+        router.now) }
 {
     router.addr.family == router.family
         && prefix_in(&registry.vlans, router.vlan, router.family).is_some()
@@ -184,7 +214,8 @@ fn has_its_family(registry: &Registry, router: &Router) -> bool
 
 /// A router may have its addresses in the VLAN.
 fn lies_inside(registry: &Registry, router: &Router) -> bool
-    ensures { result ≡ (is_host_in registry.now.vlans router.now.vlan router.now.family router.now.addr && blackhole_is_host registry.now router.now) }
+    ensures { result ≡ (is_host_in registry.now.vlans router.now.vlan router.now.family router.now.addr &&
+        blackhole_is_host registry.now router.now) }
 {
     is_host_in(&registry.vlans, router.vlan, router.family, &router.addr)
         && blackhole_is_host(registry, router)
@@ -245,7 +276,8 @@ fn named_refusal(
 ) -> Option<Refusal>
     requires valid { Valid registry.now }
     requires weight { weight ≡ weight_of registry.now }
-    ensures { result ≡ first_refused (placed_tests registry.now (new_router handle vlan family address.now settings.now)) }
+    ensures { result ≡ first_refused
+        (placed_tests registry.now (new_router handle vlan family address.now settings.now)) }
 {
     let router = router_of(handle, vlan, family, address, settings);
     new_refusal(registry, weight, &router)
@@ -264,7 +296,9 @@ pub(crate) fn add_router(
 ) -> Result<Option<Refusal>, AllocError>
     requires valid { Valid registry.now }
     requires weight { weight ≡ weight_of registry.now }
-    ensures { IfOk result (λ o. o ≡ first_refused (add_router_tests registry.now (new_router handle.now vlan family address.now settings.now))) }
+    ensures { IfOk result
+        (λ o. o ≡ first_refused
+        (add_router_tests registry.now (new_router handle.now vlan family address.now settings.now))) }
 {
     if !has_vlan(&registry.vlans, vlan) {
         return Ok(Some(unknown(Kind::Vlans, vlan)));
@@ -300,7 +334,8 @@ fn settings_refusal(
     requires valid { Valid registry.now }
     requires weight { weight ≡ weight_of registry.now }
     requires there { row_of router_key handle.now registry.now.routers ≡ Some router.now }
-    ensures { result ≡ first_refused (settings_tests registry.now (set_routers handle.now settings.now registry.now.routers) changed.now) }
+    ensures { result ≡ first_refused
+        (settings_tests registry.now (set_routers handle.now settings.now registry.now.routers) changed.now) }
 {
     if is_no_router_asn(registry, changed.asn.0) {
         return Some(Refusal::AsnReserved { asn: changed.asn });

@@ -1,4 +1,5 @@
--- The numbers of requests that are kept for an owner: at most 1,024, and a floor below which each number counts as used.
+-- The numbers of requests that are kept for an owner: at most 1,024, and a floor below which each number
+-- counts as used.
 use Rattle.std.specs.Prelude.{◌≡◌, ℕ, ◌+◌, ◌≤◌, ◌<◌, ◌^◌, ◌⊎◌, true, List, [], ◌∷◌, length, nat_le, if◌then◌else◌}
 use Rattle.std.specs.List.{AllByRecursion}
 use Rattle.std.specs.Option.{is_some}
@@ -33,8 +34,8 @@ noted k o =
 abbrev pub noted_for : Owner → KeptNumber → List KeptOwner → List KeptOwner
 noted_for owner k ks = put kept_owner_key (noted k (kept_of ks owner)) ks
 
--- What may be kept of an owner: numbers that ascend, none below the floor, at most 1,024, each with its place among those that were
--- accepted.
+-- What may be kept of an owner: numbers that ascend, none below the floor, at most 1,024, each with its place
+-- among those that were accepted.
 pub record ValidKept (accepted : ℕ) (o : KeptOwner) : Type 0 where
   pub order : Ascends kept_key o.numbers
   pub above : AllByRecursion (λ k. o.floor ≤ k.number) o.numbers

@@ -40,7 +40,8 @@ first_said (Some v ∷ vs) = v
 abbrev pub kept_says : Edit → KeptNumber → Verdict
 kept_says e k = if same_kind k.kind (kind_of e) && same_subject k.subject (subject_of e) then Repeated else Reused k.kind k.subject
 
--- what is decided of an owner's request, by what is kept for the owner: X1 to X3, and then the tests of the edit
+-- what is decided of an owner's request, by what is kept for the owner: X1 to X3, and then the tests of the
+-- edit
 abbrev pub verdict_by : Registry → KeptOwner → Owner → ℕ → Edit → Verdict
 verdict_by r kept owner number e = first_said (
     (if has_right owner (right_of e) then None else Some (Refused (Denied (right_of e))))

@@ -37,7 +37,8 @@ impl Row for KeptNumber {
     }
 }
 
-/// What is kept of an owner's requests: at most 1,024 numbers, none below the floor. Each number below it counts as used.
+/// What is kept of an owner's requests: at most 1,024 numbers, none below the floor. Each number below it
+/// counts as used.
 #[derive(Drop)]
 pub struct KeptOwner {
     pub owner: Owner,

@@ -28,31 +28,42 @@ pub fn requests_act_once()
     ensures { (s : State) (es : List Entry) → ValidState s → Often 1 (λ k. k) (acted s es) }
 {}
 
-/// A number that was used stays used, whatever is sent after it; one that is used isn't accepted again, and one that is
-/// accepted is used from then on.
+/// A number that was used stays used, whatever is sent after it; one that is used isn't accepted again, and
+/// one that is accepted is used from then on.
 pub fn used_numbers_stay_used()
-    ensures stays { (s : State) (es : List Entry) (owner : Owner) (n : ℕ) → ValidState s → IsSpent n (kept_of s.kept owner) → IsSpent n (kept_of (run s es).kept owner) }
-    ensures unused { (s : State) (owner : Owner) (n : ℕ) (e : Edit) → verdict_of s owner n e ≡ Accepted → ¬ (IsSpent n (kept_of s.kept owner)) }
-    ensures used { (s : State) (owner : Owner) (e : Entry) → ValidState s → owner_of s.registry e.secret ≡ Some owner → verdict_of s owner e.number e.edit ≡ Accepted → IsSpent e.number (kept_of (step s e).kept owner) }
+    ensures stays { (s : State) (es : List Entry) (owner : Owner) (n : ℕ) → ValidState s
+        → IsSpent n (kept_of s.kept owner) → IsSpent n (kept_of (run s es).kept owner) }
+    ensures unused { (s : State) (owner : Owner) (n : ℕ) (e : Edit) → verdict_of s owner n e ≡ Accepted
+        → ¬ (IsSpent n (kept_of s.kept owner)) }
+    ensures used { (s : State) (owner : Owner) (e : Entry) → ValidState s
+        → owner_of s.registry e.secret ≡ Some owner → verdict_of s owner e.number e.edit ≡ Accepted
+        → IsSpent e.number (kept_of (step s e).kept owner) }
 {}
 
-/// A request whose number is kept for its kind and subject is answered as a repeat, where its owner still has the right,
-/// and changes nothing.
+/// A request whose number is kept for its kind and subject is answered as a repeat, where its owner still has
+/// the right, and changes nothing.
 pub fn repeats_change_nothing()
-    ensures { (s : State) (owner : Owner) (e : Entry) (k : KeptNumber) → owner_of s.registry e.secret ≡ Some owner → has_right owner (right_of e.edit) ≡ true → find kept_key (e.number ∷ []) (kept_of s.kept owner).numbers ≡ Some k → same_kind k.kind (kind_of e.edit) ≡ true → same_subject k.subject (subject_of e.edit) ≡ true → (verdict s e ≡ Repeated) × (step s e ≡ s) }
+    ensures { (s : State) (owner : Owner) (e : Entry) (k : KeptNumber)
+        → owner_of s.registry e.secret ≡ Some owner → has_right owner (right_of e.edit) ≡ true
+        → find kept_key (e.number ∷ []) (kept_of s.kept owner).numbers ≡ Some k
+        → same_kind k.kind (kind_of e.edit) ≡ true → same_subject k.subject (subject_of e.edit) ≡ true
+        → (verdict s e ≡ Repeated) × (step s e ≡ s) }
 {}
 
 /// The registry after a run of requests is that of the accepted edits in their order.
 pub fn the_registry_is_that_of_accepted_edits()
-    ensures { (s : State) (es : List Entry) → (run s es).registry ≡ after_all s.registry (accepted_edits s es) }
+    ensures { (s : State) (es : List Entry)
+        → (run s es).registry ≡ after_all s.registry (accepted_edits s es) }
 {}
 
 /// What is decided of a member's request depends on what the member sees alone.
 pub fn members_are_apart()
-    ensures { (s t : State) (m n : ℕ) (e : Edit) → view s m ≡ view t m → verdict_of s (Member m) n e ≡ verdict_of t (Member m) n e }
+    ensures { (s t : State) (m n : ℕ) (e : Edit) → view s m ≡ view t m
+        → verdict_of s (Member m) n e ≡ verdict_of t (Member m) n e }
 {}
 
 /// A member's requests change nothing that another member sees.
 pub fn members_change_their_own()
-    ensures { (s : State) (e : Entry) (m n : ℕ) → owner_of s.registry e.secret ≡ Some (Member m) → (n == m) ≡ false → view (step s e) n ≡ view s n }
+    ensures { (s : State) (e : Entry) (m n : ℕ) → owner_of s.registry e.secret ≡ Some (Member m)
+        → (n == m) ≡ false → view (step s e) n ≡ view s n }
 {}

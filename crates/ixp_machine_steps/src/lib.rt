@@ -1,9 +1,9 @@
 //! Requests to change a registry: which are accepted, and what they do to the state.
 //!
-//! `specs/Steps.antt` says what is decided of a request and which state comes after it. The laws say that the state stays
-//! valid, that a request acts once however often it is sent, and that a member's answers depend on what it sees alone.
-//! [`first_state`] is the state before all requests: nothing is kept of any, none was accepted, and the counts are those of
-//! the registry's rows.
+//! `specs/Steps.antt` says what is decided of a request and which state comes after it. The laws say that the
+//! state stays valid, that a request acts once however often it is sent, and that a member's answers depend
+//! on what it sees alone. [`first_state`] is the state before all requests: nothing is kept of any, none was
+//! accepted, and the counts are those of the registry's rows.
 #![tactic(auto)]
 
 mod copies;

@@ -9,8 +9,8 @@ use ixp_num::Items;
 use ixp_num_tables::Table;
 use ixp_registry::Registry;
 
-/// A request to change something. Its number is its owner's choice; with the same number, kind and subject it is the same
-/// request.
+/// A request to change something. Its number is its owner's choice; with the same number, kind and subject it
+/// is the same request.
 #[derive(Debug, Drop)]
 pub struct Entry {
     /// The secret of an API key.

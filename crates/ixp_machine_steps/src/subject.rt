@@ -31,8 +31,8 @@ impl PublicKind {
 #[derive(Debug, Drop)]
 pub enum Subject {
     Number(u32),
-    /// Of a contact the member and the place; of an address or a list the interface or the member, and the family, 4
-    /// or 6.
+    /// Of a contact the member and the place; of an address or a list the interface or the member, and the
+    /// family, 4 or 6.
     Pair(u32, u32),
     /// A router's.
     Handle(Name),

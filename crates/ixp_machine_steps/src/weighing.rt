@@ -2,7 +2,13 @@
 ghost use Rattle.std.specs.Prelude.{◌≡◌, ◌≤◌, length};
 ghost use Rattle.ixp_machine_edits.specs.Lists.{prefixes_in};
 ghost use Rattle.ixp_registry.specs.Valid.{Valid};
-ghost use Rattle.ixp_registry.specs.Weight.{vlan_weight, list_length, address_weight, column_weight, interface_weight};
+ghost use Rattle.ixp_registry.specs.Weight.{
+  vlan_weight,
+  list_length,
+  address_weight,
+  column_weight,
+  interface_weight,
+};
 ghost use Rattle.ixp_registry.specs.Words.{router_weight};
 ghost use Rattle.ixp_registry.specs.Weight.{weight_of};
 
@@ -39,7 +45,8 @@ fn column_weight(registry: &Registry, member: u32, vlan: u32, address: &Option<I
 
 fn interface_weight(registry: &Registry, interface: &Interface) -> u64
     requires { Valid registry.now }
-    ensures weight { result ≡ interface_weight registry.now.members registry.now.routers registry.now.irr interface.now }
+    ensures weight { result
+        ≡ interface_weight registry.now.members registry.now.routers registry.now.irr interface.now }
     ensures small { result ≤ 19200000 }
 {
     let member = interface.member;

@@ -3,8 +3,8 @@ use Rattle.std.specs.Prelude.{Bool, true, false}
 use Rattle.ixp_registry.specs.declared.members.Status.{Status}
 use Rattle.ixp_registry.specs.declared.members.Status.TheVariants.{Noted, Connected, Suspended, Left}
 
--- a noted member is connected, a connected one suspended, a suspended one connected again, and each of the three may leave;
--- a member that has left stays so
+-- a noted member is connected, a connected one suspended, a suspended one connected again, and each of the
+-- three may leave; a member that has left stays so
 abbrev pub may_move : Status → Status → Bool
 may_move Noted Connected = true
 may_move Connected Suspended = true

@@ -5,8 +5,8 @@ ghost use Rattle.ixp_num_tables.specs.Tables.{same};
 
 use ixp_registry::{ApiKey, Owner, Registry};
 
-/// Whether two secrets are the same. Where they are as long as each other all bytes are compared, whichever differ, so that the time
-/// doesn't tell how far a guess is right.
+/// Whether two secrets are the same. Where they are as long as each other all bytes are compared, whichever
+/// differ, so that the time doesn't tell how far a guess is right.
 #[tactic(auto, using(crate::proofs::Secrets::lengths_differ))]
 fn is_same(kept: &[u8], given: &[u8]) -> bool
     ensures { result ≡ same kept.now given.now }

@@ -38,8 +38,8 @@ dotted_form base form =
 abbrev pub form4 : Tail → Form
 form4 tail = dotted_form 0 (tail_form tail V4)
 
--- One group behind `::`, and then the end of the address or a colon and what is behind it. `base` is the value of the
--- groups before `::`, and `value` that of those behind it so far.
+-- One group behind `::`, and then the end of the address or a colon and what is behind it. `base` is the
+-- value of the groups before `::`, and `value` that of those behind it so far.
 abbrev pub more_form : (ℕ → Form) → (ℕ → Form) → ℕ → ℕ → Form
 more_form form next base value =
     Hex (λ group. Either (form (base + (value * 65536 + group))) (Mark 58 (next (value * 65536 + group))))
@@ -55,8 +55,8 @@ abbrev pub gap_form : ℕ → (ℕ → Form) → ℕ → Form
 gap_form zero form base = form base
 gap_form (suc room) form base = Either (form base) (behind_form room form base 0)
 
--- A group and a colon, and then the `room` groups behind it; or a second colon, in place of at least one of them.
--- `value` is that of the groups so far, in their places.
+-- A group and a colon, and then the `room` groups behind it; or a second colon, in place of at least one of
+-- them. `value` is that of the groups so far, in their places.
 abbrev pub colon_form : ℕ → (ℕ → Form) → (ℕ → Form) → ℕ → Form
 colon_form room form next value =
     Hex (λ group. Mark 58 (Either

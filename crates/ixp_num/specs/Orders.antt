@@ -1,4 +1,5 @@
--- The order of prefixes; that it is total, and that two which stand at one place in it are equal, are its laws.
+-- The order of prefixes; that it is total, and that two which stand at one place in it are equal, are its
+-- laws.
 use Rattle.std.specs.Prelude.{◌≡◌, Bool, true, false, ◌&&◌, nat_eq}
 use Rattle.std.proofs.Common.{refl, sym, ap, ◌∙◌}
 use Rattle.std.specs.declared.cmp.Ordering.{Ordering}

@@ -19,7 +19,8 @@ same_prefix p q = same_family p.family q.family && p.value == q.value && p.len =
 abbrev pub first_bits : Family → ℕ → ℕ → ℕ
 first_bits family n value = value / 2 ^ (bits_of family - n)
 
--- `p` covers `q`: they have one family, `p` isn't longer, and its bits are the first ones of `q` (RFC 6811 section 2)
+-- `p` covers `q`: they have one family, `p` isn't longer, and its bits are the first ones of `q` (RFC 6811
+-- section 2)
 abbrev pub covers : Prefix → Prefix → Bool
 covers p q = same_family p.family q.family && nat_le p.len q.len && first_bits p.family p.len q.value == first_bits p.family p.len p.value
 

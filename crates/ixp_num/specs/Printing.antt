@@ -24,8 +24,8 @@ groups_value n [] = n
 groups_value n (g ∷ gs) = groups_value (n * 65536 + g) gs
 
 -- An IPv4 address as above. An IPv6 address by RFC 5952 section 4: groups in lower-case hexadecimal without
--- leading zeros, and `::` for the longest run of at least two zero groups, the first one of equal runs; no part is
--- written as an IPv4 address.
+-- leading zeros, and `::` for the longest run of at least two zero groups, the first one of equal runs; no
+-- part is written as an IPv4 address.
 abbrev pub value_text : Family → ℕ → List ℕ
 value_text V4 value = text4 value
 value_text V6 value = hex_groups_text (groups_of value)

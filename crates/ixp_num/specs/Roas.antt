@@ -11,7 +11,8 @@ use Rattle.ixp_num.specs.Prefixes.{covers}
 abbrev pub is_covered : List Roa → Prefix → Bool
 is_covered roas net = list_any (λ r. covers r.prefix net) roas
 
--- a ROA matches the route: it covers the prefix, is long enough, and has the origin, which isn't AS 0 (RFC 7607)
+-- a ROA matches the route: it covers the prefix, is long enough, and has the origin, which isn't AS 0 (RFC
+-- 7607)
 abbrev pub is_matched : List Roa → Prefix → ℕ → Bool
 is_matched roas net origin = list_any (λ r. covers r.prefix net && nat_le net.len r.max && r.asn.0 == origin && not (origin == 0)) roas
 

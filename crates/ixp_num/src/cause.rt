@@ -1,12 +1,13 @@
 //! Why an input is refused: a code and a place.
 //!
-//! Each reader tells its own faults; what the program writes of them is of one kind. A fault of a reader that isn't want
-//! of memory has a [`Cause`], and the text of a cause is a code, a blank and the place (`specs/Causes.antt`).
+//! Each reader tells its own faults; what the program writes of them is of one kind. A fault of a reader that
+//! isn't running out of memory has a [`Cause`], and the text of a cause is a code, a blank and the place
+//! (`specs/Causes.antt`).
 ghost use Rattle.std.specs.Prelude.{◌≡◌};
 ghost use Rattle.ixp_num.specs.Causes.{code_text};
 
-/// What is wrong with an input. Codes with U are those of dumps and of inputs as a whole, with L those of filter texts,
-/// with E those of a route's line.
+/// What is wrong with an input. Codes with U are those of dumps and of inputs as a whole, with L those of
+/// filter texts, with E those of a route's line.
 #[derive(Clone, Copy, Debug, PartialEq, Eq)]
 pub enum Code {
     /// The line is none of the format, or the text ends early or goes on.

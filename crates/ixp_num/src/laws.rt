@@ -13,8 +13,10 @@ ghost use Rattle.ixp_num.specs.declared.fault.NumFault.{NumFault};
 /// No text has two answers: what the readers ensure says exactly when each answer comes.
 pub fn one_answer()
     ensures addr { (t : List ℕ) (x y : Result Addr NumFault) → AddrAnswer t x → AddrAnswer t y → x ≡ y }
-    ensures prefix { (t : List ℕ) (x y : Result Prefix NumFault) → PrefixAnswer t x → PrefixAnswer t y → x ≡ y }
-    ensures pattern { (t : List ℕ) (x y : Result Pattern NumFault) → PatternAnswer t x → PatternAnswer t y → x ≡ y }
+    ensures prefix { (t : List ℕ) (x y : Result Prefix NumFault) → PrefixAnswer t x → PrefixAnswer t y
+        → x ≡ y }
+    ensures pattern { (t : List ℕ) (x y : Result Pattern NumFault) → PatternAnswer t x → PatternAnswer t y
+        → x ≡ y }
     ensures asn { (t : List ℕ) (x y : Result Asn NumFault) → AsnAnswer t x → AsnAnswer t y → x ≡ y }
 {}
 
@@ -29,5 +31,6 @@ pub fn printed_is_read()
 
 /// Every text that writes eight groups by RFC 4291 section 2.2 is read as the address of these groups.
 pub fn any_spelling()
-    ensures { (t segments : List ℕ) (a : Addr) → IsColonHex t segments → a.family ≡ V6 → a.value ≡ groups_value 0 segments → AddrAnswer t (Ok a) }
+    ensures { (t segments : List ℕ) (a : Addr) → IsColonHex t segments → a.family ≡ V6
+        → a.value ≡ groups_value 0 segments → AddrAnswer t (Ok a) }
 {}

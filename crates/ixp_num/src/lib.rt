@@ -1,4 +1,5 @@
-//! The numbers of the trade: addresses, prefixes, patterns, AS numbers, ROAs and names; and why a text is refused.
+//! The numbers of the trade: addresses, prefixes, patterns, AS numbers, ROAs and names; and why a text is
+//! refused.
 //!
 //! Every value of a type here is lawful: an address fits its family, a prefix has no host bits, a name has
 //! its alphabet and length. Texts are read and printed; the printed text of a value is its one spelling.
@@ -8,7 +9,8 @@
 //! its bound. `one_answer` says that no text has two answers, `printed_is_read` that what is printed is read
 //! as what it was, and `any_spelling` that every IPv6 text of RFC 4291 is read as its eight groups.
 //!
-//! A fault of a reader that isn't out of memory has a [`Cause`]: a code, and the place in the input (`specs/Causes.antt`).
+//! A fault of a reader that isn't out of memory has a [`Cause`]: a code, and the place in the input
+//! (`specs/Causes.antt`).
 #![tactic(auto)]
 
 mod addr;

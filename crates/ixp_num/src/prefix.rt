@@ -6,7 +6,8 @@ use crate::bits::{first_bits, fits, host_bits, without_host_bits};
 use crate::{Addr, Family};
 
 /// An address prefix (RFC 4632 section 3.1): the first `len` bits of `value`; all its other bits are 0.
-/// Prefixes are in the order of their families, then of their numbers, then of their lengths. The number stands first, so that a prefix takes 32 bytes and not 48.
+/// Prefixes are in the order of their families, then of their numbers, then of their lengths. The number
+/// stands first, so that a prefix takes 32 bytes and not 48.
 #[derive(Clone, Copy, Debug, PartialEq, Eq)]
 pub struct Prefix {
     pub value: u128,
@@ -22,8 +23,8 @@ impl Prefix {
     ghost use Rattle.ixp_num.specs.Families.{IsPrefix};
     ghost use Rattle.ixp_num.specs.Prefixes.{covers, contains, IsParent};
 
-    /// The prefix with this number and length, or None where there is none: where it is too long, or the number
-    /// is too large or has host bits.
+    /// The prefix with this number and length, or None where there is none: where it is too long, or the
+    /// number is too large or has host bits.
     pub fn new(family: Family, value: u128, len: u8) -> Option<Prefix>
         ensures some { IfSome result (λ p. (p.family ≡ family) × (p.value ≡ value) × (p.len ≡ len)) }
         ensures none { IfNone result (¬ (IsPrefix family value len)) }

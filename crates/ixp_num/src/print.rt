@@ -1,7 +1,16 @@
 //! Printing of addresses, prefixes, patterns and AS numbers.
 ghost use Rattle.std.specs.Prelude.{◌≡◌, ◌<◌, ◌^◌, ◌/◌, ◌%◌, ℕ, ◌++◌, ◌∷◌, [], decimal, take, OnOk, OnErr};
 ghost use Rattle.ixp_num.specs.Families.{bits_of};
-ghost use Rattle.ixp_num.specs.Printing.{text4, value_text, addr_text, prefix_text, bounds_text, pattern_text, groups_of, Grown};
+ghost use Rattle.ixp_num.specs.Printing.{
+  text4,
+  value_text,
+  addr_text,
+  prefix_text,
+  bounds_text,
+  pattern_text,
+  groups_of,
+  Grown,
+};
 ghost use Rattle.std.specs.Net.Text.{hex_groups_text};
 
 use crate::{Addr, Asn, Family, Pattern, Prefix};

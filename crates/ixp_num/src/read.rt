@@ -3,7 +3,17 @@ ghost use Rattle.std.specs.Prelude.{◌≡◌, [], ◌∷◌, length, min, IfOk}
 ghost use Rattle.ixp_num.specs.Forms.{bounded};
 ghost use Rattle.ixp_num.specs.AddressForms.{address_form, asn_form};
 ghost use Rattle.ixp_num.specs.Answers.{AddrAnswer, PrefixAnswer, PatternAnswer, AsnAnswer};
-ghost use Rattle.ixp_num.specs.Reading.{read, Gives, said_of, IsWhole, placed, IsAddrOf, IsPrefixOf, IsPatternOf, IsAsnOf};
+ghost use Rattle.ixp_num.specs.Reading.{
+  read,
+  Gives,
+  said_of,
+  IsWhole,
+  placed,
+  IsAddrOf,
+  IsPrefixOf,
+  IsPatternOf,
+  IsAsnOf,
+};
 
 use crate::bits::host_bits;
 use crate::reading::{Reading, Tail};
@@ -80,7 +90,8 @@ pub fn read_pattern(t: &[u8]) -> Result<Pattern, NumFault>
 }
 
 fn asn_text(t: &[u8]) -> Result<u64, usize>
-    ensures { Gives (λ n. bounded 4294967295 n (length t.now) (Ok (min n 4294967295 ∷ []))) result (read asn_form t.now) }
+    ensures { Gives (λ n. bounded 4294967295 n (length t.now) (Ok (min n 4294967295 ∷ []))) result
+        (read asn_form t.now) }
 {
     let (number, rest) = number_of(t)?;
     if !rest.is_empty() {

@@ -5,7 +5,20 @@ ghost use Rattle.std.specs.Prelude.{◌≡◌, ◌+◌, ◌*◌, ◌^◌, ◌≤
 ghost use Rattle.ixp_num.specs.Families.{bits_of};
 ghost use Rattle.ixp_num.specs.Forms.{End};
 ghost use Rattle.ixp_num.specs.AddressForms.{numbers, bounds_form, tail_form, dotted_form};
-ghost use Rattle.ixp_num.specs.Reading.{Gives, digits_after, number_at, hex_at, group_at, mark_at, end_at, farther, read, said_of, IsWhole, placed};
+ghost use Rattle.ixp_num.specs.Reading.{
+  Gives,
+  digits_after,
+  number_at,
+  hex_at,
+  group_at,
+  mark_at,
+  end_at,
+  farther,
+  read,
+  said_of,
+  IsWhole,
+  placed,
+};
 
 use crate::reading::{Reading, Tail};
 use crate::{Family, NumFault};
@@ -43,7 +56,8 @@ pub fn number_of(bytes: &[u8]) -> Result<(u64, &[u8]), usize>
     }
 }
 
-/// What follows this byte at the front. Where another byte or none stands there, `Err` has the number of bytes.
+/// What follows this byte at the front. Where another byte or none stands there, `Err` has the number of
+/// bytes.
 #[tactic(auto, unfolding(crate::specs::Reading::mark_at))]
 pub fn mark_of(mark: u8, bytes: &[u8]) -> Result<&[u8], usize>
     ensures { Gives (λ x. x.now) result (mark_at mark bytes.now) }
@@ -99,7 +113,8 @@ fn end_of(
 fn bounds_text(family: Family, value: u128, len: u8, bytes: &[u8]) -> Result<Reading, usize>
     requires short { len ≤ bits_of family }
     requires fits { value < 2 ^ bits_of family }
-    ensures says { Gives said_of result (read (bounds_form (λ low high. End (numbers family value len low high))) bytes.now) }
+    ensures says { Gives said_of result
+        (read (bounds_form (λ low high. End (numbers family value len low high))) bytes.now) }
     ensures whole { IfOk result (λ r. IsWhole Tail.Bounds r) }
 {
     let at_low = mark_of(b'{', bytes)?;

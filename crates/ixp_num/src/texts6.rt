@@ -1,6 +1,14 @@
 //! Readers of the texts of IPv6 addresses (RFC 4291 section 2.2).
 ghost use Rattle.std.specs.Prelude.{◌≡◌, ◌+◌, ◌-◌, ◌*◌, ◌^◌, ◌≤◌, ◌<◌, ℕ, IfOk};
-ghost use Rattle.ixp_num.specs.AddressForms.{tail_form, more_form, behind_form, gap_form, colon_form, groups_form, form6};
+ghost use Rattle.ixp_num.specs.AddressForms.{
+  tail_form,
+  more_form,
+  behind_form,
+  gap_form,
+  colon_form,
+  groups_form,
+  form6,
+};
 ghost use Rattle.ixp_num.specs.Forms.{Mark};
 ghost use Rattle.ixp_num.specs.Reading.{Gives, read, said_of, IsWhole};
 
@@ -19,7 +27,8 @@ fn behind_text(
     bytes: &[u8],
 ) -> Result<Reading, usize>
     requires { base + (value + 1) * 2 ^ (16 * (room + 1)) ≤ 2 ^ 128 }
-    ensures says { Gives said_of result (read (behind_form room (tail_form tail Family.V6) base value) bytes.now) }
+    ensures says { Gives said_of result
+        (read (behind_form room (tail_form tail Family.V6) base value) bytes.now) }
     ensures whole { IfOk result (λ r. IsWhole tail r) }
 {
     if room == 0 {
@@ -34,7 +43,8 @@ fn behind_text(
 /// The last group that there is room for.
 fn last_text(tail: Tail, base: u128, value: u128, bytes: &[u8]) -> Result<Reading, usize>
     requires { base + (value + 1) * 65536 ≤ 2 ^ 128 }
-    ensures says { Gives said_of result (read (behind_form 0 (tail_form tail Family.V6) base value) bytes.now) }
+    ensures says { Gives said_of result
+        (read (behind_form 0 (tail_form tail Family.V6) base value) bytes.now) }
     ensures whole { IfOk result (λ r. IsWhole tail r) }
 {
     let (group, rest) = group_of(bytes)?;
@@ -51,7 +61,9 @@ fn last_text(tail: Tail, base: u128, value: u128, bytes: &[u8]) -> Result<Readin
 fn more_text(tail: Tail, room: u8, base: u128, value: u128, bytes: &[u8]) -> Result<Reading, usize>
     requires room { 0 < room }
     requires fits { base + (value + 1) * 2 ^ (16 * (room + 1)) ≤ 2 ^ 128 }
-    ensures says { Gives said_of result (read (more_form (tail_form tail Family.V6) (behind_form (room - 1) (tail_form tail Family.V6) base) base value) bytes.now) }
+    ensures says { Gives said_of result
+        (read (more_form (tail_form tail Family.V6)
+        (behind_form (room - 1) (tail_form tail Family.V6) base) base value) bytes.now) }
     ensures whole { IfOk result (λ r. IsWhole tail r) }
 {
     let (group, rest) = group_of(bytes)?;
@@ -66,7 +78,8 @@ fn more_text(tail: Tail, room: u8, base: u128, value: u128, bytes: &[u8]) -> Res
 #[cycle(behind)]
 fn next_text(tail: Tail, room: u8, base: u128, value: u128, bytes: &[u8]) -> Result<Reading, usize>
     requires { base + (value + 1) * 2 ^ (16 * (room + 1)) ≤ 2 ^ 128 }
-    ensures says { Gives said_of result (read (Mark 58 (behind_form room (tail_form tail Family.V6) base value)) bytes.now) }
+    ensures says { Gives said_of result
+        (read (Mark 58 (behind_form room (tail_form tail Family.V6) base value)) bytes.now) }
     ensures whole { IfOk result (λ r. IsWhole tail r) }
 {
     let rest = mark_of(b':', bytes)?;
@@ -89,7 +102,8 @@ fn gap_text(tail: Tail, room: u8, base: u128, bytes: &[u8]) -> Result<Reading, u
 /// The second colon of `::`, and the groups behind it.
 fn colons_text(tail: Tail, room: u8, base: u128, bytes: &[u8]) -> Result<Reading, usize>
     requires { base + 2 ^ (16 * room) ≤ 2 ^ 128 }
-    ensures says { Gives said_of result (read (Mark 58 (gap_form room (tail_form tail Family.V6) base)) bytes.now) }
+    ensures says { Gives said_of result
+        (read (Mark 58 (gap_form room (tail_form tail Family.V6) base)) bytes.now) }
     ensures whole { IfOk result (λ r. IsWhole tail r) }
 {
     let rest = mark_of(b':', bytes)?;
@@ -130,7 +144,9 @@ fn colon_text(tail: Tail, room: u8, value: u128, bytes: &[u8]) -> Result<Reading
     requires room { 0 < room }
     requires low { room ≤ 7 }
     requires fits { value + 2 ^ (16 * (room + 1)) ≤ 2 ^ 128 }
-    ensures says { Gives said_of result (read (colon_form room (tail_form tail Family.V6) (groups_form (room - 1) (tail_form tail Family.V6)) value) bytes.now) }
+    ensures says { Gives said_of result
+        (read (colon_form room (tail_form tail Family.V6)
+        (groups_form (room - 1) (tail_form tail Family.V6)) value) bytes.now) }
     ensures whole { IfOk result (λ r. IsWhole tail r) }
 {
     let (group, rest) = group_of(bytes)?;
@@ -160,7 +176,8 @@ pub(crate) fn text6(tail: Tail, bytes: &[u8]) -> Result<Reading, usize>
 
 /// An IPv6 address that begins with `::`.
 fn leading_text(tail: Tail, bytes: &[u8]) -> Result<Reading, usize>
-    ensures says { Gives said_of result (read (Mark 58 (Mark 58 (gap_form 7 (tail_form tail Family.V6) 0))) bytes.now) }
+    ensures says { Gives said_of result
+        (read (Mark 58 (Mark 58 (gap_form 7 (tail_form tail Family.V6) 0))) bytes.now) }
     ensures whole { IfOk result (λ r. IsWhole tail r) }
 {
     let rest = mark_of(b':', bytes)?;

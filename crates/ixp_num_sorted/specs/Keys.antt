@@ -1,4 +1,5 @@
--- The keys of items that stand in lists, in the order of a dump's lines: IPv4 first, then by value, then by length and bounds.
+-- The keys of items that stand in lists, in the order of a dump's lines: IPv4 first, then by value, then by
+-- length and bounds.
 use Rattle.std.specs.Prelude.{ℕ, List, [], ◌∷◌}
 use Rattle.ixp_num.specs.AddressForms.{version_of}
 use Rattle.ixp_num.specs.declared.prefix.Prefix.{Prefix}

@@ -1,5 +1,5 @@
--- The derived order of items is that of their keys, and items with one key are the same: laws of the kinds of items, and no
--- part of any contract.
+-- The derived order of items is that of their keys, and items with one key are the same: laws of the kinds of
+-- items, and no part of any contract.
 use Rattle.std.proofs.Common.{◌≡◌, ℕ, List, [], ◌∷◌, refl, ap, ◌∙◌}
 use Rattle.std.specs.declared.cmp.Ordering.{Ordering}
 use Rattle.std.specs.declared.cmp.Ordering.TheVariants.{Less, Equal, Greater}

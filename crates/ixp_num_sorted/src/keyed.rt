@@ -3,12 +3,23 @@ ghost use Rattle.std.specs.Prelude.{◌≡◌, ℕ, List};
 ghost use Rattle.std.specs.declared.cmp.Ordering.TheVariants.{Equal};
 ghost use Rattle.ixp_num_tables.specs.Tables.{order};
 ghost use Rattle.ixp_num_sorted.specs.Keys.{prefix_key, pattern_key, asn_key, range_key, roa_key};
-ghost use Rattle.ixp_num_sorted.specs.Told.{prefix_ordered, pattern_ordered, asn_ordered, range_ordered, roa_ordered, prefix_one, pattern_one, asn_one, range_one, roa_one};
+ghost use Rattle.ixp_num_sorted.specs.Told.{
+  prefix_ordered,
+  pattern_ordered,
+  asn_ordered,
+  range_ordered,
+  roa_ordered,
+  prefix_one,
+  pattern_one,
+  asn_one,
+  range_one,
+  roa_one,
+};
 
 use ixp_num::{Asn, Pattern, Prefix, Roa};
 
-/// An item of sorted lists. Its key is a list of numbers; items are in the order of their keys, and no two have
-/// one key.
+/// An item of sorted lists. Its key is a list of numbers; items are in the order of their keys, and no two
+/// have one key.
 pub trait Keyed: Ord + Copy + Drop {
     ghost key: { Self → List ℕ };
 

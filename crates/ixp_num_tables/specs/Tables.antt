@@ -35,7 +35,8 @@ module _ {R : Type 0} (key : R → List ℕ) where
   find k [] = None
   find k (r ∷ rs) = match_ordering (order (key r) k) (find k rs) (Some r) (find k rs)
 
-  -- the rows with this one in its place: instead of the row that has its key, else before the first row above it
+  -- the rows with this one in its place: instead of the row that has its key, else before the first row above
+  -- it
   abbrev pub put : R → List R → List R
   put r [] = r ∷ []
   put r (s ∷ rs) = match_ordering (order (key s) (key r)) (s ∷ put r rs) (r ∷ rs) (r ∷ s ∷ rs)

@@ -2,7 +2,8 @@
 ghost use Rattle.std.specs.Prelude.{◌≡◌, ◌≤◌, IfSome};
 ghost use Rattle.ixp_num_tables.specs.Decimals as spec;
 
-/// The number that a text is in decimal, without a sign and without leading zeros, where it is at most `most`.
+/// The number that a text is in decimal, without a sign and without leading zeros, where it is at most
+/// `most`.
 pub fn number_upto(most: u64, text: &[u8]) -> Option<u64>
     ensures number { result ≡ spec.number_upto most text.now }
     ensures within { IfSome result (λ n. n ≤ most) }

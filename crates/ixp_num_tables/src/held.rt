@@ -31,7 +31,8 @@ impl<T: Drop> Held<T> {
         Ok(Held { arc })
     }
 
-    /// The same value for one more owner. It does not allocate; it is refused where no more owners can be counted.
+    /// The same value for one more owner. It does not allocate; it is refused where no more owners can be
+    /// counted.
     pub fn shared(&self) -> Result<Held<T>, AllocError>
         ensures { IfOk result (λ h. h ≡ self.now) }
     {

@@ -1,5 +1,20 @@
 //! A vector seen as the list of its items.
-ghost use Rattle.std.specs.Prelude.{◌≡◌, ◌≤◌, ◌+◌, ◌<◌, ◌↔◌, List, [], ◌∷◌, ◌++◌, length, IfOk, OnOk, OnErr, IsTrue};
+ghost use Rattle.std.specs.Prelude.{
+  ◌≡◌,
+  ◌≤◌,
+  ◌+◌,
+  ◌<◌,
+  ◌↔◌,
+  List,
+  [],
+  ◌∷◌,
+  ◌++◌,
+  length,
+  IfOk,
+  OnOk,
+  OnErr,
+  IsTrue,
+};
 ghost use Rattle.std.specs.Coded.{coded_list};
 
 use std::alloc::{AllocError, AllocFailed, Global};

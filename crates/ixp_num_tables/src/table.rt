@@ -1,5 +1,17 @@
 //! Rows in the order of their keys, each key once.
-ghost use Rattle.std.specs.Prelude.{◌≡◌, ◌↔◌, List, [], length, IfOk, OnOk, OnErr, IsSome, IsTrue, option_map};
+ghost use Rattle.std.specs.Prelude.{
+  ◌≡◌,
+  ◌↔◌,
+  List,
+  [],
+  length,
+  IfOk,
+  OnOk,
+  OnErr,
+  IsSome,
+  IsTrue,
+  option_map,
+};
 ghost use Rattle.ixp_num_tables.specs.Tables.{Ascends, find, put, without};
 
 use crate::row::{Copied, Row};

@@ -1,6 +1,6 @@
-//! Writing texts into a vector of bytes: bytes as they are, decimal numbers, lists with a text between any two
-//! items, and texts that were made aside. Each function says exactly which bytes it adds at the end; where memory
-//! runs out it adds none.
+//! Writing texts into a vector of bytes: bytes as they are, decimal numbers, lists with a text between any
+//! two items, and texts that were made aside. Each function says exactly which bytes it adds at the end;
+//! where memory runs out it adds none.
 ghost use Rattle.std.specs.Prelude.{◌≡◌, ◌++◌, List, ℕ, decimal, OnOk, OnErr};
 ghost use Rattle.ixp_num_tables.specs.Joined.{joined};
 
@@ -24,8 +24,8 @@ pub fn put_number(out: &mut Vec<u8>, number: u64) -> Result<(), AllocError>
     put(out, buffer.format(number).as_bytes())
 }
 
-/// Adds a text that was made aside. An empty vector takes it over without a copy. A printer that writes piece by
-/// piece makes its text aside and ends with this, so that want of memory leaves no part of it behind.
+/// Adds a text that was made aside. An empty vector takes it over without a copy. A printer that writes piece
+/// by piece makes its text aside and ends with this, so that running out of memory leaves no part of it behind.
 pub fn put_whole(out: &mut Vec<u8>, text: Vec<u8>) -> Result<(), AllocError>
     ensures ok { OnOk result (out.new.items ≡ out.old.items ++ text.items) }
     ensures err { OnErr result (out.new.items ≡ out.old.items) }

@@ -1,5 +1,5 @@
--- The merged set as a list: the patterns at the front of rows that pass a test, in order. `blocks_are` says that its
--- members are the patterns of `Blocks.antt`.
+-- The merged set as a list: the patterns at the front of rows that pass a test, in order. `blocks_are` says
+-- that its members are the patterns of `Blocks.antt`.
 use Rattle.std.specs.Prelude.{ℕ, zero, suc, Bool, true, not, List, [], ◌∷◌, ◌&&◌, ◌||◌, ◌==◌, ◌+◌, ◌-◌, ◌*◌, ◌^◌, min, nat_le}
 use Rattle.std.specs.List.{list_any, filter, flat_map}
 use Rattle.std.specs.declared.cmp.Ordering.{Ordering}

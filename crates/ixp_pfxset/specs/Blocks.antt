@@ -8,8 +8,8 @@ use Rattle.ixp_num.specs.declared.prefix.Prefix.{Prefix}
 use Rattle.ixp_pfxset.specs.declared.mode.Mode.{Mode}
 use Rattle.ixp_pfxset.specs.declared.mode.Mode.TheVariants.{Exact, More}
 
--- Whether the rows allow the prefix. No prefix longer than `high` is allowed, and rows longer than `high` don't
--- count. In `Exact` the rows themselves are allowed, in `More` what a row covers (RFC 6811 section 2).
+-- Whether the rows allow the prefix. No prefix longer than `high` is allowed, and rows longer than `high`
+-- don't count. In `Exact` the rows themselves are allowed, in `More` what a row covers (RFC 6811 section 2).
 abbrev pub is_allowed : List Prefix → Mode → ℕ → Prefix → Bool
 is_allowed rows Exact high q = nat_le q.len high && list_any (λ p. same_prefix p q) rows
 is_allowed rows More high q = nat_le q.len high && list_any (λ p. nat_le p.len high && covers p q) rows
@@ -28,8 +28,8 @@ abbrev pub upper_bound : Mode → ℕ → ℕ → ℕ
 upper_bound Exact high low = low
 upper_bound More high low = high
 
--- The pattern is one of the merged set: its prefix is full at its lower bound, and its parent, if there is one, isn't.
--- It goes on to its lower bound alone in `Exact`, in `More` as far as prefixes may go.
+-- The pattern is one of the merged set: its prefix is full at its lower bound, and its parent, if there is
+-- one, isn't. It goes on to its lower bound alone in `Exact`, in `More` as far as prefixes may go.
 abbrev pub IsBlock : List Prefix → Mode → ℕ → Pattern → Type 0
 IsBlock rows mode high t =
     IsFull rows mode high t.low t.prefix

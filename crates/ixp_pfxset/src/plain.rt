@@ -36,7 +36,9 @@ fn push_front(
 ) -> Result<(), AllocError>
     requires sorted { IsSorted ⟦<Prefix as Ord>⟧.cmp list.now }
     requires shorter { len ≤ r.now.len }
-    ensures { OnOk result ((t : Pattern) → Contains blocks.new.items t ↔ (Contains blocks.old.items t ⊎ (IsFront list.now r.now high t × (t.prefix.len ≡ len)))) }
+    ensures { OnOk result
+        ((t : Pattern) → Contains blocks.new.items t
+        ↔ (Contains blocks.old.items t ⊎ (IsFront list.now r.now high t × (t.prefix.len ≡ len)))) }
 {
     let Some(prefix) = Prefix::new(r.family, r.value, len) else {
         return Ok(());
@@ -59,7 +61,9 @@ fn push_fronts(
     high: u8,
 ) -> Result<(), AllocError>
     requires { IsSorted ⟦<Prefix as Ord>⟧.cmp list.now }
-    ensures { OnOk result ((t : Pattern) → Contains blocks.new.items t ↔ (Contains blocks.old.items t ⊎ IsFront list.now r.now high t)) }
+    ensures { OnOk result
+        ((t : Pattern) → Contains blocks.new.items t
+        ↔ (Contains blocks.old.items t ⊎ IsFront list.now r.now high t)) }
 {
     for len in 0..=r.len {
         push_front(blocks, list, r, high, len)?;
@@ -75,7 +79,9 @@ fn all_fronts(
     high: u8,
 ) -> Result<Vec<Pattern>, AllocError>
     requires { IsSorted ⟦<Prefix as Ord>⟧.cmp list.now }
-    ensures { IfOk result (λ ts. (t : Pattern) → Contains ts.items t ↔ ((r : Prefix) × Contains list.now r × IsFront list.now r (upper_bound mode high r.len) t)) }
+    ensures { IfOk result
+        (λ ts. (t : Pattern) → Contains ts.items t
+        ↔ ((r : Prefix) × Contains list.now r × IsFront list.now r (upper_bound mode high r.len) t)) }
 {
     let mut blocks = Vec::new(alloc);
     for r in list {
@@ -84,8 +90,8 @@ fn all_fronts(
     Ok(blocks)
 }
 
-/// The merged set of the rows, in order: what they allow of lengths up to `high`. The rows may be in any order.
-/// It tries each prefix that a row begins with; `AllocError` for want of memory.
+/// The merged set of the rows, in order: what they allow of lengths up to `high`. The rows may be in any
+/// order. It tries each prefix that a row begins with; `AllocError` for running out of memory.
 pub fn blocks_plain(
     alloc: Global,
     rows: &[Prefix],

@@ -37,7 +37,8 @@ fn short_rows(alloc: Global, rows: &[Prefix], high: u8) -> Result<Vec<Prefix>, A
 /// The same, sorted.
 fn sorted_rows(alloc: Global, rows: &[Prefix], high: u8) -> Result<Vec<Prefix>, AllocError>
     ensures sorted { IfOk result (λ short. IsSorted ⟦<Prefix as Ord>⟧.cmp short.items) }
-    ensures rows { IfOk result (λ short. IsPermutation (filter (λ r. nat_le r.len high) rows.now) short.items) }
+    ensures rows { IfOk result
+        (λ short. IsPermutation (filter (λ r. nat_le r.len high) rows.now) short.items) }
 {
     let mut short = short_rows(alloc, rows, high)?;
     short.sort_unstable();
@@ -54,8 +55,8 @@ fn is_under(last: &Option<Prefix>, q: &Prefix) -> bool
     }
 }
 
-/// Leaves the prefixes of the sorted list that no shorter one covers, in the same order. What covers a prefix stands before it, and
-/// all between both lie in it; so the last one that was left is the one to ask.
+/// Leaves the prefixes of the sorted list that no shorter one covers, in the same order. What covers a prefix
+/// stands before it, and all between both lie in it; so the last one that was left is the one to ask.
 fn leave_outermost(list: &mut Vec<Prefix>)
     requires { IsSorted ⟦<Prefix as Ord>⟧.cmp list.old.items }
     ensures { list.new.items ≡ filter (λ r. not (is_within list.old.items r)) list.old.items }
@@ -81,7 +82,8 @@ pub(crate) fn new_rows(
     high: u8,
 ) -> Result<Vec<Prefix>, AllocError>
     ensures sorted { IfOk result (λ list. IsSorted ⟦<Prefix as Ord>⟧.cmp list.items) }
-    ensures members { IfOk result (λ list. (q : Prefix) → Contains list.items q ↔ IsNew rows.now mode high q) }
+    ensures members { IfOk result
+        (λ list. (q : Prefix) → Contains list.items q ↔ IsNew rows.now mode high q) }
 {
     let mut list = sorted_rows(alloc, rows, high)?;
     match mode {

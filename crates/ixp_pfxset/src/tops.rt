@@ -9,7 +9,8 @@ use crate::groups::rows_of;
 use crate::trie::{parted, whole};
 use ixp_num::{Family, Prefix};
 
-/// How many of the longest full prefixes of the rows, which have length `l`, lie in `n`, and whether `n` is full.
+/// How many of the longest full prefixes of the rows, which have length `l`, lie in `n`, and whether `n` is
+/// full.
 fn tops_within(list: &[Prefix], l: u8, n: &Prefix) -> (usize, bool)
     requires longer { n.now.len ≤ l }
     requires short { l ≤ bits_of n.now.family }

@@ -1,7 +1,7 @@
 //! The merged set, by walking down the binary trie of the rows of each length and merging it from its leaves.
 //!
-//! A node of the trie is a prefix with the rows that lie in it, which are a part of the sorted rows: so it takes no
-//! memory, and the work is that of a few steps for each row and each of its bits.
+//! A node of the trie is a prefix with the rows that lie in it, which are a part of the sorted rows: so it
+//! takes no memory, and the work is that of a few steps for each row and each of its bits.
 ghost use Rattle.std.specs.Prelude.{[], ◌≡◌, ◌≤◌, ◌<◌, ◌↔◌, ◌⊎◌, ◌++◌, ◌&&◌, ◌==◌, true, IfOk, OnOk, IsTrue};
 ghost use Rattle.std.specs.List.{All, Contains, filter};
 ghost use Rattle.std.specs.List.Sorted.{IsNonDecreasingBy};
@@ -45,7 +45,10 @@ fn push_if(
     low: u8,
     high: u8,
 ) -> Result<(), AllocError>
-    ensures { OnOk result ((t : Pattern) → Contains out.new.items t ↔ (Contains out.old.items t ⊎ ((wanted ≡ true) × (t ≡ record { prefix = prefix.now; low = low; high = high })))) }
+    ensures { OnOk result
+        ((t : Pattern) → Contains out.new.items t
+        ↔ (Contains out.old.items t
+        ⊎ ((wanted ≡ true) × (t ≡ record { prefix = prefix.now; low = low; high = high })))) }
 {
     if wanted {
         out.push(Pattern {
@@ -59,7 +62,9 @@ fn push_if(
 
 /// Adds the pattern of a row that is alone.
 fn push_row(out: &mut Vec<Pattern>, row: &Prefix, l: u8, high: u8) -> Result<(), AllocError>
-    ensures { OnOk result ((t : Pattern) → Contains out.new.items t ↔ (Contains out.old.items t ⊎ (t ≡ record { prefix = row.now; low = l; high = high }))) }
+    ensures { OnOk result
+        ((t : Pattern) → Contains out.new.items t
+        ↔ (Contains out.old.items t ⊎ (t ≡ record { prefix = row.now; low = l; high = high }))) }
 {
     out.push(Pattern {
         prefix: *row,
@@ -69,8 +74,8 @@ fn push_row(out: &mut Vec<Pattern>, row: &Prefix, l: u8, high: u8) -> Result<(),
     Ok(())
 }
 
-/// Whether the list, all of whose rows have length `l` and lie in `n`, has all such prefixes. Adds the patterns
-/// of the longest full prefixes within `n`, unless `n` itself is full.
+/// Whether the list, all of whose rows have length `l` and lie in `n`, has all such prefixes. Adds the
+/// patterns of the longest full prefixes within `n`, unless `n` itself is full.
 fn merge(
     out: &mut Vec<Pattern>,
     list: &[Prefix],
@@ -83,7 +88,9 @@ fn merge(
     requires sorted { IsNonDecreasingBy (λ r. r.value) list.now }
     requires within { AllWithin list.now l n.now }
     ensures full { IfOk result (λ b. IsTrue b ↔ Fills list.now l n.now) }
-    ensures adds { OnOk result ((t : Pattern) → Contains out.new.items t ↔ (Contains out.old.items t ⊎ IsMergedBelow list.now l high n.now t)) }
+    ensures adds { OnOk result
+        ((t : Pattern) → Contains out.new.items t
+        ↔ (Contains out.old.items t ⊎ IsMergedBelow list.now l high n.now t)) }
 {
     if list.is_empty() {
         return Ok(false);
@@ -128,7 +135,9 @@ fn merge_length(
     requires short { l ≤ bits_of family }
     requires alike { filter (λ r. same_family r.family family && r.len == l) rows.now ≡ rows.now }
     requires sorted { IsNonDecreasingBy (λ r. r.value) rows.now }
-    ensures { OnOk result ((t : Pattern) → Contains out.new.items t ↔ (Contains out.old.items t ⊎ ((t.prefix.family ≡ family) × IsMerged rows.now l high t))) }
+    ensures { OnOk result
+        ((t : Pattern) → Contains out.new.items t
+        ↔ (Contains out.old.items t ⊎ ((t.prefix.family ≡ family) × IsMerged rows.now l high t))) }
 {
     let whole = whole(family);
     let full = merge(out, rows, l, high, &whole)?;
@@ -145,7 +154,9 @@ fn merge_family(
     family: Family,
 ) -> Result<(), AllocError>
     requires { IsNonDecreasingBy rank list.now }
-    ensures { OnOk result ((t : Pattern) → Contains out.new.items t ↔ (Contains out.old.items t ⊎ IsOfFamily list.now mode high family t)) }
+    ensures { OnOk result
+        ((t : Pattern) → Contains out.new.items t
+        ↔ (Contains out.old.items t ⊎ IsOfFamily list.now mode high family t)) }
 {
     for l in 0..=high.min(family.bits()) {
         let rows = rows_of(list, family, l);
@@ -162,7 +173,8 @@ fn new_in_groups(
     high: u8,
 ) -> Result<Vec<Prefix>, AllocError>
     ensures sorted { IfOk result (λ list. IsNonDecreasingBy rank list.items) }
-    ensures members { IfOk result (λ list. (q : Prefix) → Contains list.items q ↔ IsNew rows.now mode high q) }
+    ensures members { IfOk result
+        (λ list. (q : Prefix) → Contains list.items q ↔ IsNew rows.now mode high q) }
 {
     let list = new_rows(alloc, rows, mode, high)?;
     Ok(in_groups(list))
@@ -178,8 +190,9 @@ fn room_for(alloc: Global, list: &[Prefix]) -> Result<Vec<Pattern>, AllocError>
     Vec::with_capacity(alloc, four.saturating_add(six))
 }
 
-/// The merged set of the rows, in order: what they allow of lengths up to `high`, as `blocks_plain` gives it. The
-/// rows may be in any order. Beside the set it holds one copy of the rows. `AllocError` for want of memory.
+/// The merged set of the rows, in order: what they allow of lengths up to `high`, as `blocks_plain` gives it.
+/// The rows may be in any order. Beside the set it holds one copy of the rows. `AllocError` for want of
+/// memory.
 pub fn blocks_trie(
     alloc: Global,
     rows: &[Prefix],

@@ -41,9 +41,10 @@ checked r f a i =
     else (if not (is_host_in r.vlans i.vlan f a) then Err (Outside i.vlan)
     else unless_taken (other_interface r i.number a) (router_with r a))
 
--- The lowest refusal that stands against the address as the interface's one of the family: X4 where there is no such interface,
--- X7 where the address isn't of the family or the VLAN has no prefix of it, X8 where no interface may have it there, X9 where
--- another interface or a router has it. The address that the interface has now is replaced, and so stands against nothing.
+-- The lowest refusal that stands against the address as the interface's one of the family: X4 where there is
+-- no such interface, X7 where the address isn't of the family or the VLAN has no prefix of it, X8 where no
+-- interface may have it there, X9 where another interface or a router has it. The address that the interface
+-- has now is replaced, and so stands against nothing.
 abbrev pub address_check : Registry → ℕ → Family → Addr → Result Unit Refusal
 address_check r interface f a =
     if_there (row_of interface_key (interface ∷ []) r.interfaces) (Err (Unknown Interfaces (Number interface))) (checked r f a)

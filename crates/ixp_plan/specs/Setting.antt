@@ -20,6 +20,7 @@ abbrev pub with_address : Registry → ℕ → Family → IfAddr → Registry
 with_address r n f x =
     if_there (find interface_key (n ∷ []) r.interfaces) r (λ i. record r { interfaces = put interface_key (addressed f x i) r.interfaces })
 
--- addresses are hosts of their VLANs, nobody shares one or an API key's secret, and blackhole addresses are as they have to be
+-- addresses are hosts of their VLANs, nobody shares one or an API key's secret, and blackhole addresses are
+-- as they have to be
 abbrev pub KeepsAddressRules : Registry → Type 0
 KeepsAddressRules r = (rule_6 (rows_of r) ≡ None) × (rule_7 (rows_of r) ≡ None) × (rule_15 (rows_of r) ≡ None)

@@ -1,6 +1,13 @@
 //! Whether an interface may get an address.
 ghost use Rattle.std.specs.Prelude.{◌≡◌, option_map};
-ghost use Rattle.ixp_plan.specs.Checks.{other_interface, router_with, unless_taken, fits_family, checked, address_check};
+ghost use Rattle.ixp_plan.specs.Checks.{
+  other_interface,
+  router_with,
+  unless_taken,
+  fits_family,
+  checked,
+  address_check,
+};
 
 use crate::holders::uses;
 use ixp_num::{Addr, Family};
@@ -24,7 +31,8 @@ fn router_with<'a>(registry: &'a Registry, addr: &Addr) -> Option<&'a Router>
 }
 
 fn unless_taken(other: Option<&Interface>, router: Option<&Router>) -> Result<(), Refusal>
-    ensures { result ≡ unless_taken (option_map (λ i. i.now) other.entry) (option_map (λ q. q.now) router.entry) }
+    ensures { result ≡ unless_taken (option_map (λ i. i.now) other.entry)
+        (option_map (λ q. q.now) router.entry) }
 {
     if let Some(interface) = other {
         return Err(Refusal::Taken {
@@ -69,10 +77,10 @@ fn checked(
     )
 }
 
-/// Whether the interface may get the address as its one of the family. X4: there is no such interface. X7: the
-/// address isn't of the family, or the interface's VLAN has no prefix of it. X8: it lies outside the VLAN's prefix, or
-/// nobody may have it there. X9: another interface or a router has it; for a blackhole address the router is the first
-/// one by handle. It does not allocate.
+/// Whether the interface may get the address as its one of the family. X4: there is no such interface. X7:
+/// the address isn't of the family, or the interface's VLAN has no prefix of it. X8: it lies outside the
+/// VLAN's prefix, or nobody may have it there. X9: another interface or a router has it; for a blackhole
+/// address the router is the first one by handle. It does not allocate.
 pub fn check_address(
     registry: &Registry,
     interface: u32,

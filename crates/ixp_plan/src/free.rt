@@ -37,13 +37,14 @@ fn next_in(prefix: &Prefix, addr: &Addr) -> Option<Addr>
 }
 
 fn is_free(registry: &Registry, vlan: u32, family: Family, addr: &Addr) -> bool
-    ensures { result ≡ (is_host_in registry.now.vlans vlan family addr.now && not (is_taken registry.now addr.now)) }
+    ensures { result ≡ (is_host_in registry.now.vlans vlan family addr.now && not
+        (is_taken registry.now addr.now)) }
 {
     is_host_in(&registry.vlans, vlan, family, addr) && !is_taken(registry, addr)
 }
 
-/// The least address that an interface or a router in the VLAN may have and that nobody has, neither as its own nor
-/// for a blackhole. None where the VLAN isn't there, has no prefix of the family, or all are taken.
+/// The least address that an interface or a router in the VLAN may have and that nobody has, neither as its
+/// own nor for a blackhole. None where the VLAN isn't there, has no prefix of the family, or all are taken.
 pub fn first_free(registry: &Registry, vlan: u32, family: Family) -> Option<Addr>
     ensures { IsFirstFree registry.now vlan family result }
 {

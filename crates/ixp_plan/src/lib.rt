@@ -1,9 +1,10 @@
-//! The address plan: which addresses of a VLAN are taken, which is free, and whether an interface may get one.
+//! The address plan: which addresses of a VLAN are taken, which is free, and whether an interface may get
+//! one.
 //!
-//! An address is taken where an interface or a router has it, or a router for its blackhole (`specs/Holders.antt`).
-//! [`check_address`] and [`first_free`] do not allocate. The time of a look at one address is that of a look at all
-//! interfaces and routers; [`first_free`] looks at as many addresses as are taken, and at a few more, and
-//! [`use_report`] at those that are taken.
+//! An address is taken where an interface or a router has it, or a router for its blackhole
+//! (`specs/Holders.antt`). [`check_address`] and [`first_free`] do not allocate. The time of a look at one
+//! address is that of a look at all interfaces and routers; [`first_free`] looks at as many addresses as are
+//! taken, and at a few more, and [`use_report`] at those that are taken.
 #![tactic(auto)]
 
 mod checks;

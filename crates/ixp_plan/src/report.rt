@@ -2,7 +2,14 @@
 ghost use Rattle.std.specs.Prelude.{◌≡◌, ◌++◌, ℕ, List, OnOk, OnErr, IfOk, option_map, find, flat_map};
 ghost use Rattle.ixp_registry.specs.Lookups.{has_blackhole, has_addr};
 ghost use Rattle.ixp_plan.specs.Holders.{answers_at};
-ghost use Rattle.ixp_plan.specs.Uses.{interface_text, holder_text, use_line, free_line, addr_or_none, IsReport};
+ghost use Rattle.ixp_plan.specs.Uses.{
+  interface_text,
+  holder_text,
+  use_line,
+  free_line,
+  addr_or_none,
+  IsReport,
+};
 
 use crate::first_free;
 use crate::holders::answers_at;
@@ -32,7 +39,10 @@ fn put_holder(
     blackhole: Option<&Router>,
     out: &mut Vec<u8>,
 ) -> Result<(), AllocError>
-    ensures { OnOk result (out.new.items ≡ out.old.items ++ holder_text (option_map (λ i. i.now) interface.entry) (option_map (λ q. q.now) router.entry) (option_map (λ q. q.now) blackhole.entry)) }
+    ensures { OnOk result
+        (out.new.items ≡ out.old.items
+        ++ holder_text (option_map (λ i. i.now) interface.entry) (option_map (λ q. q.now) router.entry)
+        (option_map (λ q. q.now) blackhole.entry)) }
 {
     match (interface, router, blackhole) {
         (Some(interface), _, _) => put_interface(interface, out),
@@ -57,7 +67,8 @@ fn router_at<'a>(registry: &'a Registry, addr: &Addr) -> Option<&'a Router>
 }
 
 fn blackhole_at<'a>(registry: &'a Registry, addr: &Addr) -> Option<&'a Router>
-    ensures { option_map (λ q. q.now) result ≡ find (λ q. has_blackhole q addr.now) registry.entry.now.routers }
+    ensures { option_map (λ q. q.now) result
+        ≡ find (λ q. has_blackhole q addr.now) registry.entry.now.routers }
 {
     let routers = registry.routers.as_slice();
     routers.iter().find(|q| has_blackhole(q, addr))
@@ -77,7 +88,8 @@ fn put_use(registry: &Registry, addr: &Addr, out: &mut Vec<u8>) -> Result<(), Al
 }
 
 fn put_uses(registry: &Registry, used: &[UsedAddr], out: &mut Vec<u8>) -> Result<(), AllocError>
-    ensures { OnOk result (out.new.items ≡ out.old.items ++ flat_map (λ u. use_line registry.now u.addr) used.now) }
+    ensures { OnOk result
+        (out.new.items ≡ out.old.items ++ flat_map (λ u. use_line registry.now u.addr) used.now) }
 {
     for taken in used {
         put_use(registry, &taken.addr, out)?;
@@ -118,8 +130,9 @@ fn report_text(
     Ok(text)
 }
 
-/// Adds a line `<addr> interface <n>`, `<addr> router <handle>` or `<addr> blackhole <handle>` for each address of the
-/// VLAN that is taken, in ascending order, and then `free <addr>` with the least one that is free, or `free none`.
+/// Adds a line `<addr> interface <n>`, `<addr> router <handle>` or `<addr> blackhole <handle>` for each
+/// address of the VLAN that is taken, in ascending order, and then `free <addr>` with the least one that is
+/// free, or `free none`.
 pub fn use_report(
     alloc: Global,
     registry: &Registry,
@@ -127,7 +140,8 @@ pub fn use_report(
     family: Family,
     out: &mut Vec<u8>,
 ) -> Result<(), AllocError>
-    ensures ok { OnOk result ((t : List ℕ) × IsReport registry.now vlan family t × (out.new.items ≡ out.old.items ++ t)) }
+    ensures ok { OnOk result
+        ((t : List ℕ) × IsReport registry.now vlan family t × (out.new.items ≡ out.old.items ++ t)) }
     ensures err { OnErr result (out.new.items ≡ out.old.items) }
 {
     let text = report_text(alloc, registry, vlan, family)?;

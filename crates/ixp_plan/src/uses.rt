@@ -39,7 +39,8 @@ impl Row for UsedAddr {
 
 /// Puts the address in where it lies in the prefix.
 fn put_addr(prefix: &Prefix, addr: Addr, used: &mut Table<UsedAddr>) -> Result<(), AllocError>
-    ensures { OnOk result ((a : Addr) → is_in a used.new ≡ (contains prefix.now a && same_addr addr a || is_in a used.old)) }
+    ensures { OnOk result
+        ((a : Addr) → is_in a used.new ≡ (contains prefix.now a && same_addr addr a || is_in a used.old)) }
 {
     if prefix.contains(&addr) {
         used.put(UsedAddr { addr })?;
@@ -52,7 +53,8 @@ fn put_if_there(
     address: &Option<IfAddr>,
     used: &mut Table<UsedAddr>,
 ) -> Result<(), AllocError>
-    ensures { OnOk result ((a : Addr) → is_in a used.new ≡ (contains prefix.now a && is_at a address.now || is_in a used.old)) }
+    ensures { OnOk result
+        ((a : Addr) → is_in a used.new ≡ (contains prefix.now a && is_at a address.now || is_in a used.old)) }
 {
     match address {
         Some(address) => put_addr(prefix, address.addr, used),
@@ -65,7 +67,9 @@ fn put_interface(
     interface: &Interface,
     used: &mut Table<UsedAddr>,
 ) -> Result<(), AllocError>
-    ensures { OnOk result ((a : Addr) → is_in a used.new ≡ (contains prefix.now a && has_addr a interface.now || is_in a used.old)) }
+    ensures { OnOk result
+        ((a : Addr) → is_in a used.new
+        ≡ (contains prefix.now a && has_addr a interface.now || is_in a used.old)) }
 {
     put_if_there(prefix, &interface.v4, used)?;
     put_if_there(prefix, &interface.v6, used)?;
@@ -77,7 +81,9 @@ fn put_interfaces(
     interfaces: &[Interface],
     used: &mut Table<UsedAddr>,
 ) -> Result<(), AllocError>
-    ensures { OnOk result ((a : Addr) → is_in a used.new ≡ (contains prefix.now a && list_any (has_addr a) interfaces.now || is_in a used.old)) }
+    ensures { OnOk result
+        ((a : Addr) → is_in a used.new
+        ≡ (contains prefix.now a && list_any (has_addr a) interfaces.now || is_in a used.old)) }
 {
     let mut left = interfaces;
     'each: while let Some((interface, others)) = left.split_first() {
@@ -92,7 +98,9 @@ fn put_blackhole(
     router: &Router,
     used: &mut Table<UsedAddr>,
 ) -> Result<(), AllocError>
-    ensures { OnOk result ((a : Addr) → is_in a used.new ≡ (contains prefix.now a && has_blackhole router.now a || is_in a used.old)) }
+    ensures { OnOk result
+        ((a : Addr) → is_in a used.new
+        ≡ (contains prefix.now a && has_blackhole router.now a || is_in a used.old)) }
 {
     match router.blackhole {
         Some(blackhole) => put_addr(prefix, blackhole, used),
@@ -105,7 +113,8 @@ fn put_router(
     router: &Router,
     used: &mut Table<UsedAddr>,
 ) -> Result<(), AllocError>
-    ensures { OnOk result ((a : Addr) → is_in a used.new ≡ (contains prefix.now a && uses a router.now || is_in a used.old)) }
+    ensures { OnOk result
+        ((a : Addr) → is_in a used.new ≡ (contains prefix.now a && uses a router.now || is_in a used.old)) }
 {
     put_addr(prefix, router.addr, used)?;
     put_blackhole(prefix, router, used)?;
@@ -117,7 +126,9 @@ fn put_routers(
     routers: &[Router],
     used: &mut Table<UsedAddr>,
 ) -> Result<(), AllocError>
-    ensures { OnOk result ((a : Addr) → is_in a used.new ≡ (contains prefix.now a && list_any (uses a) routers.now || is_in a used.old)) }
+    ensures { OnOk result
+        ((a : Addr) → is_in a used.new
+        ≡ (contains prefix.now a && list_any (uses a) routers.now || is_in a used.old)) }
 {
     let mut left = routers;
     'each: while let Some((router, others)) = left.split_first() {
@@ -132,7 +143,8 @@ fn used_in(
     registry: &Registry,
     prefix: &Prefix,
 ) -> Result<Table<UsedAddr>, AllocError>
-    ensures { IfOk result (λ us. (a : Addr) → is_in a us ≡ (contains prefix.now a && is_taken registry.now a)) }
+    ensures { IfOk result
+        (λ us. (a : Addr) → is_in a us ≡ (contains prefix.now a && is_taken registry.now a)) }
 {
     let mut used = Table::new(alloc);
     put_interfaces(prefix, registry.interfaces.as_slice(), &mut used)?;

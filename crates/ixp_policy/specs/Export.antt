@@ -22,8 +22,9 @@ times_of Stop = None
 abbrev pub steered : ℕ → Route → ℕ → Option ℕ
 steered rs route to = if sends rs route to then Some (prepends rs route to) else None
 
--- The wish for a receiver's number: how often the sender's number is put in front of the path, None where the route isn't to
--- be sent. The sender's rules decide; where none is about the net and the receiver, the route's communities do.
+-- The wish for a receiver's number: how often the sender's number is put in front of the path, None where the
+-- route isn't to be sent. The sender's rules decide; where none is about the net and the receiver, the
+-- route's communities do.
 abbrev pub wish : Router → Session → Route → ℕ → Option ℕ
 wish router s route to = if_there (asked s.rules router.asn.0 route.net to) (steered router.asn.0 route to) times_of
 

@@ -39,7 +39,8 @@ fate_of r router route s = record {
   sent = if passes r router s route then sent_to_others r router s (tagged r router s route) else [];
 }
 
--- what `f` says of the session of the interface with the number, None where the router with the handle has no such session
+-- what `f` says of the session of the interface with the number, None where the router with the handle has no
+-- such session
 abbrev pub at_session : {T : Type 0} → Registry → List ℕ → ℕ → (Router → Session → T) → Option T
 at_session r handle n f = if_there (find router_key handle r.routers) None (λ router. option_map (f router) (session r router n))
 

@@ -1,5 +1,5 @@
--- What a route server refuses (RFC 7947 section 4.2, RFC 7454 sections 6 and 9). Each sentence is about rows, and about the
--- route as it came; a route is refused by the first one of the table that holds.
+-- What a route server refuses (RFC 7947 section 4.2, RFC 7454 sections 6 and 9). Each sentence is about rows,
+-- and about the route as it came; a route is refused by the first one of the table that holds.
 use Rattle.std.specs.Prelude.{ℕ, Bool, true, false, ◌&&◌, ◌||◌, ◌==◌, not, nat_le, nat_lt, List, [], ◌∷◌, length, filter, find, Option, option_map, if◌then◌else◌}
 use Rattle.std.specs.List.{list_any}
 use Rattle.ixp_num.specs.declared.addr.Addr.{Addr}
@@ -72,7 +72,8 @@ is_own_hop s route = same_addr route.next_hop s.address.addr
 abbrev pub has_address : Addr → Option IfAddr → Bool
 has_address a x = if_there x false (λ y. same_addr a y.addr)
 
--- the next hop is the address of the router's family that the member has at this interface of the session's VLAN
+-- the next hop is the address of the router's family that the member has at this interface of the session's
+-- VLAN
 abbrev pub is_hop_at : Router → Session → Route → Interface → Bool
 is_hop_at router s route i =
     is_beside s i && has_address route.next_hop (address_of router.family i)
@@ -127,8 +128,9 @@ is_covered_by net ps = list_any (λ p. covers p net) ps
 abbrev pub is_registered : Session → Route → Bool
 is_registered s route = if s.address.more then is_covered_by route.net s.prefixes else is_in_list route.net s.prefixes
 
--- Not the member's to announce: a blackhole route where the address isn't held to the member's lists, or no registered prefix
--- covers it; any other route where the address is, and the route neither is found Valid nor allowed
+-- Not the member's to announce: a blackhole route where the address isn't held to the member's lists, or no
+-- registered prefix covers it; any other route where the address is, and the route neither is found Valid nor
+-- allowed
 abbrev pub prefix_not_registered : Registry → Router → Session → Route → Bool
 prefix_not_registered r router s route =
     if is_blackhole router route then not s.address.irr || not (is_covered_by route.net s.prefixes)

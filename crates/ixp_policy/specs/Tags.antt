@@ -1,4 +1,5 @@
--- What a route server writes on a route that a session brings: large communities that tell what it found (RFC 8092).
+-- What a route server writes on a route that a session brings: large communities that tell what it found (RFC
+-- 8092).
 use Rattle.std.specs.Prelude.{ℕ, Bool, true, false, ◌&&◌, ◌||◌, not, List, [], ◌∷◌, ◌++◌, Option, if◌then◌else◌}
 use Rattle.ixp_num.specs.declared.asn.Asn.{Asn}
 use Rattle.ixp_num.specs.declared.roa.Validity.TheVariants.{Valid, Unknown}
@@ -27,13 +28,14 @@ is_empty (a ∷ asns) = false
 abbrev pub is_untested : Router → Route → Bool
 is_untested router route = not router.rpki || is_blackhole router route
 
--- the tests that decide by the member's prefixes: those of a blackhole route, and of one that isn't found Valid
+-- the tests that decide by the member's prefixes: those of a blackhole route, and of one that isn't found
+-- Valid
 abbrev pub goes_by_prefixes : Registry → Router → Session → Route → Bool
 goes_by_prefixes r router s route = s.address.irr && (is_blackhole router route || not (is_found r router route Valid))
 
--- What is told, where it holds. rs:1001:1200 the next hop is another router of the member; rs:1001:2 its registered
--- origins aren't asked for; rs:1001:1002 there are none; rs:1000:3, rs:1000:1, rs:1000:2 origins aren't tested, Valid, Unknown
--- (RFC 6811); rs:1001:1 the net is of a registered prefix.
+-- What is told, where it holds. rs:1001:1200 the next hop is another router of the member; rs:1001:2 its
+-- registered origins aren't asked for; rs:1001:1002 there are none; rs:1000:3, rs:1000:1, rs:1000:2 origins
+-- aren't tested, Valid, Unknown (RFC 6811); rs:1001:1 the net is of a registered prefix.
 unfoldable pub findings : Registry → Router → Session → Route → List Line → List (Bool × (ℕ × ℕ × ℕ))
 findings r router s route lines =
     (is_got_past NextHopNotPeer lines && not (is_own_hop s route), (router.asn.0, FINDING, 1200))

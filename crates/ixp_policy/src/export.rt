@@ -1,6 +1,17 @@
 //! What a receiver gets of a route.
 ghost use Rattle.std.specs.Prelude.{◌≡◌, ◌++◌, ◌==◌, IfOk, filter, not, replicate};
-ghost use Rattle.ixp_policy.specs.Export.{hop_of, is_for_server, is_of_server, lets_in, received, sent_route, server_actions, steered, times_of, wish};
+ghost use Rattle.ixp_policy.specs.Export.{
+  hop_of,
+  is_for_server,
+  is_of_server,
+  lets_in,
+  received,
+  sent_route,
+  server_actions,
+  steered,
+  times_of,
+  wish,
+};
 ghost use Rattle.ixp_num_tables.specs.Tables.{if_there};
 ghost use Rattle.ixp_registry.specs.Sessions.{asked};
 ghost use Rattle.std.specs.List.{list_any};
@@ -50,7 +61,8 @@ fn steered(rs: Asn, route: &Route, to: Asn) -> Option<u8>
 }
 
 fn wish_by(rules: &[MemberRule], rs: Asn, route: &Route, to: Asn) -> Option<u8>
-    ensures { result ≡ if_there (asked rules.now rs.0 route.now.net to.0) (steered rs.0 route.now to.0) times_of }
+    ensures { result ≡ if_there (asked rules.now rs.0 route.now.net to.0)
+        (steered rs.0 route.now to.0) times_of }
 {
     match asked(rules, rs, &route.net, to) {
         Some(action) => times_of(action),
@@ -58,7 +70,8 @@ fn wish_by(rules: &[MemberRule], rs: Asn, route: &Route, to: Asn) -> Option<u8>
     }
 }
 
-/// How often the sender's number is put in front for the receiver `to`, None where the route isn't to be sent.
+/// How often the sender's number is put in front for the receiver `to`, None where the route isn't to be
+/// sent.
 pub(crate) fn wish(router: &Router, sender: &SessionRows<'_>, route: &Route, to: Asn) -> Option<u8>
     ensures { result ≡ wish router.now (session_of sender.now) route.now to.0 }
 {
@@ -162,7 +175,8 @@ pub(crate) fn received(
     route: &Route,
     receiver: &SessionRows<'_>,
 ) -> Result<Option<Route>, AllocError>
-    ensures { IfOk result (λ x. x ≡ received router.now (session_of sender.now) route.now (session_of receiver.now)) }
+    ensures { IfOk result
+        (λ x. x ≡ received router.now (session_of sender.now) route.now (session_of receiver.now)) }
 {
     if !lets_in(receiver, sender, route) {
         return Ok(None);

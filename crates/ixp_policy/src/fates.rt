@@ -23,7 +23,9 @@ fn received_at(
     route: &Route,
     receiver: Option<SessionRows<'_>>,
 ) -> Result<Option<Route>, AllocError>
-    ensures { IfOk result (λ x. x ≡ if_there (option_map session_of receiver.entry) None (received router.now (session_of sender.now) route.now)) }
+    ensures { IfOk result
+        (λ x. x ≡ if_there (option_map session_of receiver.entry) None
+        (received router.now (session_of sender.now) route.now)) }
 {
     match receiver {
         Some(receiver) => received(alloc, router, sender, route, &receiver),
@@ -39,7 +41,8 @@ fn sent_to(
     route: &Route,
     interface: &Interface,
 ) -> Result<(Name, Option<Route>), AllocError>
-    ensures { IfOk result (λ x. x ≡ sent_at registry.now router.now (session_of sender.now) route.now interface.now) }
+    ensures { IfOk result
+        (λ x. x ≡ sent_at registry.now router.now (session_of sender.now) route.now interface.now) }
 {
     let name = numbered(alloc, b"b_", interface.number)?;
     let receiver = session_at(registry, router, interface);
@@ -54,7 +57,8 @@ fn is_other(
     sender: &SessionRows<'_>,
     interface: &Interface,
 ) -> bool
-    ensures { result ≡ (is_session registry.now router.now interface.now && is_other (session_of sender.now) interface.now) }
+    ensures { result ≡ (is_session registry.now router.now interface.now && is_other
+        (session_of sender.now) interface.now) }
 {
     is_session(registry, router, interface) && interface.number != sender.interface.number
 }
@@ -66,7 +70,8 @@ fn sent_to_others(
     sender: &SessionRows<'_>,
     route: &Route,
 ) -> Result<Items<(Name, Option<Route>)>, AllocError>
-    ensures { IfOk result (λ xs. xs ≡ sent_to_others registry.now router.now (session_of sender.now) route.now) }
+    ensures { IfOk result
+        (λ xs. xs ≡ sent_to_others registry.now router.now (session_of sender.now) route.now) }
 {
     let mut sent = Items::new(alloc);
     let mut left = registry.interfaces.as_slice();
@@ -102,8 +107,8 @@ fn fate_of(
     })
 }
 
-/// What becomes of a route that the router's session at the interface with the number brings; None where there is no
-/// such session. Sessions are named `b_` and their interface's number.
+/// What becomes of a route that the router's session at the interface with the number brings; None where
+/// there is no such session. Sessions are named `b_` and their interface's number.
 pub fn fate_plain(
     alloc: Global,
     registry: &Registry,
@@ -122,7 +127,8 @@ pub fn fate_plain(
     }
 }
 
-/// The number with which the route is refused there, if it is; None where there is no such session. It does not allocate.
+/// The number with which the route is refused there, if it is; None where there is no such session. It does
+/// not allocate.
 pub fn number_plain(
     registry: &Registry,
     router: &Name,
@@ -144,14 +150,16 @@ fn ask_of(
     to: Asn,
     sender: &SessionRows<'_>,
 ) -> Result<Option<u8>, AllocError>
-    ensures { IfOk result (λ w. w ≡ wish router.now (session_of sender.now) (tagged registry.now router.now (session_of sender.now) route.now) to.0) }
+    ensures { IfOk result
+        (λ w. w ≡ wish router.now (session_of sender.now)
+        (tagged registry.now router.now (session_of sender.now) route.now) to.0) }
 {
     let own = tagged(alloc, registry, router, sender, route)?;
     Ok(wish(router, sender, &own, to))
 }
 
-/// How often the sender's number is put in front of the route for a receiver with the number `to`, None inside where it isn't to
-/// be sent; None where there is no such session.
+/// How often the sender's number is put in front of the route for a receiver with the number `to`, None
+/// inside where it isn't to be sent; None where there is no such session.
 pub fn ask_plain(
     alloc: Global,
     registry: &Registry,

@@ -1,7 +1,16 @@
 //! What the server writes on a route.
 ghost use Rattle.std.specs.Prelude.{◌≡◌, ◌++◌, [], IfOk, OnOk};
 ghost use Rattle.ixp_policy.specs.Import.{brought_triples, import_table};
-ghost use Rattle.ixp_policy.specs.Tags.{chosen, findings, goes_by_prefixes, is_empty, is_untested, refusal_told, tagged, tags};
+ghost use Rattle.ixp_policy.specs.Tags.{
+  chosen,
+  findings,
+  goes_by_prefixes,
+  is_empty,
+  is_untested,
+  refusal_told,
+  tagged,
+  tags,
+};
 ghost use Rattle.ixp_policy.specs.Views.{session_of};
 
 use crate::blackholes::is_blackhole;
@@ -128,7 +137,10 @@ fn push_tags(
     route: &Route,
     out: &mut Vec<Triple>,
 ) -> Result<(), AllocError>
-    ensures { OnOk result (out.new.items ≡ out.old.items ++ tags registry.now router.now (session_of session.now) route.now (import_table registry.now router.now (session_of session.now) route.now)) }
+    ensures { OnOk result
+        (out.new.items ≡ out.old.items
+        ++ tags registry.now router.now (session_of session.now) route.now
+        (import_table registry.now router.now (session_of session.now) route.now)) }
 {
     let lines = import_table(registry, router, session, route);
     let told = findings(registry, router, session, route, lines.as_slice());

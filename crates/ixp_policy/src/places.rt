@@ -3,7 +3,25 @@ ghost use Rattle.std.specs.Prelude.{◌≡◌, ◌<◌, length};
 ghost use Rattle.std.specs.List.{list_any};
 ghost use Rattle.ixp_num.specs.Prefixes.{is_in_set};
 ghost use Rattle.ixp_registry.specs.Sessions.{address_of};
-ghost use Rattle.ixp_policy.specs.Import.{brought_triples, has_address, bogon_as_in_path, path_too_long, too_many_communities, path_empty, first_as_not_peer_as, next_hop_not_peer, transit_free_as_in_path, prefix_is_bogon, is_bogon_as, is_hop_at, is_listed, is_own_hop, is_report, prefix_too_long, prefix_too_short};
+ghost use Rattle.ixp_policy.specs.Import.{
+  brought_triples,
+  has_address,
+  bogon_as_in_path,
+  path_too_long,
+  too_many_communities,
+  path_empty,
+  first_as_not_peer_as,
+  next_hop_not_peer,
+  transit_free_as_in_path,
+  prefix_is_bogon,
+  is_bogon_as,
+  is_hop_at,
+  is_listed,
+  is_own_hop,
+  is_report,
+  prefix_too_long,
+  prefix_too_short,
+};
 ghost use Rattle.ixp_policy.specs.Views.{session_of};
 
 use crate::blackholes::is_blackhole;

@@ -2,7 +2,17 @@
 ghost use Rattle.std.specs.Prelude.{◌≡◌};
 ghost use Rattle.ixp_lang.specs.Attributes.{same_state};
 ghost use Rattle.ixp_num.specs.Prefixes.{same_prefix};
-ghost use Rattle.ixp_policy.specs.Import.{origin_not_registered, is_registered, is_covered_by, is_found, is_found_to_be, is_in_list, origin_invalid, prefix_not_registered, state_of};
+ghost use Rattle.ixp_policy.specs.Import.{
+  origin_not_registered,
+  is_registered,
+  is_covered_by,
+  is_found,
+  is_found_to_be,
+  is_in_list,
+  origin_invalid,
+  prefix_not_registered,
+  state_of,
+};
 ghost use Rattle.ixp_policy.specs.Views.{session_of};
 
 use crate::blackholes::is_blackhole;

@@ -1,7 +1,15 @@
 //! The sessions of a router.
 ghost use Rattle.std.specs.Prelude.{◌≡◌, false, option_map};
 ghost use Rattle.ixp_num_tables.specs.Tables.{if_there};
-ghost use Rattle.ixp_registry.specs.Sessions.{address_of, is_session, origins_in, prefixes_in, rules_of, session, session_at};
+ghost use Rattle.ixp_registry.specs.Sessions.{
+  address_of,
+  is_session,
+  origins_in,
+  prefixes_in,
+  rules_of,
+  session,
+  session_at,
+};
 ghost use Rattle.ixp_policy.specs.Views.{session_of};
 
 use ixp_num::{Asn, Family, Prefix};

@@ -1,6 +1,14 @@
 //! The import table.
 ghost use Rattle.std.specs.Prelude.{◌≡◌};
-ghost use Rattle.ixp_policy.specs.Import.{first_that_holds, import_table, is_got_past, is_reached, line, refusal, refusal_number};
+ghost use Rattle.ixp_policy.specs.Import.{
+  first_that_holds,
+  import_table,
+  is_got_past,
+  is_reached,
+  line,
+  refusal,
+  refusal_number,
+};
 ghost use Rattle.ixp_policy.specs.Views.{session_of};
 
 use crate::line::{Line, Reason, same_reason};

@@ -2,7 +2,17 @@
 ghost use Rattle.std.specs.Prelude.{◌≡◌, ◌++◌, codes, OnOk};
 ghost use Rattle.ixp_lang.specs.Trees.{exprs};
 ghost use Rattle.ixp_lang.specs.Views.{expr_view, exprs_view};
-ghost use Rattle.ixp_print.specs.Texts.{set_items_text, set_text, value_text, is_chain, is_compound, wrapped, expr_text, exprs_text, chain_text};
+ghost use Rattle.ixp_print.specs.Texts.{
+  set_items_text,
+  set_text,
+  value_text,
+  is_chain,
+  is_compound,
+  wrapped,
+  expr_text,
+  exprs_text,
+  chain_text,
+};
 
 use crate::list::{AddrText, PairText, PatternText, RangeText, TripleText};
 use crate::word::{attr_word, bool_word, op_word, state_word};
@@ -67,7 +77,8 @@ fn is_compound(e: &Expr) -> bool
 /// Writes an expression, in parentheses or bare.
 #[cycle(expr)]
 fn put_wrapped(out: &mut Vec<u8>, in_parentheses: bool, e: &Expr) -> Result<(), AllocError>
-    ensures { OnOk result (out.new.items ≡ out.old.items ++ wrapped in_parentheses (expr_text (expr_view e.now))) }
+    ensures { OnOk result
+        (out.new.items ≡ out.old.items ++ wrapped in_parentheses (expr_text (expr_view e.now))) }
 {
     if !in_parentheses {
         return put_expr(out, e);
@@ -96,7 +107,8 @@ pub fn put_args(out: &mut Vec<u8>, args: &[Expr]) -> Result<(), AllocError>
 /// Writes the parts of a chain.
 #[cycle(expr)]
 fn put_chain(out: &mut Vec<u8>, joint: &[u8], parts: &[Expr]) -> Result<(), AllocError>
-    ensures { OnOk result (out.new.items ≡ out.old.items ++ chain_text joint.now (exprs (exprs_view parts.now))) }
+    ensures { OnOk result
+        (out.new.items ≡ out.old.items ++ chain_text joint.now (exprs (exprs_view parts.now))) }
 {
     let mut is_first = true;
     'each: for part in parts {
@@ -111,7 +123,9 @@ fn put_chain(out: &mut Vec<u8>, joint: &[u8], parts: &[Expr]) -> Result<(), Allo
 
 #[cycle(expr)]
 fn put_call(out: &mut Vec<u8>, name: &Name, args: &[Expr]) -> Result<(), AllocError>
-    ensures { OnOk result (out.new.items ≡ out.old.items ++ (name.now ++ codes "(" ++ exprs_text (exprs (exprs_view args.now)) ++ codes ")")) }
+    ensures { OnOk result
+        (out.new.items ≡ out.old.items
+        ++ (name.now ++ codes "(" ++ exprs_text (exprs (exprs_view args.now)) ++ codes ")")) }
 {
     put(out, name.as_bytes())?;
     put(out, b"(")?;

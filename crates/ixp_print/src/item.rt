@@ -5,7 +5,28 @@ ghost use Rattle.ixp_num.specs.Printing.{addr_text};
 ghost use Rattle.ixp_lang.specs.Trees.{stmts};
 ghost use Rattle.ixp_lang.specs.Views.{expr_view, stmts_view, item_view, config_view};
 ghost use Rattle.ixp_num_tables.specs.Joined.{joined};
-ghost use Rattle.ixp_print.specs.Texts.{line, body_text, param_text, head_line, nameless_head, use_text, pipe_text, channel_text, local_text, client_text, password_text, limit_text, bgp_channel_text, bgp_text, device_text, kind_text, stmts_text, expr_text, item_text, config_text};
+ghost use Rattle.ixp_print.specs.Texts.{
+  line,
+  body_text,
+  param_text,
+  head_line,
+  nameless_head,
+  use_text,
+  pipe_text,
+  channel_text,
+  local_text,
+  client_text,
+  password_text,
+  limit_text,
+  bgp_channel_text,
+  bgp_text,
+  device_text,
+  kind_text,
+  stmts_text,
+  expr_text,
+  item_text,
+  config_text,
+};
 
 use crate::expr::put_expr;
 use crate::list::ParamText;
@@ -25,7 +46,8 @@ fn put_named(
     name: &Name,
     after: &[u8],
 ) -> Result<(), AllocError>
-    ensures { OnOk result (out.new.items ≡ out.old.items ++ line indent.now (before.now ++ name.now ++ after.now)) }
+    ensures { OnOk result
+        (out.new.items ≡ out.old.items ++ line indent.now (before.now ++ name.now ++ after.now)) }
 {
     put(out, indent)?;
     put(out, before)?;
@@ -36,7 +58,8 @@ fn put_named(
 
 #[tactic(auto, unfolding(crate::specs::Texts::line))]
 fn put_router_id(out: &mut Vec<u8>, addr: &Addr) -> Result<(), AllocError>
-    ensures { OnOk result (out.new.items ≡ out.old.items ++ line [] (codes "router id " ++ addr_text addr.now ++ codes ";")) }
+    ensures { OnOk result
+        (out.new.items ≡ out.old.items ++ line [] (codes "router id " ++ addr_text addr.now ++ codes ";")) }
 {
     put(out, b"router id ")?;
     print_addr(addr, out)?;
@@ -45,7 +68,9 @@ fn put_router_id(out: &mut Vec<u8>, addr: &Addr) -> Result<(), AllocError>
 
 #[tactic(auto, unfolding(crate::specs::Texts::line))]
 fn put_table(out: &mut Vec<u8>, kind: Kind, name: &Name) -> Result<(), AllocError>
-    ensures { OnOk result (out.new.items ≡ out.old.items ++ line [] (kind_text kind ++ codes " table " ++ name.now ++ codes ";")) }
+    ensures { OnOk result
+        (out.new.items ≡ out.old.items
+        ++ line [] (kind_text kind ++ codes " table " ++ name.now ++ codes ";")) }
 {
     put(out, kind_word(kind))?;
     put(out, b" table ")?;
@@ -55,7 +80,10 @@ fn put_table(out: &mut Vec<u8>, kind: Kind, name: &Name) -> Result<(), AllocErro
 
 #[tactic(auto, unfolding(crate::specs::Texts::line))]
 fn put_define(out: &mut Vec<u8>, name: &Name, value: &Expr) -> Result<(), AllocError>
-    ensures { OnOk result (out.new.items ≡ out.old.items ++ line [] (codes "define " ++ name.now ++ codes " = " ++ expr_text (expr_view value.now) ++ codes ";")) }
+    ensures { OnOk result
+        (out.new.items ≡ out.old.items
+        ++ line [] (codes "define " ++ name.now ++ codes " = " ++ expr_text (expr_view value.now)
+        ++ codes ";")) }
 {
     put(out, b"define ")?;
     put(out, name.as_bytes())?;
@@ -67,7 +95,10 @@ fn put_define(out: &mut Vec<u8>, name: &Name, value: &Expr) -> Result<(), AllocE
 /// Writes what follows a head: statements in braces.
 #[tactic(auto, unfolding(crate::specs::Texts::line))]
 fn put_body(alloc: Global, out: &mut Vec<u8>, body: &[Stmt]) -> Result<(), AllocError>
-    ensures { OnOk result (out.new.items ≡ out.old.items ++ (codes " {\n" ++ stmts_text (codes "  ") (stmts (stmts_view body.now)) ++ line [] (codes "}"))) }
+    ensures { OnOk result
+        (out.new.items ≡ out.old.items
+        ++ (codes " {\n" ++ stmts_text (codes "  ") (stmts (stmts_view body.now))
+        ++ line [] (codes "}"))) }
 {
     put(out, b" {\n")?;
     put_stmts(alloc, out, b"  ", body)?;
@@ -83,7 +114,8 @@ fn put_function(
     body: &[Stmt],
 ) -> Result<(), AllocError>
     ensures { OnOk result (out.new.items ≡ out.old.items
-        ++ body_text (codes "function " ++ name.now ++ codes "(" ++ joined (codes "; ") param_text params.now ++ codes ")") (stmts (stmts_view body.now))) }
+        ++ body_text (codes "function " ++ name.now ++ codes "(" ++ joined (codes "; ") param_text params.now
+        ++ codes ")") (stmts (stmts_view body.now))) }
 {
     put(out, b"function ")?;
     put(out, name.as_bytes())?;
@@ -100,7 +132,9 @@ fn put_filter(
     name: &Name,
     body: &[Stmt],
 ) -> Result<(), AllocError>
-    ensures { OnOk result (out.new.items ≡ out.old.items ++ body_text (codes "filter " ++ name.now) (stmts (stmts_view body.now))) }
+    ensures { OnOk result
+        (out.new.items ≡ out.old.items
+        ++ body_text (codes "filter " ++ name.now) (stmts (stmts_view body.now))) }
 {
     put(out, b"filter ")?;
     put(out, name.as_bytes())?;
@@ -127,7 +161,8 @@ fn put_nameless_head(out: &mut Vec<u8>) -> Result<(), AllocError>
 }
 
 fn put_device(out: &mut Vec<u8>, name: Option<&Name>) -> Result<(), AllocError>
-    ensures { OnOk result (out.new.items ≡ out.old.items ++ device_text (option_map (λ n. n.now) name.entry)) }
+    ensures { OnOk result
+        (out.new.items ≡ out.old.items ++ device_text (option_map (λ n. n.now) name.entry)) }
 {
     match name {
         None => {
@@ -157,7 +192,8 @@ fn put_use(out: &mut Vec<u8>, which: &Use) -> Result<(), AllocError>
 /// Writes a line of what is done with routes one way.
 #[tactic(auto, unfolding(crate::specs::Texts::line))]
 fn put_way(out: &mut Vec<u8>, indent: &[u8], way: &[u8], which: &Use) -> Result<(), AllocError>
-    ensures { OnOk result (out.new.items ≡ out.old.items ++ line indent.now (way.now ++ use_text which.now ++ codes ";")) }
+    ensures { OnOk result
+        (out.new.items ≡ out.old.items ++ line indent.now (way.now ++ use_text which.now ++ codes ";")) }
 {
     put(out, indent)?;
     put(out, way)?;
@@ -185,7 +221,8 @@ fn put_counted(
     number: u64,
     after: &[u8],
 ) -> Result<(), AllocError>
-    ensures { OnOk result (out.new.items ≡ out.old.items ++ line indent.now (before.now ++ decimal number ++ after.now)) }
+    ensures { OnOk result
+        (out.new.items ≡ out.old.items ++ line indent.now (before.now ++ decimal number ++ after.now)) }
 {
     put(out, indent)?;
     put(out, before)?;
@@ -220,7 +257,8 @@ fn channel_word(family: Family) -> &'static [u8]
 
 #[tactic(auto, unfolding(crate::specs::Texts::line))]
 fn put_channel_head(out: &mut Vec<u8>, family: Family) -> Result<(), AllocError>
-    ensures { OnOk result (out.new.items ≡ out.old.items ++ line (codes "  ") (channel_text family ++ codes " {")) }
+    ensures { OnOk result
+        (out.new.items ≡ out.old.items ++ line (codes "  ") (channel_text family ++ codes " {")) }
 {
     put(out, b"  ")?;
     put(out, channel_word(family))?;
@@ -241,7 +279,8 @@ fn put_channel(out: &mut Vec<u8>, session: &Bgp) -> Result<(), AllocError>
 /// Writes the address and the AS number of this end.
 #[tactic(auto, unfolding(crate::specs::Texts::line))]
 fn put_local(out: &mut Vec<u8>, local: Option<Addr>, asn: u32) -> Result<(), AllocError>
-    ensures { OnOk result (out.new.items ≡ out.old.items ++ line (codes "  ") (local_text local ++ decimal asn ++ codes ";")) }
+    ensures { OnOk result
+        (out.new.items ≡ out.old.items ++ line (codes "  ") (local_text local ++ decimal asn ++ codes ";")) }
 {
     put(out, b"  local ")?;
     if let Some(addr) = local {
@@ -264,7 +303,10 @@ fn put_end(
     number: u64,
     after: &[u8],
 ) -> Result<(), AllocError>
-    ensures { OnOk result (out.new.items ≡ out.old.items ++ line indent.now (before.now ++ addr_text addr.now ++ between.now ++ decimal number ++ after.now)) }
+    ensures { OnOk result
+        (out.new.items ≡ out.old.items
+        ++ line indent.now (before.now ++ addr_text addr.now ++ between.now ++ decimal number
+        ++ after.now)) }
 {
     put(out, indent)?;
     put(out, before)?;
@@ -276,7 +318,10 @@ fn put_end(
 }
 
 fn put_neighbor(out: &mut Vec<u8>, addr: &Addr, asn: u32) -> Result<(), AllocError>
-    ensures { OnOk result (out.new.items ≡ out.old.items ++ line (codes "  ") (codes "neighbor " ++ addr_text addr.now ++ codes " as " ++ decimal asn ++ codes ";")) }
+    ensures { OnOk result
+        (out.new.items ≡ out.old.items
+        ++ line (codes "  ")
+        (codes "neighbor " ++ addr_text addr.now ++ codes " as " ++ decimal asn ++ codes ";")) }
 {
     put_end(
         out,
@@ -300,7 +345,8 @@ fn put_client(out: &mut Vec<u8>, rs_client: bool) -> Result<(), AllocError>
 
 #[tactic(auto, unfolding(crate::specs::Texts::line))]
 fn put_password(out: &mut Vec<u8>, password: Option<&Items<u8>>) -> Result<(), AllocError>
-    ensures { OnOk result (out.new.items ≡ out.old.items ++ password_text (option_map (λ p. p.now) password.entry)) }
+    ensures { OnOk result
+        (out.new.items ≡ out.old.items ++ password_text (option_map (λ p. p.now) password.entry)) }
 {
     let Some(password) = password else {
         return Ok(());

@@ -1,7 +1,14 @@
 //! How items of lists are written.
 ghost use Rattle.std.specs.Prelude.{◌≡◌, ◌++◌, List, ℕ, OnOk};
 ghost use Rattle.ixp_num.specs.Printing.{addr_text, pattern_text};
-ghost use Rattle.ixp_print.specs.Texts.{range_text, part_text, pair_text, triple_text, label_text, param_text};
+ghost use Rattle.ixp_print.specs.Texts.{
+  range_text,
+  part_text,
+  pair_text,
+  triple_text,
+  label_text,
+  param_text,
+};
 
 use crate::word::{state_word, ty_word};
 use ixp_lang::{Label, Ty};

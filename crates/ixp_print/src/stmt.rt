@@ -1,9 +1,29 @@
 //! Statements. `indent` is the blanks at the beginning of a line.
 ghost use Rattle.std.specs.Prelude.{◌≡◌, ◌++◌, [], ◌∷◌, List, codes, IfOk, OnOk};
-ghost use Rattle.ixp_lang.specs.Trees.{exprs, stmts, set_next_hop, prepend, add_pair, delete_pairs, add_triple, delete_triples};
+ghost use Rattle.ixp_lang.specs.Trees.{
+  exprs,
+  stmts,
+  set_next_hop,
+  prepend,
+  add_pair,
+  delete_pairs,
+  add_triple,
+  delete_triples,
+};
 ghost use Rattle.ixp_lang.specs.Views.{expr_view, exprs_view, stmt_view, stmts_view, arms_view};
 ghost use Rattle.ixp_num_tables.specs.Joined.{joined};
-ghost use Rattle.ixp_print.specs.Texts.{line, deeper, else_line, no_stmts, label_text, expr_text, exprs_text, stmt_text, stmts_text, cases_text};
+ghost use Rattle.ixp_print.specs.Texts.{
+  line,
+  deeper,
+  else_line,
+  no_stmts,
+  label_text,
+  expr_text,
+  exprs_text,
+  stmt_text,
+  stmts_text,
+  cases_text,
+};
 
 use crate::expr::{put_args, put_expr};
 use crate::list::LabelText;
@@ -40,7 +60,9 @@ fn put_around(
     e: &Expr,
     after: &[u8],
 ) -> Result<(), AllocError>
-    ensures { OnOk result (out.new.items ≡ out.old.items ++ line indent.now (before.now ++ expr_text (expr_view e.now) ++ after.now)) }
+    ensures { OnOk result
+        (out.new.items ≡ out.old.items
+        ++ line indent.now (before.now ++ expr_text (expr_view e.now) ++ after.now)) }
 {
     put(out, indent)?;
     put(out, before)?;
@@ -52,7 +74,10 @@ fn put_around(
 /// Writes a call as a statement.
 #[tactic(auto, unfolding(crate::specs::Texts::line))]
 fn put_call(out: &mut Vec<u8>, indent: &[u8], name: &Name, args: &[Expr]) -> Result<(), AllocError>
-    ensures { OnOk result (out.new.items ≡ out.old.items ++ line indent.now (name.now ++ codes "(" ++ exprs_text (exprs (exprs_view args.now)) ++ codes ");")) }
+    ensures { OnOk result
+        (out.new.items ≡ out.old.items
+        ++ line indent.now (name.now ++ codes "(" ++ exprs_text (exprs (exprs_view args.now))
+        ++ codes ");")) }
 {
     put(out, indent)?;
     put(out, name.as_bytes())?;
@@ -64,7 +89,9 @@ fn put_call(out: &mut Vec<u8>, indent: &[u8], name: &Name, args: &[Expr]) -> Res
 /// Writes the line before what else is done, where something is.
 #[tactic(auto, using(crate::proofs::Empty::no_stmts_is_empty))]
 fn put_else(out: &mut Vec<u8>, indent: &[u8], text: &[u8], other: &[Stmt]) -> Result<(), AllocError>
-    ensures { OnOk result (out.new.items ≡ out.old.items ++ else_line (no_stmts (stmts (stmts_view other.now))) indent.now text.now) }
+    ensures { OnOk result
+        (out.new.items ≡ out.old.items
+        ++ else_line (no_stmts (stmts (stmts_view other.now))) indent.now text.now) }
 {
     if other.is_empty() {
         return Ok(());
@@ -75,7 +102,9 @@ fn put_else(out: &mut Vec<u8>, indent: &[u8], text: &[u8], other: &[Stmt]) -> Re
 /// Writes the labels of an arm.
 #[tactic(auto, unfolding(crate::specs::Texts::line))]
 fn put_labels(out: &mut Vec<u8>, indent: &[u8], labels: &[Label]) -> Result<(), AllocError>
-    ensures { OnOk result (out.new.items ≡ out.old.items ++ line indent.now (joined (codes ", ") label_text labels.now ++ codes ":")) }
+    ensures { OnOk result
+        (out.new.items ≡ out.old.items
+        ++ line indent.now (joined (codes ", ") label_text labels.now ++ codes ":")) }
 {
     put(out, indent)?;
     put_joined::<LabelText>(out, b", ", labels)?;
@@ -84,42 +113,48 @@ fn put_labels(out: &mut Vec<u8>, indent: &[u8], labels: &[Label]) -> Result<(), 
 
 /// Writes a new next hop.
 fn put_next_hop(out: &mut Vec<u8>, indent: &[u8], e: &Expr) -> Result<(), AllocError>
-    ensures { OnOk result (out.new.items ≡ out.old.items ++ stmt_text indent.now (set_next_hop (expr_view e.now))) }
+    ensures { OnOk result
+        (out.new.items ≡ out.old.items ++ stmt_text indent.now (set_next_hop (expr_view e.now))) }
 {
     put_around(out, indent, b"bgp_next_hop = ", e, b";")
 }
 
 /// Writes a number put in front of the path.
 fn put_prepend(out: &mut Vec<u8>, indent: &[u8], e: &Expr) -> Result<(), AllocError>
-    ensures { OnOk result (out.new.items ≡ out.old.items ++ stmt_text indent.now (prepend (expr_view e.now))) }
+    ensures { OnOk result
+        (out.new.items ≡ out.old.items ++ stmt_text indent.now (prepend (expr_view e.now))) }
 {
     put_around(out, indent, b"bgp_path.prepend(", e, b");")
 }
 
 /// Writes a community that is added.
 fn put_add_pair(out: &mut Vec<u8>, indent: &[u8], e: &Expr) -> Result<(), AllocError>
-    ensures { OnOk result (out.new.items ≡ out.old.items ++ stmt_text indent.now (add_pair (expr_view e.now))) }
+    ensures { OnOk result
+        (out.new.items ≡ out.old.items ++ stmt_text indent.now (add_pair (expr_view e.now))) }
 {
     put_around(out, indent, b"bgp_community.add(", e, b");")
 }
 
 /// Writes communities that are taken away.
 fn put_delete_pairs(out: &mut Vec<u8>, indent: &[u8], e: &Expr) -> Result<(), AllocError>
-    ensures { OnOk result (out.new.items ≡ out.old.items ++ stmt_text indent.now (delete_pairs (expr_view e.now))) }
+    ensures { OnOk result
+        (out.new.items ≡ out.old.items ++ stmt_text indent.now (delete_pairs (expr_view e.now))) }
 {
     put_around(out, indent, b"bgp_community.delete(", e, b");")
 }
 
 /// Writes a large community that is added.
 fn put_add_triple(out: &mut Vec<u8>, indent: &[u8], e: &Expr) -> Result<(), AllocError>
-    ensures { OnOk result (out.new.items ≡ out.old.items ++ stmt_text indent.now (add_triple (expr_view e.now))) }
+    ensures { OnOk result
+        (out.new.items ≡ out.old.items ++ stmt_text indent.now (add_triple (expr_view e.now))) }
 {
     put_around(out, indent, b"bgp_large_community.add(", e, b");")
 }
 
 /// Writes large communities that are taken away.
 fn put_delete_triples(out: &mut Vec<u8>, indent: &[u8], e: &Expr) -> Result<(), AllocError>
-    ensures { OnOk result (out.new.items ≡ out.old.items ++ stmt_text indent.now (delete_triples (expr_view e.now))) }
+    ensures { OnOk result
+        (out.new.items ≡ out.old.items ++ stmt_text indent.now (delete_triples (expr_view e.now))) }
 {
     put_around(out, indent, b"bgp_large_community.delete(", e, b");")
 }
@@ -132,7 +167,8 @@ pub fn put_stmts(
     indent: &[u8],
     list: &[Stmt],
 ) -> Result<(), AllocError>
-    ensures { OnOk result (out.new.items ≡ out.old.items ++ stmts_text indent.now (stmts (stmts_view list.now))) }
+    ensures { OnOk result
+        (out.new.items ≡ out.old.items ++ stmts_text indent.now (stmts (stmts_view list.now))) }
 {
     'each: for stmt in list {
         put_stmt(alloc, out, indent, stmt)?;
@@ -149,7 +185,9 @@ fn put_arms(
     arms: &[(Items<Label>, Vec<Stmt>)],
     other: &[Stmt],
 ) -> Result<(), AllocError>
-    ensures { OnOk result (out.new.items ≡ out.old.items ++ cases_text indent.now (arms_view arms.now) (stmts (stmts_view other.now))) }
+    ensures { OnOk result
+        (out.new.items ≡ out.old.items
+        ++ cases_text indent.now (arms_view arms.now) (stmts (stmts_view other.now))) }
 {
     let inner = deeper(alloc, indent)?;
     'each: for arm in arms {

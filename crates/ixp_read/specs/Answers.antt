@@ -70,13 +70,13 @@ pub record IsStop (text : List ℕ) (fault : ReadFault) : Type 0 where
   pub stops : read config_form (placed_kinds tokens) ≡ Err (cause, left)
   pub is : fault ≡ fault_at text tokens cause left
 
--- the configuration that the text spells, or where its reading stops; want of memory is free
+-- the configuration that the text spells, or where its reading stops; running out of memory is free
 abbrev pub ConfigAnswer : List ℕ → Result Config ReadFault → Type 0
 ConfigAnswer text (Ok configuration) = SpellsText text (config_view configuration)
 ConfigAnswer text (Err NoMemory) = Unit {0}
 ConfigAnswer text (Err fault) = IsStop text fault
 
--- an answer that isn't want of memory
+-- an answer that isn't running out of memory
 abbrev pub IsTold : Result Config ReadFault → Type 0
 IsTold (Ok configuration) = Unit {0}
 IsTold (Err NoMemory) = ⊥

@@ -6,7 +6,7 @@ use Rattle.ixp_num.specs.declared.cause.Place.TheVariants as place
 use Rattle.ixp_read.specs.declared.fault.ReadFault.{ReadFault}
 use Rattle.ixp_read.specs.declared.fault.ReadFault.TheVariants.{Byte, Number, Unexpected, UnknownName, NameTwice, MixedLogic, WrongType, TooDeep, OutOfProfile, NoMemory}
 
--- the code of the fault and its byte; want of memory is no fault of the text
+-- the code of the fault and its byte; running out of memory is no fault of the text
 abbrev pub cause_of : ReadFault → Option Cause
 cause_of (Byte at) = Some (record { code = L1; place = place.Byte at })
 cause_of (Number at) = Some (record { code = L2; place = place.Byte at })

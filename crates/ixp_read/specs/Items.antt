@@ -57,7 +57,8 @@ define_levels = 64
 abbrev pub define_place : ℕ → Names → Place
 define_place statement names = record { names = names; scope = scope.Define; statement = statement }
 
--- a definition's value with so many levels at most, built of literals and defined names alone, and the semicolon
+-- a definition's value with so many levels at most, built of literals and defined names alone, and the
+-- semicolon
 abbrev pub value_within : ℕ → ℕ → Names → Grammar Operand
 value_within levels statement names =
     sequence (expression_form (define_place statement names) levels anything) (λ value.
@@ -94,7 +95,8 @@ declaration_within levels number place names =
     (choice (sequence (the_word (codes "filter")) (λ tt. filter_within levels.inside names))
     (sequence (the_word (codes "protocol")) (λ tt. protocol_end names))))
 
--- a definition, a function, a filter or a protocol, which stands at this place, and before which there are so many items
+-- a definition, a function, a filter or a protocol, which stands at this place, and before which there are so
+-- many items
 unfoldable pub declaration_form : ℕ → ℕ → Names → Grammar Declares
 declaration_form number place names = declaration_within all_levels number place names
 

@@ -1,4 +1,5 @@
--- Where no configuration goes on: as far as syntax tells, or for what is checked of names, types, ranges and levels.
+-- Where no configuration goes on: as far as syntax tells, or for what is checked of names, types, ranges and
+-- levels.
 use Rattle.std.specs.Prelude.{◌≡◌, ℕ, ◌+◌, ◌<◌, List, length}
 use Rattle.ixp_lang.specs.Trees.{ItemTree}
 use Rattle.ixp_lang_tokens.specs.declared.fault.Cause.{Cause}
@@ -25,13 +26,14 @@ IsFineWith more = IsFineText (config_with more)
 abbrev pub IsLawful : ℕ → List Kind → Type 0
 IsLawful = IsLawfulText config_form
 
--- a check of names, types, ranges or levels refuses the tokens, and all that begin as they do, up to the token that is next there
+-- a check of names, types, ranges or levels refuses the tokens, and all that begin as they do, up to the
+-- token that is next there
 abbrev pub IsRefused : List Kind → Type 0
 IsRefused = RefusedAt config_form
 
--- With so many tokens left no configuration goes on: some configuration begins with what is before the place, with a level more
--- than there may be perhaps, and none with what is before it and the token there. If the cause isn't that there are too many
--- levels, none with more of them does either.
+-- With so many tokens left no configuration goes on: some configuration begins with what is before the place,
+-- with a level more than there may be perhaps, and none with what is before it and the token there. If the
+-- cause isn't that there are too many levels, none with more of them does either.
 abbrev pub NoneGoesOn : List Kind → Cause → ℕ → Type 0
 NoneGoesOn tokens cause left =
     (more : ℕ) → 0 < more

@@ -1,8 +1,8 @@
 //! Why a text isn't read.
 use ixp_num::{Cause, Code, Place};
 
-/// Why bytes are no filter text. Each place is that of a token's first byte, counted from 0; where the text ends
-/// too early, it is the text's length.
+/// Why bytes are no filter text. Each place is that of a token's first byte, counted from 0; where the text
+/// ends too early, it is the text's length.
 #[derive(Clone, Copy, Debug, PartialEq, Eq)]
 pub enum ReadFault {
     /// Here begins no token. Printed as L1.
@@ -17,7 +17,8 @@ pub enum ReadFault {
     NameTwice { at: usize },
     /// `&&` and `||` side by side. Printed as L6.
     MixedLogic { at: usize },
-    /// A type that doesn't fit: at the operator, the called name, or the statement's first token. Printed as L7.
+    /// A type that doesn't fit: at the operator, the called name, or the statement's first token. Printed as
+    /// L7.
     WrongType { at: usize },
     /// More than 64 levels. Printed as L8.
     TooDeep { at: usize },
@@ -31,7 +32,7 @@ impl ReadFault {
     ghost use Rattle.std.specs.Prelude.{◌≡◌};
     ghost use Rattle.ixp_read.specs.Causes.{cause_of};
 
-    /// How the fault is told; None of want of memory.
+    /// How the fault is told; None where memory ran out.
     pub fn cause(self) -> Option<Cause>
         ensures { result ≡ cause_of self }
     {

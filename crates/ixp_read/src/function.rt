@@ -3,7 +3,13 @@ ghost use Rattle.std.specs.Prelude.{◌≡◌, ◌<◌, ◌≤◌, length, IfOk}
 ghost use Rattle.ixp_lang.specs.Views.{item_view};
 ghost use Rattle.ixp_lang_tokens.specs.Reading.{read, kinds, Gives};
 ghost use Rattle.ixp_lang_exprs.specs.Names.{names_of};
-ghost use Rattle.ixp_read.specs.Functions.{written_form, head_form, body_within, function_within, filter_within};
+ghost use Rattle.ixp_read.specs.Functions.{
+  written_form,
+  head_form,
+  body_within,
+  function_within,
+  filter_within,
+};
 ghost use Rattle.ixp_read.specs.Views.{head_of, body_of};
 
 use crate::params::{Params, params_at};
@@ -29,7 +35,8 @@ fn head_at<'t>(
     number: usize,
     tokens: &'t [Token],
 ) -> Result<(Head, &'t [Token]), Fault>
-    ensures reads { Gives (λ x. (head_of x.0 (names_of env.new), kinds x.1.now)) result (read (head_form number (names_of env.old)) (kinds tokens.now)) }
+    ensures reads { Gives (λ x. (head_of x.0 (names_of env.new), kinds x.1.now)) result
+        (read (head_form number (names_of env.old)) (kinds tokens.now)) }
     ensures shorter { IfOk result (λ x. length x.1.now < length tokens.now) }
 {
     let (name, rest) = env.free_name_at(alloc, tokens)?;
@@ -50,8 +57,8 @@ fn written_at(tokens: &[Token]) -> Result<(Option<ValueType>, &[Token]), Fault>
     Ok((Some(type_of(ty)), rest))
 }
 
-/// A function's body, with so many levels in it at most, and what it returns. A type that is written before needs a
-/// `return`.
+/// A function's body, with so many levels in it at most, and what it returns. A type that is written before
+/// needs a `return`.
 fn body_at<'t>(
     alloc: Global,
     env: &Env,
@@ -59,7 +66,8 @@ fn body_at<'t>(
     number: usize,
     tokens: &'t [Token],
 ) -> Result<(Body, &'t [Token]), Fault>
-    ensures reads { Gives (λ x. (body_of x.0, kinds x.1.now)) result (read (body_within depth number (names_of env.now)) (kinds tokens.now)) }
+    ensures reads { Gives (λ x. (body_of x.0, kinds x.1.now)) result
+        (read (body_within depth number (names_of env.now)) (kinds tokens.now)) }
     ensures shorter { IfOk result (λ x. length x.1.now < length tokens.now) }
 {
     let (written, rest) = written_at(tokens)?;
@@ -95,7 +103,8 @@ pub(crate) fn function_at<'t>(
     number: usize,
     tokens: &'t [Token],
 ) -> Result<(Item, &'t [Token]), Fault>
-    ensures reads { Gives (λ x. ((item_view x.0, names_of env.new), kinds x.1.now)) result (read (function_within depth number (names_of env.old)) (kinds tokens.now)) }
+    ensures reads { Gives (λ x. ((item_view x.0, names_of env.new), kinds x.1.now)) result
+        (read (function_within depth number (names_of env.old)) (kinds tokens.now)) }
     ensures shorter { IfOk result (λ x. length x.1.now < length tokens.now) }
 {
     let (head, rest) = head_at(alloc, env, number, tokens)?;
@@ -118,7 +127,8 @@ pub(crate) fn filter_at<'t>(
     depth: u32,
     tokens: &'t [Token],
 ) -> Result<(Item, &'t [Token]), Fault>
-    ensures reads { Gives (λ x. ((item_view x.0, names_of env.new), kinds x.1.now)) result (read (filter_within depth (names_of env.old)) (kinds tokens.now)) }
+    ensures reads { Gives (λ x. ((item_view x.0, names_of env.new), kinds x.1.now)) result
+        (read (filter_within depth (names_of env.old)) (kinds tokens.now)) }
     ensures shorter { IfOk result (λ x. length x.1.now < length tokens.now) }
 {
     let (name, rest) = env.free_name_at(alloc, tokens)?;

@@ -5,7 +5,19 @@ ghost use Rattle.ixp_lang_tokens.specs.Grammars.{takes};
 ghost use Rattle.ixp_lang_tokens.specs.Reading.{read, kinds, Gives};
 ghost use Rattle.ixp_lang_exprs.specs.Names.{Names, names_of};
 ghost use Rattle.ixp_lang_exprs.specs.Operands.{operand_of};
-ghost use Rattle.ixp_read.specs.Items.{v4_addr_in, is_roa, router_id_end, table_end, defined_value, define_end, declaration_form, table_or, item_form, config_round, config_form};
+ghost use Rattle.ixp_read.specs.Items.{
+  v4_addr_in,
+  is_roa,
+  router_id_end,
+  table_end,
+  defined_value,
+  define_end,
+  declaration_form,
+  table_or,
+  item_form,
+  config_round,
+  config_form,
+};
 ghost use Rattle.ixp_read.specs.Views.{begun_of, round_says};
 
 use crate::function::{filter_at, function_at};
@@ -54,7 +66,9 @@ fn v4_addr_at(tokens: &[Token]) -> Result<(Addr, &[Token]), Fault>
 
 /// What follows `router`.
 fn router_id_at(tokens: &[Token]) -> Result<(Item, &[Token]), Fault>
-    ensures reads { (names : Names) → Gives (λ x. ((item_view x.0, names), kinds x.1.now)) result (read (router_id_end names) (kinds tokens.now)) }
+    ensures reads { (names : Names)
+        → Gives (λ x. ((item_view x.0, names), kinds x.1.now)) result
+        (read (router_id_end names) (kinds tokens.now)) }
     ensures shorter { IfOk result (λ x. length x.1.now < length tokens.now) }
 {
     let rest = word_at(b"id", tokens)?;
@@ -80,7 +94,8 @@ fn table_at<'t>(
     kind: Kind,
     tokens: &'t [Token],
 ) -> Result<(Item, &'t [Token]), Fault>
-    ensures reads { Gives (λ x. ((item_view x.0, names_of env.new), kinds x.1.now)) result (read (table_end kind (names_of env.old)) (kinds tokens.now)) }
+    ensures reads { Gives (λ x. ((item_view x.0, names_of env.new), kinds x.1.now)) result
+        (read (table_end kind (names_of env.old)) (kinds tokens.now)) }
     ensures shorter { IfOk result (λ x. length x.1.now < length tokens.now) }
 {
     let rest = word_at(b"table", tokens)?;
@@ -102,7 +117,8 @@ fn value_at<'t>(
     place: usize,
     tokens: &'t [Token],
 ) -> Result<(Typed, &'t [Token]), Fault>
-    ensures reads { Gives (λ x. (operand_of x.0, kinds x.1.now)) result (read (defined_value place (names_of env.now)) (kinds tokens.now)) }
+    ensures reads { Gives (λ x. (operand_of x.0, kinds x.1.now)) result
+        (read (defined_value place (names_of env.now)) (kinds tokens.now)) }
     ensures shorter { IfOk result (λ x. length x.1.now < length tokens.now) }
 {
     let cx = Context {
@@ -128,7 +144,8 @@ fn define_at<'t>(
     place: usize,
     tokens: &'t [Token],
 ) -> Result<(Item, &'t [Token]), Fault>
-    ensures reads { Gives (λ x. ((item_view x.0, names_of env.new), kinds x.1.now)) result (read (define_end place (names_of env.old)) (kinds tokens.now)) }
+    ensures reads { Gives (λ x. ((item_view x.0, names_of env.new), kinds x.1.now)) result
+        (read (define_end place (names_of env.old)) (kinds tokens.now)) }
     ensures shorter { IfOk result (λ x. length x.1.now < length tokens.now) }
 {
     let (name, rest) = env.free_name_at(alloc, tokens)?;
@@ -147,7 +164,8 @@ fn declaration_at<'t>(
     number: usize,
     tokens: &'t [Token],
 ) -> Result<(Item, &'t [Token]), Fault>
-    ensures reads { Gives (λ x. ((item_view x.0, names_of env.new), kinds x.1.now)) result (read (declaration_form number (length tokens.now) (names_of env.old)) (kinds tokens.now)) }
+    ensures reads { Gives (λ x. ((item_view x.0, names_of env.new), kinds x.1.now)) result
+        (read (declaration_form number (length tokens.now) (names_of env.old)) (kinds tokens.now)) }
     ensures shorter { IfOk result (λ x. length x.1.now < length tokens.now) }
 {
     if let Some(rest) = after_word(b"define", tokens) {
@@ -170,7 +188,8 @@ fn table_or_at<'t>(
     number: usize,
     tokens: &'t [Token],
 ) -> Result<(Item, &'t [Token]), Fault>
-    ensures reads { Gives (λ x. ((item_view x.0, names_of env.new), kinds x.1.now)) result (read (table_or number (length tokens.now) (names_of env.old)) (kinds tokens.now)) }
+    ensures reads { Gives (λ x. ((item_view x.0, names_of env.new), kinds x.1.now)) result
+        (read (table_or number (length tokens.now) (names_of env.old)) (kinds tokens.now)) }
     ensures shorter { IfOk result (λ x. length x.1.now < length tokens.now) }
 {
     if let Some(rest) = after_word(b"ipv4", tokens) {
@@ -195,7 +214,8 @@ fn item_at<'t>(
     number: usize,
     tokens: &'t [Token],
 ) -> Result<(Item, &'t [Token]), Fault>
-    ensures reads { Gives (λ x. ((item_view x.0, names_of env.new), kinds x.1.now)) result (read (item_form number (names_of env.old)) (kinds tokens.now)) }
+    ensures reads { Gives (λ x. ((item_view x.0, names_of env.new), kinds x.1.now)) result
+        (read (item_form number (names_of env.old)) (kinds tokens.now)) }
     ensures shorter { IfOk result (λ x. length x.1.now < length tokens.now) }
 {
     if let Some(rest) = after_word(b"router", tokens) {
@@ -211,7 +231,9 @@ fn item_round<'t>(
     items: &mut Vec<Item>,
     tokens: &'t [Token],
 ) -> Result<(bool, &'t [Token]), Fault>
-    ensures reads { Gives (λ x. (round_says x.0 (begun_of items.new.items (names_of env.new)), kinds x.1.now)) result (read (config_round (begun_of items.old.items (names_of env.old))) (kinds tokens.now)) }
+    ensures reads { Gives
+        (λ x. (round_says x.0 (begun_of items.new.items (names_of env.new)), kinds x.1.now)) result
+        (read (config_round (begun_of items.old.items (names_of env.old))) (kinds tokens.now)) }
     ensures shorter { IfOk result (λ x. IsFalse x.0 → length x.1.now < length tokens.now) }
     ensures ends { IfOk result (λ x. IsTrue x.0 → kinds x.1.now ≡ []) }
 {
@@ -227,7 +249,8 @@ fn item_round<'t>(
 
 /// The items of all the tokens.
 pub(crate) fn items_at(alloc: Global, tokens: &[Token]) -> Result<Vec<Item>, Fault>
-    ensures reads { Gives (λ items. (map item_view items.items, [])) result (read config_form (kinds tokens.now)) }
+    ensures reads { Gives (λ items. (map item_view items.items, [])) result
+        (read config_form (kinds tokens.now)) }
 {
     let mut env = Env::new(alloc);
     let mut items = Vec::new(alloc);

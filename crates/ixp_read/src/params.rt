@@ -42,7 +42,8 @@ fn parameter_at<'t>(
     params: &mut Params,
     tokens: &'t [Token],
 ) -> Result<&'t [Token], Fault>
-    ensures reads { Gives (λ r. (params_of params.new (names_of env.new), kinds r.now)) result (read (param_form number (params_of params.old (names_of env.old))) (kinds tokens.now)) }
+    ensures reads { Gives (λ r. (params_of params.new (names_of env.new), kinds r.now)) result
+        (read (param_form number (params_of params.old (names_of env.old))) (kinds tokens.now)) }
     ensures shorter { IfOk result (λ r. length r.now < length tokens.now) }
 {
     let (ty, name_tokens) = type_at(tokens)?;
@@ -64,7 +65,8 @@ fn parameter_round<'t>(
     params: &mut Params,
     tokens: &'t [Token],
 ) -> Result<(bool, &'t [Token]), Fault>
-    ensures reads { Gives (λ x. (closing x.0 (params_of params.new (names_of env.new)), kinds x.1.now)) result (read (param_round number (params_of params.old (names_of env.old))) (kinds tokens.now)) }
+    ensures reads { Gives (λ x. (closing x.0 (params_of params.new (names_of env.new)), kinds x.1.now)) result
+        (read (param_round number (params_of params.old (names_of env.old))) (kinds tokens.now)) }
     ensures shorter { IfOk result (λ x. length x.1.now < length tokens.now) }
 {
     let rest = parameter_at(alloc, env, number, params, tokens)?;
@@ -81,7 +83,8 @@ fn some_params_at<'t>(
     number: usize,
     tokens: &'t [Token],
 ) -> Result<(Params, &'t [Token]), Fault>
-    ensures reads { Gives (λ x. (params_of x.0 (names_of env.new), kinds x.1.now)) result (read (rounds (param_round number) (no_params (names_of env.old))) (kinds tokens.now)) }
+    ensures reads { Gives (λ x. (params_of x.0 (names_of env.new), kinds x.1.now)) result
+        (read (rounds (param_round number) (no_params (names_of env.old))) (kinds tokens.now)) }
     ensures shorter { IfOk result (λ x. length x.1.now < length tokens.now) }
 {
     let mut params = Params::new(alloc);
@@ -102,7 +105,8 @@ pub(crate) fn params_at<'t>(
     number: usize,
     tokens: &'t [Token],
 ) -> Result<(Params, &'t [Token]), Fault>
-    ensures reads { Gives (λ x. (params_of x.0 (names_of env.new), kinds x.1.now)) result (read (params_form number (names_of env.old)) (kinds tokens.now)) }
+    ensures reads { Gives (λ x. (params_of x.0 (names_of env.new), kinds x.1.now)) result
+        (read (params_form number (names_of env.old)) (kinds tokens.now)) }
     ensures shorter { IfOk result (λ x. length x.1.now < length tokens.now) }
 {
     let rest = mark_at(Mark::Open, tokens)?;

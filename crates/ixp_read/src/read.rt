@@ -79,11 +79,12 @@ fn token_at(tokens: &[Token], others: usize) -> Option<&Token>
     tokens.get(others)
 }
 
-/// The byte of the text at which the token begins before which there are so many others, or the text's length where there is
-/// none.
+/// The byte of the text at which the token begins before which there are so many others, or the text's length
+/// where there is none.
 fn byte_at(text: &[u8], tokens: &[Token], others: usize) -> usize
     requires { HasTokens text.now (kinds tokens.now) }
-    ensures { (placed : List Placed) → Tokens text.now placed → placed_kinds placed ≡ kinds tokens.now → result ≡ byte_of text.now (slice_get placed others) }
+    ensures { (placed : List Placed) → Tokens text.now placed → placed_kinds placed ≡ kinds tokens.now
+        → result ≡ byte_of text.now (slice_get placed others) }
 {
     if others < tokens.len() {
         text.len().saturating_sub(left_at(text, others))
@@ -95,7 +96,8 @@ fn byte_at(text: &[u8], tokens: &[Token], others: usize) -> usize
 /// The fault for a cause where so many of the text's tokens are left.
 fn fault_at(text: &[u8], tokens: &[Token], cause: Cause, left: usize) -> ReadFault
     requires { HasTokens text.now (kinds tokens.now) }
-    ensures { (placed : List Placed) → Tokens text.now placed → placed_kinds placed ≡ kinds tokens.now → result ≡ fault_at text.now placed cause left }
+    ensures { (placed : List Placed) → Tokens text.now placed → placed_kinds placed ≡ kinds tokens.now
+        → result ≡ fault_at text.now placed cause left }
 {
     let others = tokens.len().saturating_sub(left);
     let at = byte_at(text, tokens, others);
@@ -104,8 +106,8 @@ fn fault_at(text: &[u8], tokens: &[Token], cause: Cause, left: usize) -> ReadFau
 
 /// Reads a filter text.
 ///
-/// Each fault but the want of memory stands at the first token with which no text goes on, or, for a type that doesn't
-/// fit, at the operator, the called name or the statement that it is about.
+/// Each fault but the running out of memory stands at the first token with which no text goes on, or, for a type
+/// that doesn't fit, at the operator, the called name or the statement that it is about.
 pub fn read_config(alloc: Global, t: &[u8]) -> Result<Config, ReadFault>
     ensures { ConfigAnswer t.now result }
 {

@@ -1,5 +1,5 @@
--- The keys of the rows, in the order of a dump's lines: numbers by value, texts by bytes, addresses and prefixes with
--- IPv4 first. Those of the items of public lists stand in ixp_num.
+-- The keys of the rows, in the order of a dump's lines: numbers by value, texts by bytes, addresses and
+-- prefixes with IPv4 first. Those of the items of public lists stand in ixp_num.
 use Rattle.std.specs.Prelude.{ℕ, List, [], ◌∷◌}
 use Rattle.ixp_num.specs.AddressForms.{version_of}
 use Rattle.ixp_num_sorted.specs.Keys.{prefix_key}

@@ -1,4 +1,5 @@
--- What a row says by way of the rows that it names. Look-ups are of tables, so that they serve rows and registries.
+-- What a row says by way of the rows that it names. Look-ups are of tables, so that they serve rows and
+-- registries.
 use Rattle.std.specs.Prelude.{ℕ, Bool, List, [], ◌∷◌, ◌++◌, ◌+◌, ◌-◌, ◌^◌, ◌&&◌, ◌||◌, ◌==◌, not, true, false, Option, Some, None}
 use Rattle.std.specs.Option.{is_some}
 use Rattle.ixp_num_tables.specs.Tables.{find, if_there}
@@ -82,8 +83,8 @@ listed (Some p) = p ∷ []
 abbrev pub vlan_prefixes : Vlan → List Prefix
 vlan_prefixes v = listed v.v4 ++ listed v.v6
 
--- the address is the prefix's first one, the subnet-router anycast address of IPv6 (RFC 4291 section 2.6.1); in IPv4 its
--- last one, the broadcast address (RFC 919), counts too
+-- the address is the prefix's first one, the subnet-router anycast address of IPv6 (RFC 4291 section 2.6.1);
+-- in IPv4 its last one, the broadcast address (RFC 919), counts too
 abbrev pub is_edge : Prefix → Addr → Bool
 is_edge p a = a.value == p.value || same_family p.family V4 && a.value + 1 == p.value + 2 ^ (bits_of p.family - p.len)
 

@@ -1,4 +1,5 @@
--- Where the first row stands that breaks a sentence. Places are the numbers of lines in a dump, the first line being 1.
+-- Where the first row stands that breaks a sentence. Places are the numbers of lines in a dump, the first
+-- line being 1.
 use Rattle.std.specs.Prelude.{ℕ, suc, Bool, List, [], ◌∷◌, ◌++◌, length, ◌+◌, Option, Some, None, nat_le, min, if◌then◌else◌, option_map}
 use Rattle.std.specs.List.{position}
 use Rattle.ixp_num_tables.specs.Tables.{same}

@@ -1,5 +1,5 @@
--- The rules that the rows of a registry keep. Each sentence is about the rows of one kind, and says where the first one
--- stands that breaks it; None where all keep it.
+-- The rules that the rows of a registry keep. Each sentence is about the rows of one kind, and says where the
+-- first one stands that breaks it; None where all keep it.
 use Rattle.std.specs.Prelude.{ℕ, Bool, List, [], ◌∷◌, ◌++◌, ◌+◌, ◌&&◌, ◌||◌, ◌==◌, not, true, nat_le, Option, Some, None, if◌then◌else◌, map}
 use Rattle.std.specs.List.{list_any, list_all}
 use Rattle.ixp_num.specs.AddressForms.{version_of}
@@ -284,8 +284,9 @@ public_limits w =
 abbrev pub public_lists_are_short : Rows → Option ℕ
 public_lists_are_short w = earliest (public_limits w)
 
--- what the sessions of an address make of one row of the member's list of the family: it has sessions where it is for the
--- route servers and its member, which is connected, is this one, and the list counts where the address is held to it
+-- what the sessions of an address make of one row of the member's list of the family: it has sessions where
+-- it is for the route servers and its member, which is connected, is this one, and the list counts where the
+-- address is held to it
 abbrev pub row_weight : Rows → ℕ → Family → AddressRow → ℕ
 row_weight w member family a =
     if_there (find interface_row_key (a.interface ∷ []) w.interfaces) 0
@@ -315,8 +316,8 @@ abbrev pub rule_14 : Rows → Option ℕ
 rule_14 = interfaces_have_no_left_member
 
 -- 15. A router's blackhole address (RFC 7999) is of its family, lies in its VLAN as an address of its own might, and is no
--- interface's or router's address; routers may share one. A router of AS 65535 has none, since its BLACKHOLE community
--- would be the well-known one. It bounds the communities of a route by at most 1,000.
+-- interface's or router's address; routers may share one. A router of AS 65535 has none, since its BLACKHOLE
+-- community would be the well-known one. It bounds the communities of a route by at most 1,000.
 abbrev pub is_assigned : List AddressRow → Addr → Bool
 is_assigned xs a = list_any (λ x. same_addr x.address.addr a) xs
 

@@ -27,7 +27,8 @@ abbrev pub address_of : Family → Interface → Option IfAddr
 address_of V4 i = i.v4
 address_of V6 i = i.v6
 
--- an interface in the router's VLAN that has an address of its family for the route servers, of a connected member
+-- an interface in the router's VLAN that has an address of its family for the route servers, of a connected
+-- member
 abbrev pub is_session : Registry → Router → Interface → Bool
 is_session r router i =
     i.vlan == router.vlan && if_there (address_of router.family i) false (λ a. a.rs) && is_member_connected r.members i.member
@@ -103,7 +104,8 @@ abbrev pub is_advertise : Way → Bool
 is_advertise Advertise = true
 is_advertise Receive = false
 
--- an advertise rule is about a receiver where its peer is any, or is the receiver's AS number and not the router's own
+-- an advertise rule is about a receiver where its peer is any, or is the receiver's AS number and not the
+-- router's own
 abbrev pub is_for : ℕ → MemberRule → Prefix → ℕ → Bool
 is_for rs rule net p =
     is_advertise rule.way && if_there rule.peer true (λ peer. peer.0 == p && not (peer.0 == rs)) && is_about rule net

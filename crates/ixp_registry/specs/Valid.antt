@@ -1,6 +1,6 @@
--- Which registries are valid, table by table: the order of its rows, what each row keeps alone, what it says by the rows that it
--- names, and limits. This is what there is to believe of a valid registry. That it is so exactly where no row breaks a
--- rule (Rules) is a law of ixp_registry_laws.
+-- Which registries are valid, table by table: the order of its rows, what each row keeps alone, what it says
+-- by the rows that it names, and limits. This is what there is to believe of a valid registry. That it is so
+-- exactly where no row breaks a rule (Rules) is a law of ixp_registry_laws.
 use Rattle.std.specs.Prelude.{◌≡◌, ◌≢◌, ℕ, suc, ◌≤◌, ◌+◌, ⊤, List, [], ◌∷◌, length, Option, Some, None, true, false, not, nat_le, ◌&&◌, ◌||◌, ◌==◌}
 use Rattle.std.specs.List.{AllByRecursion, list_any, list_all}
 use Rattle.ixp_num.specs.declared.family.Family.{Family}
@@ -114,8 +114,8 @@ pub record ValidVlans (vs : List Vlan) : Type 0 where
   pub apart : Pairs (λ u v. list_any (overlaps_any (vlan_prefixes u)) (vlan_prefixes v) ≡ false) vs
   pub few : length vs ≤ 64
 
--- Interfaces: their member is there and hasn't left, their port belongs to it, their VLAN is there, and each address is one that an
--- interface may have in the VLAN. What stands in a family's column is of the family.
+-- Interfaces: their member is there and hasn't left, their port belongs to it, their VLAN is there, and each
+-- address is one that an interface may have in the VLAN. What stands in a family's column is of the family.
 abbrev pub IsIn : Family → Option IfAddr → Type 0
 IsIn family None = Unit {0}
 IsIn family (Some a) = a.addr.family ≡ family
@@ -140,9 +140,9 @@ pub record ValidInterfaces (ms : List Member) (ps : List Port) (vs : List Vlan) 
   pub few : length is ≤ 8000
   pub per_member : Often 16 (λ i. i.member ∷ []) is
 
--- Routers: their VLAN is there, and their address is one that a router may have in it; none has a member's AS number. A blackhole
--- address (RFC 7999) is of the router's family, another one of the VLAN, and no interface's or router's; a router of AS
--- 65535 has none.
+-- Routers: their VLAN is there, and their address is one that a router may have in it; none has a member's AS
+-- number. A blackhole address (RFC 7999) is of the router's family, another one of the VLAN, and no
+-- interface's or router's; a router of AS 65535 has none.
 pub record ValidRouter (q : Router) : Type 0 where
   pub fits : RouterFits q
   pub handle : is_handle q.handle ≡ true

@@ -1,5 +1,5 @@
--- The weight of a registry: how many rows of prefix lists its routers read, all sessions together. A session reads the list of
--- its member and family where its address is held to it.
+-- The weight of a registry: how many rows of prefix lists its routers read, all sessions together. A session
+-- reads the list of its member and family where its address is held to it.
 use Rattle.std.specs.Prelude.{ℕ, List, [], ◌∷◌, length, ◌+◌, ◌*◌, ◌&&◌, ◌==◌, Option, if◌then◌else◌}
 use Rattle.ixp_num.specs.AddressForms.{version_of}
 use Rattle.ixp_num.specs.declared.family.Family.{Family}

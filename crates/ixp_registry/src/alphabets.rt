@@ -2,7 +2,20 @@
 ghost use Rattle.std.specs.Prelude.{◌≡◌};
 ghost use Rattle.std.specs.List.{list_all};
 ghost use Rattle.std.specs.Str.{is_utf8};
-ghost use Rattle.ixp_registry.specs.Alphabets.{has_length, is_macro_byte, is_secret_byte, is_handle_byte, is_letter_or_digit, begins_small, is_label, is_note, is_macro, is_session_secret, is_key_secret, is_handle};
+ghost use Rattle.ixp_registry.specs.Alphabets.{
+  has_length,
+  is_macro_byte,
+  is_secret_byte,
+  is_handle_byte,
+  is_letter_or_digit,
+  begins_small,
+  is_label,
+  is_note,
+  is_macro,
+  is_session_secret,
+  is_key_secret,
+  is_handle,
+};
 
 use std::str::from_utf8;
 

@@ -3,12 +3,13 @@
 //! [`Registry`] is what the program keeps: the site, its members with their contacts, API keys, ports and
 //! interfaces, the VLANs, the route servers, the lists that filters are made of, and the public lists.
 //! [`Rows`] are the same rows as they stand in a dump or a store, one kind of row after the other, each with
-//! its key. `specs/Valid.antt` says which registries are valid, table by table; `specs/Rules.antt` the same as rules
-//! over rows, with the line of the first row that breaks one; `specs/Registries.antt` what a registry's rows are.
+//! its key. `specs/Valid.antt` says which registries are valid, table by table; `specs/Rules.antt` the same
+//! as rules over rows, with the line of the first row that breaks one; `specs/Registries.antt` what a
+//! registry's rows are.
 //!
-//! The tests that those rules are made of stand here too: alphabets of texts, rows that are named, hosts of a VLAN.
-//! [`first`] and [`first_beyond`] find the first row that breaks a sentence, and [`earliest`] joins several sentences'
-//! answers. Places are the numbers of lines in a dump.
+//! The tests that those rules are made of stand here too: alphabets of texts, rows that are named, hosts of a
+//! VLAN. [`first`] and [`first_beyond`] find the first row that breaks a sentence, and [`earliest`] joins
+//! several sentences' answers. Places are the numbers of lines in a dump.
 #![tactic(auto)]
 
 mod alphabets;

@@ -1,6 +1,24 @@
 //! The line on which the first row of each kind stands in a dump, or would stand where there is none.
 ghost use Rattle.std.specs.Prelude.{◌≡◌, ◌↔◌, IsTrue};
-ghost use Rattle.ixp_registry.specs.Lines.{site_at, members_at, contacts_at, keys_at, switches_at, ports_at, vlans_at, interfaces_at, addresses_at, routers_at, prefixes_at, origins_at, rules_at, bogons_at, bogon_as_at, transit_at, roas_at};
+ghost use Rattle.ixp_registry.specs.Lines.{
+  site_at,
+  members_at,
+  contacts_at,
+  keys_at,
+  switches_at,
+  ports_at,
+  vlans_at,
+  interfaces_at,
+  addresses_at,
+  routers_at,
+  prefixes_at,
+  origins_at,
+  rules_at,
+  bogons_at,
+  bogon_as_at,
+  transit_at,
+  roas_at,
+};
 ghost use Rattle.ixp_registry.specs.Sizes.{HasLines};
 
 use crate::Rows;
@@ -139,8 +157,8 @@ pub fn roas_at(rows: &Rows) -> usize
     transit_at(rows) + rows.public.transit.len()
 }
 
-/// Whether the numbers of all lines fit a `usize`. They do where the rows were read from a text in memory, since
-/// each has a line there.
+/// Whether the numbers of all lines fit a `usize`. They do where the rows were read from a text in memory,
+/// since each has a line there.
 pub fn has_lines(rows: &Rows) -> bool
     ensures { IsTrue result ↔ HasLines rows.now }
 {

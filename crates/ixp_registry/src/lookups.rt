@@ -2,7 +2,28 @@
 ghost use Rattle.std.specs.Prelude.{◌≡◌, ◌+◌, ◌-◌, ◌^◌, ◌&&◌, ◌==◌, false};
 ghost use Rattle.ixp_num.specs.declared.family.Family.TheVariants.{V4};
 ghost use Rattle.ixp_num.specs.Families.{bits_of, same_family};
-ghost use Rattle.ixp_registry.specs.Lookups.{has_member, has_switch, has_port, has_vlan, has_interface, has_owner, is_port_of, is_left, is_connected, has_left, is_member_connected, column, prefix_in, is_edge, is_host, is_host_in, is_host_at, is_at, has_addr, has_blackhole};
+ghost use Rattle.ixp_registry.specs.Lookups.{
+  has_member,
+  has_switch,
+  has_port,
+  has_vlan,
+  has_interface,
+  has_owner,
+  is_port_of,
+  is_left,
+  is_connected,
+  has_left,
+  is_member_connected,
+  column,
+  prefix_in,
+  is_edge,
+  is_host,
+  is_host_in,
+  is_host_at,
+  is_at,
+  has_addr,
+  has_blackhole,
+};
 ghost use Rattle.ixp_num.specs.Prefixes.{same_addr};
 ghost use Rattle.ixp_num_tables.specs.Tables.{if_there};
 
@@ -116,7 +137,8 @@ pub fn column(family: Family, vlan: &Vlan) -> Option<Prefix>
 
 /// Whether the address is the last one of an IPv4 prefix.
 fn is_last(prefix: &Prefix, addr: &Addr) -> bool
-    ensures { result ≡ (same_family prefix.now.family V4 && addr.now.value + 1 == prefix.now.value + 2 ^ (bits_of prefix.now.family - prefix.now.len)) }
+    ensures { result ≡ (same_family prefix.now.family V4 && addr.now.value + 1 == prefix.now.value + 2 ^
+        (bits_of prefix.now.family - prefix.now.len)) }
 {
     match prefix.family {
         Family::V4 => addr.value == prefix.value + ((1 << (32 - prefix.len)) - 1),

@@ -1,6 +1,13 @@
 //! Switches, ports, VLANs, and the interfaces of members with their addresses.
 ghost use Rattle.std.specs.Prelude.{[], ◌∷◌};
-ghost use Rattle.ixp_registry.specs.Keys.{switch_key, port_key, vlan_key, interface_key, interface_row_key, address_key};
+ghost use Rattle.ixp_registry.specs.Keys.{
+  switch_key,
+  port_key,
+  vlan_key,
+  interface_key,
+  interface_row_key,
+  address_key,
+};
 ghost use Rattle.ixp_num.specs.AddressForms.{version_of};
 
 use ixp_num::{Addr, Family, Items, Prefix};

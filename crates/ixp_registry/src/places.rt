@@ -3,12 +3,14 @@ ghost use Rattle.std.specs.Prelude.{◌≡◌, ◌+◌, ◌<◌, ◌^◌, ℕ, B
 ghost use Rattle.std.specs.Fn.{FnReturnsAt};
 ghost use Rattle.ixp_registry.specs.Places.{earlier_of, earliest, first};
 
-/// The first of the rows that breaks a sentence, where the first of them stands on the line `start`. In the clause
-/// `test` is what `breaks` computes of each row, and `at` and `all` are what a caller knows `start` and `rows` to be.
+/// The first of the rows that breaks a sentence, where the first of them stands on the line `start`. In the
+/// clause `test` is what `breaks` computes of each row, and `at` and `all` are what a caller knows `start`
+/// and `rows` to be.
 pub fn first<R, P: Fn(&R) -> bool>(start: usize, rows: &[R], breaks: P) -> Option<usize>
     requires callable { P.IsAlwaysCallable breaks }
     requires fits { start + length rows.now < 2 ^ 64 }
-    ensures { (at : ℕ) (all : List R) (test : R → Bool) → start ≡ at → rows.now ≡ all → ((r : R) (b : Bool) → FnReturnsAt P.Fn breaks r b → b ≡ test r) → result ≡ first at test all }
+    ensures { (at : ℕ) (all : List R) (test : R → Bool) → start ≡ at → rows.now ≡ all
+        → ((r : R) (b : Bool) → FnReturnsAt P.Fn breaks r b → b ≡ test r) → result ≡ first at test all }
 {
     let mut left = rows;
     let mut at = start;

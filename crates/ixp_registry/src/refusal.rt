@@ -12,12 +12,13 @@ pub enum Right {
     Member(u32),
 }
 
-/// What names a row among those of its kind, or the subject of an edit among those of its kind. It does not allocate.
+/// What names a row among those of its kind, or the subject of an edit among those of its kind. It does not
+/// allocate.
 #[derive(Debug, Drop)]
 pub enum RowKey {
     Number(u32),
-    /// Of a contact or a rule the member and the place; of an address or a list the interface or the member, and
-    /// the family, 4 or 6.
+    /// Of a contact or a rule the member and the place; of an address or a list the interface or the member,
+    /// and the family, 4 or 6.
     Pair(u32, u32),
     /// A router's.
     Handle(Handle),

@@ -5,8 +5,8 @@ use crate::{
 };
 use ixp_num_tables::Table;
 
-/// The rows of a registry, one kind after the other, in the order of their lines in a dump. Addresses and list
-/// items are rows of their own here, so that one may name an interface or a member that isn't there.
+/// The rows of a registry, one kind after the other, in the order of their lines in a dump. Addresses and
+/// list items are rows of their own here, so that one may name an interface or a member that isn't there.
 #[derive(Drop)]
 pub struct Rows {
     pub site: Site,

@@ -2,7 +2,14 @@
 ghost use Rattle.std.specs.Prelude.{◌≡◌, ◌||◌, true};
 ghost use Rattle.std.specs.List.{list_any};
 ghost use Rattle.ixp_num_tables.specs.Tables.{if_there};
-ghost use Rattle.ixp_registry.specs.Rules.{is_assigned, blackholes_meet, may_be_blackhole, blackholes_lie_apart, routers_have_blackholes, rule_15};
+ghost use Rattle.ixp_registry.specs.Rules.{
+  is_assigned,
+  blackholes_meet,
+  may_be_blackhole,
+  blackholes_lie_apart,
+  routers_have_blackholes,
+  rule_15,
+};
 ghost use Rattle.ixp_registry.specs.Lookups.{has_blackhole};
 ghost use Rattle.ixp_registry.specs.Sizes.{HasLines};
 
@@ -21,7 +28,8 @@ impl MeetsEarlier for Router {
 }
 
 fn meets_any(router: &Router, earlier: &[Router]) -> bool
-    ensures { result ≡ list_any (λ q. has_blackhole router.now q.addr || has_blackhole q router.now.addr) earlier.now }
+    ensures { result ≡ list_any
+        (λ q. has_blackhole router.now q.addr || has_blackhole q router.now.addr) earlier.now }
 {
     earlier.iter().any(|q| has_blackhole(router, &q.addr) || has_blackhole(q, &router.addr))
 }
@@ -69,7 +77,8 @@ fn routers_have_blackholes(rows: &Rows) -> Option<usize>
     )
 }
 
-/// A router's blackhole address is a host of its VLAN and nobody's own, and it bounds communities by at most 1,000.
+/// A router's blackhole address is a host of its VLAN and nobody's own, and it bounds communities by at most
+/// 1,000.
 pub fn rule_15(rows: &Rows) -> Option<usize>
     requires { HasLines rows.now }
     ensures { result ≡ rule_15 rows.now }

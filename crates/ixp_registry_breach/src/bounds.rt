@@ -1,7 +1,22 @@
 //! Rules 9, 10 and 12: lengths of prefixes lie within their family.
 ghost use Rattle.std.specs.Prelude.{◌≡◌};
-ghost use Rattle.ixp_registry.specs.Rules.{routers_have_bounds, vlans_have_families, bogons_have_bounds, bogon_as_have_bounds, roas_have_bounds, rule_9, rule_10, rule_12};
-ghost use Rattle.ixp_registry.specs.Words.{is_of, has_bounds, pattern_has_bounds, range_ascends, roa_has_bounds};
+ghost use Rattle.ixp_registry.specs.Rules.{
+  routers_have_bounds,
+  vlans_have_families,
+  bogons_have_bounds,
+  bogon_as_have_bounds,
+  roas_have_bounds,
+  rule_9,
+  rule_10,
+  rule_12,
+};
+ghost use Rattle.ixp_registry.specs.Words.{
+  is_of,
+  has_bounds,
+  pattern_has_bounds,
+  range_ascends,
+  roa_has_bounds,
+};
 ghost use Rattle.ixp_registry.specs.Sizes.{HasLines};
 
 use ixp_num::{Asn, Family, Pattern, Prefix, Roa};

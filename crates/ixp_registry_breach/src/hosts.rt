@@ -29,7 +29,8 @@ fn routers_are_hosts(rows: &Rows) -> Option<usize>
     )
 }
 
-/// An address is inside its VLAN's prefix of the family and isn't the first of it; in IPv4 it isn't the last either.
+/// An address is inside its VLAN's prefix of the family and isn't the first of it; in IPv4 it isn't the last
+/// either.
 pub fn rule_6(rows: &Rows) -> Option<usize>
     requires { HasLines rows.now }
     ensures { result ≡ rule_6 rows.now }

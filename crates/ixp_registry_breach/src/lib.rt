@@ -1,9 +1,9 @@
 //! Which rule the rows of a registry break first, and where.
 //!
 //! [`first_breach`] answers as `breach` says (`Registries.antt` of ixp_registry): each sentence of the rules
-//! has a function of its name here, and a rule's place is the earliest of its sentences' places. The time is that
-//! of a look-up for each row, but for VLANs, each of which is compared with those before it, and for routers, each
-//! of which is compared with those before it, with the members and with the addresses.
+//! has a function of its name here, and a rule's place is the earliest of its sentences' places. The time is
+//! that of a look-up for each row, but for VLANs, each of which is compared with those before it, and for
+//! routers, each of which is compared with those before it, with the members and with the addresses.
 #![tactic(auto)]
 
 ghost use Rattle.std.specs.Prelude.{◌≡◌, ◌+◌, ◌<◌, ◌^◌, IfOk, length};
@@ -50,8 +50,8 @@ fn first_rule(number: u32, places: &[Option<usize>]) -> Option<Breach>
     }
 }
 
-/// The first rule that the rows break, and the line of a dump on which the first row stands that breaks it; None
-/// where they break none. It fails for want of memory alone.
+/// The first rule that the rows break, and the line of a dump on which the first row stands that breaks it;
+/// None where they break none. It fails only where memory runs out.
 pub fn first_breach(alloc: Global, rows: &Rows) -> Result<Option<Breach>, AllocError>
     requires { HasLines rows.now }
     ensures { IfOk result (λ found. found ≡ breach rows.now) }

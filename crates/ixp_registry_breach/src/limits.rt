@@ -1,9 +1,28 @@
 //! Rule 13: the limits.
-ghost use Rattle.std.specs.Prelude.{◌≡◌, ◌+◌, ◌<◌, ◌^◌, [], ◌∷◌, IfOk, Some, None, not, nat_le, if◌then◌else◌};
+ghost use Rattle.std.specs.Prelude.{
+  ◌≡◌,
+  ◌+◌,
+  ◌<◌,
+  ◌^◌,
+  [],
+  ◌∷◌,
+  IfOk,
+  Some,
+  None,
+  not,
+  nat_le,
+  if◌then◌else◌,
+};
 ghost use Rattle.ixp_num.specs.AddressForms.{version_of};
 ghost use Rattle.ixp_registry.specs.Lines.{keys_at};
 ghost use Rattle.ixp_registry.specs.Places.{first};
-ghost use Rattle.ixp_registry.specs.Rules.{owners_are_few, network_is_small, lists_are_short, public_lists_are_short, rule_13};
+ghost use Rattle.ixp_registry.specs.Rules.{
+  owners_are_few,
+  network_is_small,
+  lists_are_short,
+  public_lists_are_short,
+  rule_13,
+};
 ghost use Rattle.ixp_registry.specs.Words.{owner_numbers, is_staff_number};
 ghost use Rattle.ixp_registry.specs.Sizes.{HasLines};
 

@@ -1,6 +1,16 @@
 //! Rule 1: numbers are at least 1, and no two members have one AS number.
 ghost use Rattle.std.specs.Prelude.{◌≡◌, [], ◌∷◌, IfOk};
-ghost use Rattle.ixp_registry.specs.Rules.{members_are_numbered, contacts_are_placed, keys_are_numbered, switches_are_numbered, ports_are_numbered, vlans_are_numbered, interfaces_are_numbered, member_asns_differ, rule_1};
+ghost use Rattle.ixp_registry.specs.Rules.{
+  members_are_numbered,
+  contacts_are_placed,
+  keys_are_numbered,
+  switches_are_numbered,
+  ports_are_numbered,
+  vlans_are_numbered,
+  interfaces_are_numbered,
+  member_asns_differ,
+  rule_1,
+};
 ghost use Rattle.ixp_registry.specs.Sizes.{HasLines};
 
 use ixp_registry::{

@@ -1,6 +1,21 @@
 //! Rules 2, 8 and 14: the rows that a row names.
 ghost use Rattle.std.specs.Prelude.{◌≡◌};
-ghost use Rattle.ixp_registry.specs.Rules.{contacts_have_members, keys_have_owners, ports_have_switches, interfaces_have_ports, addresses_have_interfaces, routers_have_vlans, prefixes_have_members, origins_have_members, rules_have_members, ports_are_the_members, interfaces_have_no_left_member, rule_2, rule_8, rule_14};
+ghost use Rattle.ixp_registry.specs.Rules.{
+  contacts_have_members,
+  keys_have_owners,
+  ports_have_switches,
+  interfaces_have_ports,
+  addresses_have_interfaces,
+  routers_have_vlans,
+  prefixes_have_members,
+  origins_have_members,
+  rules_have_members,
+  ports_are_the_members,
+  interfaces_have_no_left_member,
+  rule_2,
+  rule_8,
+  rule_14,
+};
 ghost use Rattle.ixp_registry.specs.Sizes.{HasLines};
 
 use ixp_registry::{

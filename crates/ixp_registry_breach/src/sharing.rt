@@ -47,7 +47,9 @@ impl Counted for Addresses {
 
 /// The addresses of interfaces and those of routers.
 fn all_addresses(alloc: Global, rows: &Rows) -> Result<Vec<Addr>, AllocError>
-    ensures { IfOk result (λ all. all.items ≡ map (λ a. a.address.addr) rows.now.addresses ++ map (λ r. r.addr) rows.now.routers) }
+    ensures { IfOk result
+        (λ all. all.items ≡ map (λ a. a.address.addr) rows.now.addresses
+        ++ map (λ r. r.addr) rows.now.routers) }
 {
     let addresses = rows.addresses.as_slice().iter().map(|a| a.address.addr);
     let routers = rows.routers.as_slice().iter().map(|r| r.addr);

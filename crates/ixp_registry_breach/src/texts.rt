@@ -1,6 +1,17 @@
 //! Rule 3: texts have their alphabet and length.
 ghost use Rattle.std.specs.Prelude.{◌≡◌};
-ghost use Rattle.ixp_registry.specs.Rules.{site_has_texts, members_have_texts, contacts_have_texts, keys_have_texts, switches_have_texts, ports_have_texts, vlans_have_texts, addresses_have_texts, routers_have_texts, rule_3};
+ghost use Rattle.ixp_registry.specs.Rules.{
+  site_has_texts,
+  members_have_texts,
+  contacts_have_texts,
+  keys_have_texts,
+  switches_have_texts,
+  ports_have_texts,
+  vlans_have_texts,
+  addresses_have_texts,
+  routers_have_texts,
+  rule_3,
+};
 ghost use Rattle.ixp_registry.specs.Sizes.{HasLines};
 
 use ixp_registry::{

@@ -11,7 +11,9 @@ use ixp_num::{Family, Prefix};
 use ixp_registry::{Rows, Vlan, earliest, first, vlans_at};
 
 impl MeetsEarlier for Vlan {
-    ghost meets = { λ earlier v. list_any (λ u. list_any (overlaps_any (vlan_prefixes u)) (vlan_prefixes v)) earlier || list_any (overlaps_any (listed v.v4)) (listed v.v6) };
+    ghost meets = { λ earlier v. list_any
+        (λ u. list_any (overlaps_any (vlan_prefixes u)) (vlan_prefixes v)) earlier || list_any
+        (overlaps_any (listed v.v4)) (listed v.v6) };
 
     fn meets(&self, earlier: &[Vlan]) -> bool {
         overlaps_earlier(self, earlier) || overlaps_itself(self)
@@ -56,7 +58,8 @@ fn vlans_overlap(one: &Vlan, other: &Vlan) -> bool
 }
 
 fn overlaps_earlier(vlan: &Vlan, earlier: &[Vlan]) -> bool
-    ensures { result ≡ list_any (λ u. list_any (overlaps_any (vlan_prefixes u)) (vlan_prefixes vlan.now)) earlier.now }
+    ensures { result ≡ list_any
+        (λ u. list_any (overlaps_any (vlan_prefixes u)) (vlan_prefixes vlan.now)) earlier.now }
 {
     earlier.iter().any(|one| vlans_overlap(one, vlan))
 }

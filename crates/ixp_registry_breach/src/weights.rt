@@ -6,7 +6,13 @@ ghost use Rattle.ixp_registry.specs.Rules.{row_weight, sessions_are_light};
 ghost use Rattle.ixp_registry.specs.Weight.{vlan_weight};
 ghost use Rattle.ixp_registry.specs.Words.{router_weight};
 ghost use Rattle.ixp_registry.specs.Sizes.{HasLines};
-ghost use Rattle.ixp_registry_breach.specs.Weights.{capped, share_of, weight_at, interface_weight, HasWeights};
+ghost use Rattle.ixp_registry_breach.specs.Weights.{
+  capped,
+  share_of,
+  weight_at,
+  interface_weight,
+  HasWeights,
+};
 
 use ixp_num::Family;
 use ixp_registry::{
@@ -27,7 +33,9 @@ fn interface_share(
     interface: &InterfaceRow,
     row: &AddressRow,
 ) -> Option<(u32, Family, u64)>
-    ensures { (member : ℕ) (family : Family) → capped (share_of result member family) ≡ capped (interface_weight rows.now member family row.now interface.now) }
+    ensures { (member : ℕ) (family : Family)
+        → capped (share_of result member family)
+        ≡ capped (interface_weight rows.now member family row.now interface.now) }
 {
     let address = &row.address;
     if address.rs && address.irr && is_member_connected(&rows.members, interface.member) {
@@ -40,7 +48,8 @@ fn interface_share(
 
 /// For which list the sessions of an address count, and how much.
 fn share(rows: &Rows, row: &AddressRow) -> Option<(u32, Family, u64)>
-    ensures { (member : ℕ) (family : Family) → capped (share_of result member family) ≡ capped (row_weight rows.now member family row.now) }
+    ensures { (member : ℕ) (family : Family)
+        → capped (share_of result member family) ≡ capped (row_weight rows.now member family row.now) }
 {
     match rows.interfaces.find(&row.interface) {
         Some(interface) => interface_share(rows, interface, row),
@@ -49,7 +58,10 @@ fn share(rows: &Rows, row: &AddressRow) -> Option<(u32, Family, u64)>
 }
 
 fn add(weights: &mut Weights, share: (u32, Family, u64)) -> Result<(), AllocError>
-    ensures { OnOk result ((member : ℕ) (family : Family) → capped (weight_at weights.new member family) ≡ capped (weight_at weights.old member family + share_of (Some share) member family)) }
+    ensures { OnOk result
+        ((member : ℕ) (family : Family)
+        → capped (weight_at weights.new member family)
+        ≡ capped (weight_at weights.old member family + share_of (Some share) member family)) }
 {
     let list = (share.0, share.1);
     let weight = weights.get(&list).copied().unwrap_or(0);
@@ -74,7 +86,10 @@ fn weigh_lists(alloc: Global, rows: &Rows) -> Result<Weights, AllocError>
 /// The first row with which the weight of all is more than the most.
 fn first_heavy(weights: &Weights, start: usize, prefixes: &[MemberPrefix]) -> Option<usize>
     requires { start + length prefixes.now < 2 ^ 64 }
-    ensures { (weight : ℕ → Family → ℕ) → ((member : ℕ) (family : Family) → capped (weight_at weights.now member family) ≡ capped (weight member family)) → result ≡ first_heavy (λ p. weight p.member p.prefix.family) 8000000 start prefixes.now }
+    ensures { (weight : ℕ → Family → ℕ)
+        → ((member : ℕ) (family : Family)
+        → capped (weight_at weights.now member family) ≡ capped (weight member family))
+        → result ≡ first_heavy (λ p. weight p.member p.prefix.family) 8000000 start prefixes.now }
 {
     let mut sum = 0u64;
     let mut left = prefixes;

@@ -1,5 +1,6 @@
--- The demo exchange, to try the program on and to measure it by: one VLAN, one switch and one route server, and so many members, each
--- with a port, an interface and lists of its own. Addresses are numbers of 32 bits; with 4000 members none is cut.
+-- The demo exchange, to try the program on and to measure it by: one VLAN, one switch and one route server,
+-- and so many members, each with a port, an interface and lists of its own. Addresses are numbers of 32 bits;
+-- with 4000 members none is cut.
 use Rattle.std.specs.Prelude.{ℕ, ◌+◌, ◌*◌, ◌/◌, ◌%◌, ◌^◌, true, false, List, [], ◌∷◌, Some, None, map, codes, decimal, refl}
 use Rattle.std.specs.List.{range_with_len}
 use Rattle.std.proofs.Common.{lit<, lit≤}

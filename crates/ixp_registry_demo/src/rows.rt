@@ -1,6 +1,16 @@
 //! What each member of the demo exchange has.
 ghost use Rattle.std.specs.Prelude.{◌≡◌, ◌≤◌, ◌+◌, ◌<◌, ◌*◌, ◌∷◌, [], refl, IfOk};
-ghost use Rattle.ixp_registry_demo.specs.Demo.{address, name, host, net_of, demo_member, demo_port, demo_interface, demo_prefixes, demo_origins};
+ghost use Rattle.ixp_registry_demo.specs.Demo.{
+  address,
+  name,
+  host,
+  net_of,
+  demo_member,
+  demo_port,
+  demo_interface,
+  demo_prefixes,
+  demo_origins,
+};
 
 use crate::numbered::Numbered;
 use ixp_num::{Addr, Asn, Family, Items, Prefix};

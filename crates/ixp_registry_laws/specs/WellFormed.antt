@@ -1,5 +1,5 @@
--- Registries such as rows of tables make: tables ascend, fields hold what they can hold, what stands in a family's column is of
--- the family, and lists ascend, aren't empty and have their member and family.
+-- Registries such as rows of tables make: tables ascend, fields hold what they can hold, what stands in a
+-- family's column is of the family, and lists ascend, aren't empty and have their member and family.
 use Rattle.std.specs.Prelude.{◌≡◌, ◌≢◌, []}
 use Rattle.std.specs.List.{AllByRecursion}
 use Rattle.ixp_num.specs.declared.family.Family.TheVariants.{V4, V6}

@@ -1,5 +1,5 @@
--- How ROAs in the order of their keys lead from a net to those that cover it. Nobody has to believe this: an answer's
--- contract is `validity` alone.
+-- How ROAs in the order of their keys lead from a net to those that cover it. Nobody has to believe this: an
+-- answer's contract is `validity` alone.
 use Rattle.std.specs.Prelude.{◌≡◌, ◌<◌, ◌≤◌, ℕ, Bool, true, false, List, length, ◌&&◌, ◌==◌, nat_le, not, slice_index, take, drop, if◌then◌else◌}
 use Rattle.std.specs.List.{slice_index_or, flat_map}
 use Rattle.std.specs.Ordering.{is_lt}
@@ -41,7 +41,8 @@ IsPlace rows net n =
     (n ≤ length rows) × ((j : ℕ) (s : Roa) → StandsAt rows j s → j < n → is_upto s.prefix net ≡ true)
     × ((j : ℕ) (s : Roa) → StandsAt rows j s → n ≤ j → is_upto s.prefix net ≡ false)
 
--- A row's link isn't behind it, and no row that covers it stands from there on to it. The first rows may have links alone.
+-- A row's link isn't behind it, and no row that covers it stands from there on to it. The first rows may have
+-- links alone.
 abbrev pub AreLinked : List Roa → List ℕ → Type 0
 AreLinked rows links =
     (length links ≤ length rows)

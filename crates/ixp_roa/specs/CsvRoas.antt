@@ -1,4 +1,5 @@
--- Which ROAs a CSV text lists: in its first three columns an AS number, a prefix, and a max length or nothing.
+-- Which ROAs a CSV text lists: in its first three columns an AS number, a prefix, and a max length or
+-- nothing.
 use Rattle.std.specs.Prelude.{◌≡◌, ℕ, ◌+◌, ◌<◌, ◌≤◌, Bool, false, ◌&&◌, ◌==◌, List, [], ◌∷◌, ◌++◌, length, Result, Ok, Err, codes, if◌then◌else◌}
 use Rattle.std.specs.Global.{Vec}
 use Rattle.std.specs.Str.{bytes_eq}

@@ -21,7 +21,8 @@ fn without_as(field: &[u8]) -> &[u8]
 
 /// The AS number of a field, with or without `AS` before it.
 fn asn_field(field: &[u8]) -> Option<Asn>
-    ensures { MatchOption result (¬ ((a : Asn) × AsnAnswer (without_as field.now) (Ok a))) (λ a. AsnAnswer (without_as field.now) (Ok a)) }
+    ensures { MatchOption result (¬ ((a : Asn) × AsnAnswer (without_as field.now) (Ok a)))
+        (λ a. AsnAnswer (without_as field.now) (Ok a)) }
 {
     match read_asn(without_as(field)) {
         Ok(asn) => Some(asn),
@@ -31,7 +32,8 @@ fn asn_field(field: &[u8]) -> Option<Asn>
 
 /// The prefix of a field.
 fn prefix_field(field: &[u8]) -> Option<Prefix>
-    ensures { MatchOption result (¬ ((p : Prefix) × PrefixAnswer field.now (Ok p))) (λ p. PrefixAnswer field.now (Ok p)) }
+    ensures { MatchOption result (¬ ((p : Prefix) × PrefixAnswer field.now (Ok p)))
+        (λ p. PrefixAnswer field.now (Ok p)) }
 {
     match read_prefix(field) {
         Ok(prefix) => Some(prefix),
@@ -39,10 +41,11 @@ fn prefix_field(field: &[u8]) -> Option<Prefix>
     }
 }
 
-/// The max length of a field, which is the prefix's where the field is empty. A number above 4294967295 is told
-/// as 4294967296.
+/// The max length of a field, which is the prefix's where the field is empty. A number above 4294967295 is
+/// told as 4294967296.
 fn max_field(field: &[u8], net: &Prefix) -> Option<u64>
-    ensures { MatchOption result (¬ ((n : ℕ) × IsMaxField field.now net.now n)) (λ m. (n : ℕ) × IsMaxField field.now net.now n × (m ≡ min 4294967296 n)) }
+    ensures { MatchOption result (¬ ((n : ℕ) × IsMaxField field.now net.now n))
+        (λ m. (n : ℕ) × IsMaxField field.now net.now n × (m ≡ min 4294967296 n)) }
 {
     if field.is_empty() {
         return Some(u64::from(net.len));

@@ -1,7 +1,15 @@
 //! CSV texts of ROAs.
 ghost use Rattle.std.specs.Prelude.{◌≡◌, ◌≤◌, ◌==◌, ◌&&◌, ℕ, List};
 ghost use Rattle.csv.specs.Records.{fields_of};
-ghost use Rattle.ixp_roa.specs.CsvRoas.{RowAnswer, is_header, AreRead, RowTaken, TextAnswer, OrderedAnswer, ListAnswer};
+ghost use Rattle.ixp_roa.specs.CsvRoas.{
+  RowAnswer,
+  is_header,
+  AreRead,
+  RowTaken,
+  TextAnswer,
+  OrderedAnswer,
+  ListAnswer,
+};
 
 use crate::csv_rows::roa_in;
 use crate::fault::{Misfit, RoaFault};
@@ -44,10 +52,12 @@ fn is_header_behind(count: usize, row: &ByteRecord) -> bool
     count == 0 && is_header(row)
 }
 
-/// Reads one more row, behind so many rows of a header and those of the ROAs, and tells how many rows the header has now.
+/// Reads one more row, behind so many rows of a header and those of the ROAs, and tells how many rows the
+/// header has now.
 fn take_row(roas: &mut Vec<Roa>, before: usize, row: &ByteRecord) -> Result<usize, RoaFault>
     requires { before ≤ 1 }
-    ensures { (rows : List (List (List ℕ))) → AreRead rows before roas.old.items → RowTaken rows (fields_of row.now) roas.new.items result }
+    ensures { (rows : List (List (List ℕ))) → AreRead rows before roas.old.items
+        → RowTaken rows (fields_of row.now) roas.new.items result }
 {
     if is_header_behind(before + roas.len(), row) {
         return Ok(1);
@@ -66,7 +76,8 @@ fn take_row(roas: &mut Vec<Roa>, before: usize, row: &ByteRecord) -> Result<usiz
     }
 }
 
-/// The ROAs of a text's rows, in their order. It holds one row at a time; the rows may differ in their number of fields.
+/// The ROAs of a text's rows, in their order. It holds one row at a time; the rows may differ in their number
+/// of fields.
 fn roas_of(alloc: Global, t: &[u8]) -> Result<Vec<Roa>, RoaFault>
     ensures { TextAnswer t.now result }
 {

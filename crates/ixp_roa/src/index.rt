@@ -1,7 +1,8 @@
 //! ROAs by prefix.
 //!
-//! In the order of their keys a ROA that covers another stands before it. Each one has a link to the nearest one before it
-//! that covers it, and so from the last one that begins no later than a net the links lead up to all that cover the net.
+//! In the order of their keys a ROA that covers another stands before it. Each one has a link to the nearest
+//! one before it that covers it, and so from the last one that begins no later than a net the links lead up
+//! to all that cover the net.
 ghost use Rattle.std.specs.Prelude.{◌≡◌, ◌≤◌, ◌<◌, ℕ, true, length, IfOk};
 ghost use Rattle.ixp_num.specs.declared.roa.Roa.{Roa};
 ghost use Rattle.ixp_num.specs.Roas.{validity};
@@ -13,8 +14,8 @@ use ixp_num::{Asn, Prefix, Validity};
 use std::alloc::{AllocError, Global};
 use std::marker::Model;
 
-/// ROAs in order, each once, with a link for each: how many ROAs stand before it up to the nearest that covers it, that
-/// one included; 0 where none does.
+/// ROAs in order, with a link for each: how many ROAs stand before it up to the nearest that
+/// covers it, that one included; 0 where none does.
 #[derive(Debug, Drop)]
 pub(crate) struct Index {
     rows: OrderedRoas,

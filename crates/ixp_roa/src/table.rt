@@ -16,8 +16,9 @@ use std::marker::Model;
 /// The most distinct ROAs of a text.
 const MOST: usize = 1_000_000;
 
-/// A table of ROAs, as a filter's `roa_check` asks it. It holds an index by prefix, so that an answer takes a search for the net and
-/// then a step for each ROA on the way up from it, and where in the index each ROA of the list stands that it was made of.
+/// A table of ROAs, as a filter's `roa_check` asks it. It holds an index by prefix, so that an answer takes a
+/// search for the net and then a step for each ROA on the way up from it, and where in the index each ROA of
+/// the list stands that it was made of.
 #[derive(Debug, Drop)]
 pub struct RoaTable {
     places: Vec<usize>,
@@ -35,7 +36,8 @@ impl Model for RoaTable {
     ghost view = { λ t. at_places t.index t.places.items };
 
     // a test that some ROA passes has one answer for both
-    ghost invariant = { λ t. (test : Roa → Bool) → list_any test (at_places t.index t.places.items) ≡ list_any test t.index };
+    ghost invariant = { λ t. (test : Roa → Bool)
+        → list_any test (at_places t.index t.places.items) ≡ list_any test t.index };
 }
 
 /// Where the ROAs stand among those in order.
@@ -55,7 +57,7 @@ impl RoaTable {
     ghost use Rattle.ixp_num.specs.Roas.{validity};
     ghost use Rattle.ixp_roa.specs.CsvRoas.{CsvAnswer};
 
-    /// The table of these ROAs. It fails for want of memory alone.
+    /// The table of these ROAs. It fails only where memory runs out.
     pub fn new(alloc: Global, rows: &[Roa]) -> Result<RoaTable, AllocError>
         ensures { IfOk result (λ t. t ≡ rows.now) }
     {
@@ -66,8 +68,8 @@ impl RoaTable {
     }
 
     /// The ROAs of a CSV text, in ascending order and each once. Its columns are an AS number with or without
-    /// `AS` before it, a prefix, and a max length or nothing for the prefix's; further columns don't matter, and
-    /// a first row that begins with `ASN` is a header.
+    /// `AS` before it, a prefix, and a max length or nothing for the prefix's; further columns don't matter,
+    /// and a first row that begins with `ASN` is a header.
     pub fn from_csv(alloc: Global, t: &[u8]) -> Result<Sorted<Roa>, RoaFault>
         ensures { CsvAnswer t.now result }
     {

@@ -48,8 +48,8 @@ abbrev pub SiteFirst : List Line → Type 0
 SiteFirst [] = Unit {0}
 SiteFirst (line ∷ lines) = line.kind ≡ Sites
 
--- The text is a dump's head, then these lines, each of the format and above those before it, the first one the
--- site's, and then the rest.
+-- The text is a dump's head, then these lines, each of the format and above those before it, the first one
+-- the site's, and then the rest.
 pub record Stands (version : Version) (t : List ℕ) (lines : List Line) (rest : List ℕ) : Type 0 where
   pub parts : t ≡ head_text version ++ (flat_map line_text lines ++ rest)
   pub each : AllByRecursion (IsLine version) lines
@@ -66,8 +66,8 @@ pub record BeginsLine (version : Version) (line : Line) (t : List ℕ) : Type 0 
 abbrev pub IsDump : Version → List Line → List ℕ → Type 0
 IsDump version lines t = Stands version t lines (end_text (length lines))
 
--- what stands behind lines is of the format: behind none the site's line, behind some a line or the end with their
--- number
+-- what stands behind lines is of the format: behind none the site's line, behind some a line or the end with
+-- their number
 abbrev pub IsLineOrEnd : Version → List Line → List ℕ → Type 0
 IsLineOrEnd version [] rest = (line : Line) × (line.kind ≡ Sites) × BeginsLine version line rest
 IsLineOrEnd version (l ∷ ls) rest =
@@ -99,8 +99,8 @@ IsBehindEnd version t n =
 abbrev pub ClashesAt : Ordering → Version → List ℕ → ℕ → Type 0
 ClashesAt how version t n = (lines : List Line) × (rest : List ℕ) × Stands version t lines rest × (n ≡ length lines + 2) × Clashes how version lines rest
 
--- The rows of whose lines the text is a dump, with nothing that its version doesn't tell, or its first faulty line.
--- Rules that rows break are no matter of reading.
+-- The rows of whose lines the text is a dump, with nothing that its version doesn't tell, or its first faulty
+-- line. Rules that rows break are no matter of reading.
 abbrev pub DumpAnswer : Version → List ℕ → Result Rows DumpFault → Type 0
 DumpAnswer version t (Ok rows) = IsDump version (row_lines version rows) t × AllByRecursion (IsOfVersion version) rows.routers
 DumpAnswer version t (Err (BadLine n)) = ((n ≡ 1) × HasNoHead version t) ⊎ IsBadLine version t n ⊎ IsBehindEnd version t n

@@ -6,7 +6,7 @@ use Rattle.ixp_num.specs.declared.cause.Place.TheVariants.{Line, Rule}
 use Rattle.ixp_rows.specs.declared.fault.DumpFault.{DumpFault}
 use Rattle.ixp_rows.specs.declared.fault.DumpFault.TheVariants.{BadLine, Order, Twice, Invalid, NoMemory}
 
--- the code of the fault and its line; want of memory is no fault of the dump
+-- the code of the fault and its line; running out of memory is no fault of the dump
 abbrev pub cause_of : DumpFault → Option Cause
 cause_of (BadLine line) = Some (record { code = U1; place = Line line })
 cause_of (Order line) = Some (record { code = U2; place = Line line })

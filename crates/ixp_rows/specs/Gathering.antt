@@ -13,8 +13,8 @@ abbrev pub Misses : ℕ → Family → List AddressRow → Type 0
 Misses interface family [] = ⊤
 Misses interface family (a ∷ others) = address_key a ≢ interface ∷ version_of family ∷ []
 
--- What is said of rows `R` with the key `key`, each with an item in the list of its group; `made` is the list of a group's first row
--- with these items, and `rows_in` are a list's rows.
+-- What is said of rows `R` with the key `key`, each with an item in the list of its group; `made` is the list
+-- of a group's first row with these items, and `rows_in` are a list's rows.
 pub record AreListed {R I L : Type 0} (key group : R → List ℕ) (item : R → I) (made : R → List I → L) (list_key : L → List ℕ) (rows_in : L → List R) (IsList : L → Type 0) : Type 0 where
   -- a list has the rows that it was made of
   pub again : (r : R) (rs : List R) → AllByRecursion (λ s. group s ≡ group r) rs → rows_in (made r (map item (r ∷ rs))) ≡ r ∷ rs

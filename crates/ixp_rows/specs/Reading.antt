@@ -1,4 +1,5 @@
--- What the readers of a dump compute, on lists. A fault says how many bytes are left where the faulty line begins.
+-- What the readers of a dump compute, on lists. A fault says how many bytes are left where the faulty line
+-- begins.
 use Rattle.std.specs.Prelude.{◌≡◌, ℕ, zero, suc, ◌-◌, Bool, ◌&&◌, ◌||◌, ◌==◌, false, List, [], ◌∷◌, ◌++◌, length, take, drop, flat_map, Option, Some, None, IfSome, option_map, slice_get, Result, Ok, Err, if◌then◌else◌, codes, decimal, ◌+◌}
 use Rattle.std.specs.Ordering.{match_ordering}
 use Rattle.std.specs.declared.cmp.Ordering.TheVariants.{Less}
@@ -52,7 +53,8 @@ abbrev pub line_with : Version → Kind → Option (List ℕ) → Option (Option
 line_with version kind None = Some None
 line_with version kind (Some rest) = option_map (λ x. Some x) (fields_at (form_of version kind) rest)
 
--- the fields of the next row of the kind, if one begins here; none at all where its line isn't of the kind's form
+-- the fields of the next row of the kind, if one begins here; none at all where its line isn't of the kind's
+-- form
 unfoldable pub line_at : Version → Kind → List ℕ → Option (Option (List Field × List ℕ))
 line_at version kind t = line_with version kind (behind kind t)
 
@@ -60,7 +62,8 @@ abbrev pub begun : {A : Type 0} → ℕ → Option A → Result A Misread
 begun left None = Err (Bad left)
 begun left (Some x) = Ok x
 
--- the rows of the kind that follow one another; each takes a byte, so that n is enough where it is above the length of the text
+-- the rows of the kind that follow one another; each takes a byte, so that n is enough where it is above the
+-- length of the text
 abbrev pub behind_row : (Option (List ℕ) → List ℕ → Result (List (List Field) × List ℕ) Misread) → Kind → List Field × List ℕ → Result (List (List Field) × List ℕ) Misread
 behind_row more kind x = more (Some (key_in kind x.0)) x.1 >>= λ s. Ok (x.0 ∷ s.0, s.1)
 

@@ -38,8 +38,8 @@ fn read_valid(alloc: Global, version: Version, text: &[u8]) -> Result<Registry, 
     }
 }
 
-/// The valid registry whose dump the text is, in version 2 of the format. The first faulty line is told; where no
-/// line is faulty, the lowest rule that is broken and the first line that breaks it.
+/// The valid registry whose dump the text is, in version 2 of the format. The first faulty line is told;
+/// where no line is faulty, the lowest rule that is broken and the first line that breaks it.
 pub fn read_dump(alloc: Global, text: &[u8]) -> Result<Registry, DumpFault>
     ensures { RegistryAnswer Two text.now result }
 {

@@ -2,8 +2,8 @@
 use ixp_num::{Cause, Code, Place};
 use std::alloc::AllocError;
 
-/// Why a text is no dump of a valid registry. Lines are counted from 1; the fault is that of the first line that
-/// can't stand there.
+/// Why a text is no dump of a valid registry. Lines are counted from 1; the fault is that of the first line
+/// that can't stand there.
 #[derive(Clone, Copy, Debug, PartialEq, Eq)]
 pub enum DumpFault {
     /// U1: it is no line of the format, or the text ends early or goes on.
@@ -12,8 +12,8 @@ pub enum DumpFault {
     Order { line: usize },
     /// U3: it has the key of the line before it.
     Twice { line: usize },
-    /// U4: all lines are of their form and in order, and the rows break a rule, from 1 to 15, the lowest one, first
-    /// at this line.
+    /// U4: all lines are of their form and in order, and the rows break a rule, from 1 to 15, the lowest one,
+    /// first at this line.
     Invalid { rule: u32, line: usize },
     NoMemory,
 }
@@ -22,7 +22,7 @@ impl DumpFault {
     ghost use Rattle.std.specs.Prelude.{◌≡◌};
     ghost use Rattle.ixp_rows.specs.Causes.{cause_of};
 
-    /// How the fault is told; None of want of memory.
+    /// How the fault is told; None where memory ran out.
     pub fn cause(self) -> Option<Cause>
         ensures { result ≡ cause_of self }
     {

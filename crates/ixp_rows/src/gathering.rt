@@ -1,14 +1,59 @@
 //! A registry made of a dump's rows: each interface gets its addresses, and each member its lists.
-ghost use Rattle.std.specs.Prelude.{◌≡◌, ◌≢◌, ◌↔◌, ◌≤◌, ◌<◌, ◌++◌, ◌∷◌, [], None, List, ℕ, IsTrue, IfOk, IfSome, MatchOption, length, take, drop, map, flat_map};
+ghost use Rattle.std.specs.Prelude.{
+  ◌≡◌,
+  ◌≢◌,
+  ◌↔◌,
+  ◌≤◌,
+  ◌<◌,
+  ◌++◌,
+  ◌∷◌,
+  [],
+  None,
+  List,
+  ℕ,
+  IsTrue,
+  IfOk,
+  IfSome,
+  MatchOption,
+  length,
+  take,
+  drop,
+  map,
+  flat_map,
+};
 ghost use Rattle.std.specs.List.{AllByRecursion};
 ghost use Rattle.std.specs.Option.{is_some};
 ghost use Rattle.ixp_num.specs.AddressForms.{version_of};
 ghost use Rattle.ixp_num.specs.declared.family.Family.TheVariants.{V4, V6};
 ghost use Rattle.ixp_num_tables.specs.Tables.{Ascends, find};
-ghost use Rattle.ixp_registry.specs.Keys.{address_key, interface_row_key, interface_key, irr_key, origins_key, rules_key, member_prefix_key, member_origin_key, rule_key};
-ghost use Rattle.ixp_registry.specs.Registries.{rows_of, bare, addresses_of, address_rows, prefixes_of, origins_of, rules_in};
+ghost use Rattle.ixp_registry.specs.Keys.{
+  address_key,
+  interface_row_key,
+  interface_key,
+  irr_key,
+  origins_key,
+  rules_key,
+  member_prefix_key,
+  member_origin_key,
+  rule_key,
+};
+ghost use Rattle.ixp_registry.specs.Registries.{
+  rows_of,
+  bare,
+  addresses_of,
+  address_rows,
+  prefixes_of,
+  origins_of,
+  rules_in,
+};
 ghost use Rattle.ixp_registry.specs.Valid.{IsIn};
-ghost use Rattle.ixp_registry_laws.specs.WellFormed.{AreOrdered, HasLists, IsPrefixList, IsOriginList, IsRuleList};
+ghost use Rattle.ixp_registry_laws.specs.WellFormed.{
+  AreOrdered,
+  HasLists,
+  IsPrefixList,
+  IsOriginList,
+  IsRuleList,
+};
 ghost use Rattle.ixp_registry.specs.Rules.{addresses_have_interfaces};
 ghost use Rattle.ixp_rows.specs.Gathering.{Misses, AreListed};
 
@@ -29,7 +74,8 @@ fn next_address(
 ) -> Option<IfAddr>
     ensures taken { addresses.old.items ≡ address_rows interface result ++ addresses.new.items }
     ensures family { IsIn family result }
-    ensures missed { MatchOption result (Misses interface family addresses.new.items) (λ a. a.addr.family ≡ family) }
+    ensures missed { MatchOption result (Misses interface family addresses.new.items)
+        (λ a. a.addr.family ≡ family) }
 {
     let first = addresses.front()?;
     if first.interface != interface || first.address.addr.family != family {
@@ -44,7 +90,9 @@ fn with_addresses(row: &InterfaceRow, addresses: &mut VecDeque<AddressRow>) -> I
     ensures row { bare result ≡ row.now }
     ensures taken { addresses.old.items ≡ addresses_of result ++ addresses.new.items }
     ensures families { IsIn V4 result.v4 × IsIn V6 result.v6 }
-    ensures behind { Ascends address_key addresses.old.items → AllByRecursion (λ a. row.now.number ≤ a.interface) addresses.old.items → AllByRecursion (λ a. row.now.number < a.interface) addresses.new.items }
+    ensures behind { Ascends address_key addresses.old.items
+        → AllByRecursion (λ a. row.now.number ≤ a.interface) addresses.old.items
+        → AllByRecursion (λ a. row.now.number < a.interface) addresses.new.items }
 {
     let v4 = next_address(row.number, Family::V4, addresses);
     let v6 = next_address(row.number, Family::V6, addresses);
@@ -66,7 +114,8 @@ fn interfaces_of(
 ) -> Result<Vec<Interface>, AllocError>
     requires ascends { Ascends interface_row_key rows.now }
     requires addresses { Ascends address_key addresses.items }
-    requires there { AllByRecursion (λ a. IsTrue (is_some (find interface_row_key (a.interface ∷ []) rows.now))) addresses.items }
+    requires there { AllByRecursion
+        (λ a. IsTrue (is_some (find interface_row_key (a.interface ∷ []) rows.now))) addresses.items }
     ensures rows { IfOk result (λ is. map bare is.items ≡ rows.now) }
     ensures addresses { IfOk result (λ is. flat_map addresses_of is.items ≡ addresses.items) }
     ensures families { IfOk result (λ is. AllByRecursion (λ i. IsIn V4 i.v4 × IsIn V6 i.v6) is.items) }
@@ -113,7 +162,8 @@ trait Listed: Row + Copy {
 fn run<R: Listed>(first: &R, others: &[R]) -> usize
     ensures within { result ≤ length others.now }
     ensures group { AllByRecursion (λ s. R.group s ≡ R.group first.now) (take result others.now) }
-    ensures end { (s : R) (rest : List R) → drop result others.now ≡ s ∷ rest → R.group s ≢ R.group first.now }
+    ensures end { (s : R) (rest : List R) → drop result others.now ≡ s ∷ rest
+        → R.group s ≢ R.group first.now }
 {
     let mut count = 0;
     let mut left = others;
@@ -182,7 +232,11 @@ impl Listed for MemberPrefix {
     }
 
     fn list(&self, items: Items<Prefix>) -> IrrList
-        ensures { result ≡ record { member = self.now.member; family = self.now.prefix.family; prefixes = items } }
+        ensures { result ≡ record {
+          member = self.now.member;
+          family = self.now.prefix.family;
+          prefixes = items;
+        } }
     {
         IrrList {
             member: self.member,
@@ -286,7 +340,8 @@ fn rules_of(alloc: Global, rows: &[MemberRule]) -> Result<Table<RuleList>, Alloc
     Ok(Table::from_ascending(lists))
 }
 
-/// Does nothing. It is called for what it ensures: the tables of a registry ascend, and so do its public lists.
+/// Does nothing. It is called for what it ensures: the tables of a registry ascend, and so do its public
+/// lists.
 fn tables_ascend(registry: &Registry)
     ensures { AreOrdered registry.now }
 {

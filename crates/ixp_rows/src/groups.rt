@@ -51,7 +51,8 @@ pub(crate) fn read_owners(
     version: Version,
     text: &[u8],
 ) -> Result<(Owners, &[u8]), Misread>
-    ensures { Gives (λ x. (owner_fields x.0, x.1.now)) result (sections_at version (of.Members ∷ of.Contacts ∷ of.Keys ∷ []) text.now) }
+    ensures { Gives (λ x. (owner_fields x.0, x.1.now)) result
+        (sections_at version (of.Members ∷ of.Contacts ∷ of.Keys ∷ []) text.now) }
 {
     let (members, rest) = section::<Member>(alloc, version, text)?;
     let (contacts, rest) = section::<Contact>(alloc, version, rest)?;
@@ -70,7 +71,9 @@ pub(crate) fn read_network(
     version: Version,
     text: &[u8],
 ) -> Result<(Network, &[u8]), Misread>
-    ensures { Gives (λ x. (network_fields x.0, x.1.now)) result (sections_at version (of.Switches ∷ of.Ports ∷ of.Vlans ∷ of.Interfaces ∷ of.Addresses ∷ []) text.now) }
+    ensures { Gives (λ x. (network_fields x.0, x.1.now)) result
+        (sections_at version
+        (of.Switches ∷ of.Ports ∷ of.Vlans ∷ of.Interfaces ∷ of.Addresses ∷ []) text.now) }
 {
     let (switches, rest) = section::<Switch>(alloc, version, text)?;
     let (ports, rest) = section::<Port>(alloc, version, rest)?;
@@ -93,7 +96,8 @@ pub(crate) fn read_steering(
     version: Version,
     text: &[u8],
 ) -> Result<(Steering, &[u8]), Misread>
-    ensures reads { Gives (λ x. (steering_fields version x.0, x.1.now)) result (sections_at version (of.Routers ∷ of.Prefixes ∷ of.Origins ∷ of.Rules ∷ []) text.now) }
+    ensures reads { Gives (λ x. (steering_fields version x.0, x.1.now)) result
+        (sections_at version (of.Routers ∷ of.Prefixes ∷ of.Origins ∷ of.Rules ∷ []) text.now) }
     ensures of_version { IfOk result (λ x. AllByRecursion (IsOfVersion version) x.0.routers) }
 {
     let (routers, rest) = section::<Router>(alloc, version, text)?;
@@ -115,7 +119,8 @@ pub(crate) fn read_public(
     version: Version,
     text: &[u8],
 ) -> Result<(PublicLists, &[u8]), Misread>
-    ensures { Gives (λ x. (public_fields x.0, x.1.now)) result (sections_at version (of.Bogons ∷ of.BogonAs ∷ of.Transit ∷ of.Roas ∷ []) text.now) }
+    ensures { Gives (λ x. (public_fields x.0, x.1.now)) result
+        (sections_at version (of.Bogons ∷ of.BogonAs ∷ of.Transit ∷ of.Roas ∷ []) text.now) }
 {
     let (bogons, rest) = section::<Pattern>(alloc, version, text)?;
     let (bogon_as, rest) = section::<(Asn, Asn)>(alloc, version, rest)?;

@@ -1,8 +1,36 @@
 //! Printing dumps.
-ghost use Rattle.std.specs.Prelude.{◌≡◌, ◌≤◌, ◌^◌, ◌++◌, ◌+◌, OnOk, OnErr, IfSome, IfNone, flat_map, map, length};
+ghost use Rattle.std.specs.Prelude.{
+  ◌≡◌,
+  ◌≤◌,
+  ◌^◌,
+  ◌++◌,
+  ◌+◌,
+  OnOk,
+  OnErr,
+  IfSome,
+  IfNone,
+  flat_map,
+  map,
+  length,
+};
 ghost use Rattle.ixp_rows_lines.specs.declared.version.Version.TheVariants.{Two};
-ghost use Rattle.ixp_rows_lines.specs.Lines.{text_of, interface_line, address_line, prefix_line, origin_line, rule_line};
-ghost use Rattle.ixp_registry.specs.Registries.{rows_of, bare, addresses_of, address_rows, prefixes_of, origins_of, rules_in};
+ghost use Rattle.ixp_rows_lines.specs.Lines.{
+  text_of,
+  interface_line,
+  address_line,
+  prefix_line,
+  origin_line,
+  rule_line,
+};
+ghost use Rattle.ixp_registry.specs.Registries.{
+  rows_of,
+  bare,
+  addresses_of,
+  address_rows,
+  prefixes_of,
+  origins_of,
+  rules_in,
+};
 ghost use Rattle.ixp_rows.specs.Texts.{lines_by, lines_text, rows_count, dump_text};
 ghost use Rattle.ixp_rows.specs.Reading.{head_text, end_text, sum};
 ghost use Rattle.ixp_rows.specs.Printing.{kind_lines, kind_count};
@@ -16,7 +44,8 @@ use ixp_rows_lines::{Kind, Lined, Version, print_address};
 use std::alloc::AllocError;
 
 fn put_rows<K: Lined>(rows: &[K], out: &mut Vec<u8>) -> Result<(), AllocError>
-    ensures { OnOk result (out.new.items ≡ out.old.items ++ flat_map (λ row. text_of K.row_kind (K.fields Two row)) rows.now) }
+    ensures { OnOk result
+        (out.new.items ≡ out.old.items ++ flat_map (λ row. text_of K.row_kind (K.fields Two row)) rows.now) }
 {
     for row in rows {
         row.print(Version::Two, out)?;
@@ -25,7 +54,8 @@ fn put_rows<K: Lined>(rows: &[K], out: &mut Vec<u8>) -> Result<(), AllocError>
 }
 
 fn put_interfaces(interfaces: &[Interface], out: &mut Vec<u8>) -> Result<(), AllocError>
-    ensures { OnOk result (out.new.items ≡ out.old.items ++ lines_by interface_line (map bare interfaces.now)) }
+    ensures { OnOk result
+        (out.new.items ≡ out.old.items ++ lines_by interface_line (map bare interfaces.now)) }
 {
     for interface in interfaces {
         interface.bare().print(Version::Two, out)?;
@@ -38,7 +68,8 @@ fn put_address(
     address: &Option<IfAddr>,
     out: &mut Vec<u8>,
 ) -> Result<(), AllocError>
-    ensures { OnOk result (out.new.items ≡ out.old.items ++ lines_by address_line (address_rows interface address.now)) }
+    ensures { OnOk result
+        (out.new.items ≡ out.old.items ++ lines_by address_line (address_rows interface address.now)) }
 {
     if let Some(address) = address {
         print_address(interface, address, out)?;
@@ -48,7 +79,8 @@ fn put_address(
 
 #[tactic(auto, using(crate::proofs::Printed::addresses_more))]
 fn put_addresses(interfaces: &[Interface], out: &mut Vec<u8>) -> Result<(), AllocError>
-    ensures { OnOk result (out.new.items ≡ out.old.items ++ lines_by address_line (flat_map addresses_of interfaces.now)) }
+    ensures { OnOk result
+        (out.new.items ≡ out.old.items ++ lines_by address_line (flat_map addresses_of interfaces.now)) }
 {
     for interface in interfaces {
         put_address(interface.number, &interface.v4, out)?;
@@ -72,7 +104,8 @@ fn put_list(list: &IrrList, out: &mut Vec<u8>) -> Result<(), AllocError>
 
 #[tactic(auto, using(crate::proofs::Printed::lists_more))]
 fn put_lists(lists: &[IrrList], out: &mut Vec<u8>) -> Result<(), AllocError>
-    ensures { OnOk result (out.new.items ≡ out.old.items ++ lines_by prefix_line (flat_map prefixes_of lists.now)) }
+    ensures { OnOk result
+        (out.new.items ≡ out.old.items ++ lines_by prefix_line (flat_map prefixes_of lists.now)) }
 {
     for list in lists {
         put_list(list, out)?;
@@ -96,7 +129,8 @@ fn put_origin_list(list: &OriginList, out: &mut Vec<u8>) -> Result<(), AllocErro
 
 #[tactic(auto, using(crate::proofs::Printed::origin_lists_more))]
 fn put_origin_lists(lists: &[OriginList], out: &mut Vec<u8>) -> Result<(), AllocError>
-    ensures { OnOk result (out.new.items ≡ out.old.items ++ lines_by origin_line (flat_map origins_of lists.now)) }
+    ensures { OnOk result
+        (out.new.items ≡ out.old.items ++ lines_by origin_line (flat_map origins_of lists.now)) }
 {
     for list in lists {
         put_origin_list(list, out)?;
@@ -106,7 +140,8 @@ fn put_origin_lists(lists: &[OriginList], out: &mut Vec<u8>) -> Result<(), Alloc
 
 #[tactic(auto, using(crate::proofs::Printed::rule_lists_more))]
 fn put_rule_lists(lists: &[RuleList], out: &mut Vec<u8>) -> Result<(), AllocError>
-    ensures { OnOk result (out.new.items ≡ out.old.items ++ lines_by rule_line (flat_map rules_in lists.now)) }
+    ensures { OnOk result
+        (out.new.items ≡ out.old.items ++ lines_by rule_line (flat_map rules_in lists.now)) }
 {
     for list in lists {
         put_rows(list.rules.as_slice(), out)?;
@@ -139,7 +174,8 @@ fn put_kind(registry: &Registry, kind: Kind, out: &mut Vec<u8>) -> Result<(), Al
 }
 
 fn put_kinds(registry: &Registry, kinds: &[Kind], out: &mut Vec<u8>) -> Result<(), AllocError>
-    ensures { OnOk result (out.new.items ≡ out.old.items ++ flat_map (kind_lines Two (rows_of registry.now)) kinds.now) }
+    ensures { OnOk result
+        (out.new.items ≡ out.old.items ++ flat_map (kind_lines Two (rows_of registry.now)) kinds.now) }
 {
     for kind in kinds {
         put_kind(registry, *kind, out)?;
@@ -243,8 +279,8 @@ fn count_kinds(registry: &Registry, kinds: &[Kind]) -> Option<usize>
     Some(count)
 }
 
-/// How many rows a registry's dump has, which is how many lines stand between its first and its last; None where
-/// their number doesn't fit.
+/// How many rows a registry's dump has, which is how many lines stand between its first and its last; None
+/// where their number doesn't fit.
 #[tactic(auto, using(crate::proofs::Printed::all_counted))]
 pub fn rows_count(registry: &Registry) -> Option<usize>
     ensures some { IfSome result (λ n. n ≡ rows_count (rows_of registry.now)) }

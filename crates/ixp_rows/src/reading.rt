@@ -29,7 +29,8 @@ fn after_head(version: Version, text: &[u8]) -> Option<&[u8]>
 }
 
 fn site_of(alloc: Global, version: Version, text: &[u8]) -> Result<(Site, &[u8]), Misread>
-    ensures { Gives (λ x. ((site_line x.0).fields, x.1.now)) result (needed (length text.now) (line_at version Sites text.now)) }
+    ensures { Gives (λ x. ((site_line x.0).fields, x.1.now)) result
+        (needed (length text.now) (line_at version Sites text.now)) }
 {
     match line_of::<Site>(alloc, version, text) {
         Ok(Some((site, rest))) => Ok((site, rest)),

@@ -1,5 +1,19 @@
 //! The rows of one kind.
-ghost use Rattle.std.specs.Prelude.{◌≡◌, ◌<◌, ◌++◌, ◌∷◌, [], List, ℕ, length, map, OnOk, IfOk, IfSome, option_map};
+ghost use Rattle.std.specs.Prelude.{
+  ◌≡◌,
+  ◌<◌,
+  ◌++◌,
+  ◌∷◌,
+  [],
+  List,
+  ℕ,
+  length,
+  map,
+  OnOk,
+  IfOk,
+  IfSome,
+  option_map,
+};
 ghost use Rattle.std.specs.List.{AllByRecursion};
 ghost use Rattle.ixp_num_tables.specs.Tables.{Ascends};
 ghost use Rattle.ixp_rows.specs.Reading.{Gives, behind, last_key, misplaced, line_at, section};
@@ -43,7 +57,8 @@ pub(crate) fn line_of<K: Lined + Drop>(
     version: Version,
     text: &[u8],
 ) -> Result<Option<(K, &[u8])>, Unread>
-    ensures reads { Says (option_map (λ x. (K.fields version x.0, x.1.now))) result (line_at version K.row_kind text.now) }
+    ensures reads { Says (option_map (λ x. (K.fields version x.0, x.1.now))) result
+        (line_at version K.row_kind text.now) }
     ensures shorter { IfOk result (λ o. IfSome o (λ x. length x.1.now < length text.now)) }
     ensures of_version { IfOk result (λ o. IfSome o (λ x. K.of_version version x.0)) }
 {
@@ -69,7 +84,8 @@ pub(crate) fn section<K: Lined + Drop>(
     version: Version,
     text: &[u8],
 ) -> Result<(Vec<K>, &[u8]), Misread>
-    ensures reads { Gives (λ x. (map (K.fields version) x.0.items, x.1.now)) result (section version K.row_kind text.now) }
+    ensures reads { Gives (λ x. (map (K.fields version) x.0.items, x.1.now)) result
+        (section version K.row_kind text.now) }
     ensures ascends { IfOk result (λ x. Ascends K.key x.0.items) }
     ensures of_version { IfOk result (λ x. AllByRecursion (K.of_version version) x.0.items) }
 {

@@ -2,8 +2,8 @@
 //!
 //! A line is the word of its kind, a blank before each field, and a line's end. `specs/Lines.antt` has the
 //! table of the kinds: their words, what their fields may be, the fields of each row, and the keys by which
-//! lines ascend; `specs/Fields.antt` has the one text of each field. [`Lined`] reads and prints the lines of a kind of rows:
-//! what it reads are the fields whose text stands there.
+//! lines ascend; `specs/Fields.antt` has the one text of each field. [`Lined`] reads and prints the lines of
+//! a kind of rows: what it reads are the fields whose text stands there.
 #![tactic(auto)]
 
 mod fault;

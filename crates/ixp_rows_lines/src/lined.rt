@@ -30,7 +30,8 @@ pub trait Lined: Sized {
 
     /// The row whose fields stand at the front, and what is behind the line's end.
     fn read(alloc: Global, version: Version, rest: &[u8]) -> Result<(Self, &[u8]), Unread>
-        ensures reads { Gives (λ x. (fields version x.0, x.1.now)) result (fields_at (form_of version row_kind) rest.now) }
+        ensures reads { Gives (λ x. (fields version x.0, x.1.now)) result
+            (fields_at (form_of version row_kind) rest.now) }
         ensures of_version { IfOk result (λ x. of_version version x.0) };
 
     /// Adds the row's line.
@@ -42,5 +43,6 @@ pub trait Lined: Sized {
         ensures { result ≡ order (key self.now) (key other.now) };
 
     /// The key is what the first fields say.
-    ghost keyed: { (version : Format) (row : Self) → flat_map field_key (take (key_length row_kind) (fields version row)) ≡ key row };
+    ghost keyed: { (version : Format) (row : Self)
+        → flat_map field_key (take (key_length row_kind) (fields version row)) ≡ key row };
 }

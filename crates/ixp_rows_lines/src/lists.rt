@@ -4,7 +4,17 @@ ghost use Rattle.std.proofs.Common.{ap};
 ghost use Rattle.ixp_registry.specs.Keys.{member_prefix_key, member_origin_key, rule_key};
 ghost use Rattle.ixp_num_sorted.specs.Keys.{pattern_key, asn_key, range_key, roa_key};
 ghost use Rattle.ixp_registry.specs.declared.kind.Kind.TheVariants as of;
-ghost use Rattle.ixp_rows_lines.specs.Lines.{IsAction, prefix_line, origin_line, rule_line, bogon_line, bogon_as_line, transit_line, roa_line, version_again};
+ghost use Rattle.ixp_rows_lines.specs.Lines.{
+  IsAction,
+  prefix_line,
+  origin_line,
+  rule_line,
+  bogon_line,
+  bogon_as_line,
+  transit_line,
+  roa_line,
+  version_again,
+};
 
 use crate::fields::end_of;
 use crate::numbers::{asn_of, asn_or_star, bounds_of, net_of, net_or_star, number_of, octet_of};

@@ -3,7 +3,16 @@ ghost use Rattle.std.specs.Prelude.{◌≡◌, ◌++◌, OnOk, refl};
 ghost use Rattle.ixp_registry.specs.Keys.{switch_key, port_key, vlan_key, interface_row_key, address_key};
 ghost use Rattle.ixp_registry.specs.declared.kind.Kind.TheVariants as of;
 ghost use Rattle.ixp_rows_lines.specs.declared.version.Version.{Version as Format};
-ghost use Rattle.ixp_rows_lines.specs.Lines.{IsLine, IsSecret, line_text, switch_line, port_line, vlan_line, interface_line, address_line};
+ghost use Rattle.ixp_rows_lines.specs.Lines.{
+  IsLine,
+  IsSecret,
+  line_text,
+  switch_line,
+  port_line,
+  vlan_line,
+  interface_line,
+  address_line,
+};
 
 use crate::fields::end_of;
 use crate::free::{free_of, secret_of};
@@ -191,7 +200,9 @@ impl Lined for InterfaceRow {
 
 /// Adds the line of an interface's address.
 pub fn print_address(interface: u32, address: &IfAddr, out: &mut Vec<u8>) -> Result<(), AllocError>
-    ensures { OnOk result (out.new.items ≡ out.old.items ++ line_text (address_line (record { interface = interface; address = address.now }))) }
+    ensures { OnOk result
+        (out.new.items ≡ out.old.items
+        ++ line_text (address_line (record { interface = interface; address = address.now }))) }
 {
     let fields = [
         Shown::Number(interface),

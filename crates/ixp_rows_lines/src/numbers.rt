@@ -3,7 +3,18 @@ ghost use Rattle.std.specs.Prelude.{◌≡◌, codes, IfOk};
 ghost use Rattle.ixp_num.specs.Printing.{addr_text, prefix_text, bounds_text};
 ghost use Rattle.ixp_num_tables.specs.Tables.{same};
 ghost use Rattle.ixp_num.specs.declared.family.Family.TheVariants.{V4};
-ghost use Rattle.ixp_rows_lines.specs.Fields.{Number, Octet, Address, ANumber, AnOctet, AnAddress, AnIdentifier, ANet, ABounds, Or};
+ghost use Rattle.ixp_rows_lines.specs.Fields.{
+  Number,
+  Octet,
+  Address,
+  ANumber,
+  AnOctet,
+  AnAddress,
+  AnIdentifier,
+  ANet,
+  ABounds,
+  Or,
+};
 ghost use Rattle.ixp_rows_lines.specs.Lines.{address_field, net_field, bounds_field, asn_field, field_or};
 ghost use Rattle.ixp_rows_lines.specs.Reading.{Gives, value_of, piece_at};
 
@@ -178,7 +189,8 @@ pub(crate) fn bounds_of(alloc: Global, rest: &[u8]) -> Result<(Pattern, &[u8]), 
 
 #[tactic(auto, using(crate::proofs::Values::or_laws))]
 fn address_or(alloc: Global, word: &[u8], field: &[u8]) -> Result<Option<Addr>, Unread>
-    ensures { Gives (λ x. field_or word.now address_field x) result (value_of (Or word.now AnAddress) field.now) }
+    ensures { Gives (λ x. field_or word.now address_field x) result
+        (value_of (Or word.now AnAddress) field.now) }
 {
     if field == word {
         return Ok(None);
@@ -217,7 +229,8 @@ fn asn_or(word: &[u8], field: &[u8]) -> Result<Option<Asn>, Unread>
 
 /// An address, or `-`.
 pub(crate) fn address_or_dash(alloc: Global, rest: &[u8]) -> Result<(Option<Addr>, &[u8]), Unread>
-    ensures { Gives (λ x. (field_or (codes "-") address_field x.0, x.1.now)) result (piece_at (Or (codes "-") AnAddress) rest.now) }
+    ensures { Gives (λ x. (field_or (codes "-") address_field x.0, x.1.now)) result
+        (piece_at (Or (codes "-") AnAddress) rest.now) }
 {
     let (field, rest) = field_of(rest)?;
     Ok((address_or(alloc, b"-", field)?, rest))
@@ -225,7 +238,8 @@ pub(crate) fn address_or_dash(alloc: Global, rest: &[u8]) -> Result<(Option<Addr
 
 /// A prefix, or `-`.
 pub(crate) fn net_or_dash(alloc: Global, rest: &[u8]) -> Result<(Option<Prefix>, &[u8]), Unread>
-    ensures { Gives (λ x. (field_or (codes "-") net_field x.0, x.1.now)) result (piece_at (Or (codes "-") ANet) rest.now) }
+    ensures { Gives (λ x. (field_or (codes "-") net_field x.0, x.1.now)) result
+        (piece_at (Or (codes "-") ANet) rest.now) }
 {
     let (field, rest) = field_of(rest)?;
     Ok((net_or(alloc, b"-", field)?, rest))
@@ -233,7 +247,8 @@ pub(crate) fn net_or_dash(alloc: Global, rest: &[u8]) -> Result<(Option<Prefix>,
 
 /// A prefix, or `*`.
 pub(crate) fn net_or_star(alloc: Global, rest: &[u8]) -> Result<(Option<Prefix>, &[u8]), Unread>
-    ensures { Gives (λ x. (field_or (codes "*") net_field x.0, x.1.now)) result (piece_at (Or (codes "*") ANet) rest.now) }
+    ensures { Gives (λ x. (field_or (codes "*") net_field x.0, x.1.now)) result
+        (piece_at (Or (codes "*") ANet) rest.now) }
 {
     let (field, rest) = field_of(rest)?;
     Ok((net_or(alloc, b"*", field)?, rest))
@@ -241,7 +256,8 @@ pub(crate) fn net_or_star(alloc: Global, rest: &[u8]) -> Result<(Option<Prefix>,
 
 /// An AS number, or `*`.
 pub(crate) fn asn_or_star(rest: &[u8]) -> Result<(Option<Asn>, &[u8]), Unread>
-    ensures { Gives (λ x. (field_or (codes "*") asn_field x.0, x.1.now)) result (piece_at (Or (codes "*") ANumber) rest.now) }
+    ensures { Gives (λ x. (field_or (codes "*") asn_field x.0, x.1.now)) result
+        (piece_at (Or (codes "*") ANumber) rest.now) }
 {
     let (field, rest) = field_of(rest)?;
     Ok((asn_or(b"*", field)?, rest))

@@ -2,7 +2,14 @@
 ghost use Rattle.std.specs.Prelude.{◌≡◌, ◌++◌, ◌∷◌, [], ◌<◌, List, OnOk, map, flat_map, length};
 ghost use Rattle.ixp_rows_lines.specs.Fields.{field_text, Address};
 ghost use Rattle.ixp_num.specs.declared.family.Family.TheVariants.{V4};
-ghost use Rattle.ixp_rows_lines.specs.Lines.{address_field, net_field, asn_field, field_or, action_word, text_of};
+ghost use Rattle.ixp_rows_lines.specs.Lines.{
+  address_field,
+  net_field,
+  asn_field,
+  field_or,
+  action_word,
+  text_of,
+};
 ghost use Rattle.ixp_registry.specs.Kinds.{word_of};
 ghost use Rattle.ixp_rows_lines.specs.Printing.{shown};
 
@@ -72,7 +79,8 @@ fn put_field(field: &Shown, out: &mut Vec<u8>) -> Result<(), AllocError>
 }
 
 fn put_fields(fields: &[Shown], out: &mut Vec<u8>) -> Result<(), AllocError>
-    ensures { OnOk result (out.new.items ≡ out.old.items ++ flat_map (λ field. 32 ∷ field_text field) (map shown fields.now)) }
+    ensures { OnOk result
+        (out.new.items ≡ out.old.items ++ flat_map (λ field. 32 ∷ field_text field) (map shown fields.now)) }
 {
     for field in fields {
         put(out, b" ")?;

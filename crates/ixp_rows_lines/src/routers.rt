@@ -18,7 +18,8 @@ use std::alloc::{AllocError, Global};
 use std::cmp::Ordering;
 
 fn read_one(alloc: Global, rest: &[u8]) -> Result<(Router, &[u8]), Unread>
-    ensures reads { Gives (λ x. ((router_line One x.0).fields, x.1.now)) result (fields_at (router_form One) rest.now) }
+    ensures reads { Gives (λ x. ((router_line One x.0).fields, x.1.now)) result
+        (fields_at (router_form One) rest.now) }
     ensures of_version { IfOk result (λ x. IsOfVersion One x.0) }
 {
     let (handle, rest) = handle_of(alloc, rest)?;
@@ -48,7 +49,8 @@ fn read_one(alloc: Global, rest: &[u8]) -> Result<(Router, &[u8]), Unread>
 }
 
 fn read_two(alloc: Global, rest: &[u8]) -> Result<(Router, &[u8]), Unread>
-    ensures { Gives (λ x. ((router_line Two x.0).fields, x.1.now)) result (fields_at (router_form Two) rest.now) }
+    ensures { Gives (λ x. ((router_line Two x.0).fields, x.1.now)) result
+        (fields_at (router_form Two) rest.now) }
 {
     let (handle, rest) = handle_of(alloc, rest)?;
     let (vlan, rest) = number_of(rest)?;

@@ -204,7 +204,8 @@ fn owned_by(kind: OwnerKind, number: u32) -> Owner
 
 /// A key's owner, two fields.
 pub(crate) fn owner_of(rest: &[u8]) -> Result<(Owner, &[u8]), Unread>
-    ensures { Gives (λ x. (Word (owner_word x.0), Number (owner_number x.0), x.1.now)) result (owner_at rest.now) }
+    ensures { Gives (λ x. (Word (owner_word x.0), Number (owner_number x.0), x.1.now)) result
+        (owner_at rest.now) }
 {
     let (kind, rest) = by_word(rest)?;
     let (number, rest) = number_of(rest)?;

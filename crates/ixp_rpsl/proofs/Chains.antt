@@ -6,7 +6,7 @@ use Rattle.std.proofs.lemmas.Bool.{and_parts, or_cases}
 use Rattle.std.proofs.lemmas.List.Folds.{list_any-append}
 use Rattle.ixp_rpsl.specs.declared.objects.SetRow.{SetRow}
 use Rattle.ixp_rpsl.specs.declared.objects.Reach.{Reach}
-use Rattle.ixp_rpsl.specs.Expansion.{sets_in, members_of, is_among, has_name, Leads, Root, Member, Closed, names_set, is_named, follows, starts, is_closed, is_chain}
+use Rattle.ixp_rpsl.specs.Expansion.{sets_in, member_sets, is_among, has_name, Leads, Root, Member, Closed, names_set, is_named, follows, starts, is_closed, is_chain}
 
 pub one_name : (a b : List ℕ) → bytes_eq a b ≡ true → a ≡ b
 one_name a b e = (bytes_eq-Decides a b).0 e
@@ -64,25 +64,25 @@ each_passes p (x ∷ xs) m all e = by_part (or_cases (bytes_eq x m) (is_among xs
 
 -- a member of a set, by the first object and the others
 pub more_member : (r : SetRow) (rows : List SetRow) (n m : List ℕ)
-    → is_among (members_of (r ∷ rows) n) m ≡ ((bytes_eq r.name n && is_among (sets_in r.members) m) || is_among (members_of rows n) m)
+    → is_among (member_sets (r ∷ rows) n) m ≡ ((bytes_eq r.name n && is_among (sets_in r.members) m) || is_among (member_sets rows n) m)
 more_member r rows n m = by_name (bytes_eq r.name n)
   where
-    by_name : (b : Bool) → is_among (if b then sets_in r.members ++ members_of rows n else members_of rows n) m ≡ ((b && is_among (sets_in r.members) m) || is_among (members_of rows n) m)
-    by_name true = list_any-append (λ x. bytes_eq x m) (sets_in r.members) (members_of rows n)
+    by_name : (b : Bool) → is_among (if b then sets_in r.members ++ member_sets rows n else member_sets rows n) m ≡ ((b && is_among (sets_in r.members) m) || is_among (member_sets rows n) m)
+    by_name true = list_any-append (λ x. bytes_eq x m) (sets_in r.members) (member_sets rows n)
     by_name false = refl
 
-is_kept : (c : List Reach) (rows : List SetRow) (n m : List ℕ) → is_closed rows c ≡ true → has_name c n ≡ true → is_among (members_of rows n) m ≡ true → has_name c m ≡ true
+is_kept : (c : List Reach) (rows : List SetRow) (n m : List ℕ) → is_closed rows c ≡ true → has_name c n ≡ true → is_among (member_sets rows n) m ≡ true → has_name c m ≡ true
 is_kept c [] n m closed is e = never e
 is_kept c (r ∷ rows) n m closed is e =
     let parts = and_parts (not (has_name c r.name) || list_all (has_name c) (sets_in r.members)) (is_closed rows c) closed in
-    by_part parts.0 (or_cases (bytes_eq r.name n && is_among (sets_in r.members) m) (is_among (members_of rows n) m) (sym (more_member r rows n m) ∙ e)) (is_kept c rows n m parts.1 is)
+    by_part parts.0 (or_cases (bytes_eq r.name n && is_among (sets_in r.members) m) (is_among (member_sets rows n) m) (sym (more_member r rows n m) ∙ e)) (is_kept c rows n m parts.1 is)
   where
     all_kept : (b : Bool) → b ≡ true → (not b || list_all (has_name c) (sets_in r.members)) ≡ true → list_all (has_name c) (sets_in r.members) ≡ true
     all_kept true h f = f
     all_kept false h f = never h
 
     by_part : (not (has_name c r.name) || list_all (has_name c) (sets_in r.members)) ≡ true
-        → ((bytes_eq r.name n && is_among (sets_in r.members) m) ≡ true) ⊎ (is_among (members_of rows n) m ≡ true) → (is_among (members_of rows n) m ≡ true → has_name c m ≡ true) → has_name c m ≡ true
+        → ((bytes_eq r.name n && is_among (sets_in r.members) m) ≡ true) ⊎ (is_among (member_sets rows n) m ≡ true) → (is_among (member_sets rows n) m ≡ true → has_name c m ≡ true) → has_name c m ≡ true
     by_part first (inl here) more =
         let two = and_parts (bytes_eq r.name n) (is_among (sets_in r.members) m) here in
         each_passes (has_name c) (sets_in r.members) m (all_kept (has_name c r.name) (subst (λ x. has_name c x ≡ true) (sym (one_name r.name n two.0)) is) first) two.1

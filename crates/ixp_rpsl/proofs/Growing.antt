@@ -6,7 +6,7 @@ use Rattle.std.proofs.lemmas.Bool.{and_parts, and_from, or_cases, or_left, or_ri
 use Rattle.std.proofs.lemmas.List.Folds.{list_any-append}
 use Rattle.ixp_rpsl.specs.declared.objects.SetRow.{SetRow}
 use Rattle.ixp_rpsl.specs.declared.objects.Reach.{Reach}
-use Rattle.ixp_rpsl.specs.Expansion.{sets_in, members_of, is_among, has_name, names_set, is_named, follows, starts, is_closed, is_chain}
+use Rattle.ixp_rpsl.specs.Expansion.{sets_in, member_sets, is_among, has_name, names_set, is_named, follows, starts, is_closed, is_chain}
 use Rattle.ixp_rpsl.specs.Breadth.{named_by, mentions, adds, IsBreadthFirst}
 use Rattle.ixp_rpsl.proofs.Chains.{never, name_itself, one_name, more_member}
 
@@ -89,33 +89,33 @@ names_there : (place : ℕ) (ns : List (List ℕ)) (m : List ℕ) → has_name (
 names_there place [] m = refl
 names_there place (n ∷ ns) m = ap (λ b. bytes_eq n m || b) (names_there place ns m)
 
-mentioned : (rows : List SetRow) (place : ℕ) (c : List Reach) (n m : List ℕ) → has_name c n ≡ true → is_among (members_of rows n) m ≡ true → has_name (mentions rows place c) m ≡ true
+mentioned : (rows : List SetRow) (place : ℕ) (c : List Reach) (n m : List ℕ) → has_name c n ≡ true → is_among (member_sets rows n) m ≡ true → has_name (mentions rows place c) m ≡ true
 mentioned rows place [] n m e is = never e
 mentioned rows place (r ∷ c) n m e is =
-    list_any-append (λ x. bytes_eq x.set m) (named_by place (members_of rows r.set)) (mentions rows (place + 1) c)
+    list_any-append (λ x. bytes_eq x.set m) (named_by place (member_sets rows r.set)) (mentions rows (place + 1) c)
     ∙ by_part (or_cases (bytes_eq r.set n) (has_name c n) e) (λ there. mentioned rows (place + 1) c n m there is)
   where
     by_part : (bytes_eq r.set n ≡ true) ⊎ (has_name c n ≡ true) → (has_name c n ≡ true → has_name (mentions rows (place + 1) c) m ≡ true)
-        → (has_name (named_by place (members_of rows r.set)) m || has_name (mentions rows (place + 1) c) m) ≡ true
+        → (has_name (named_by place (member_sets rows r.set)) m || has_name (mentions rows (place + 1) c) m) ≡ true
     by_part (inl here) more =
-        or_left (has_name (named_by place (members_of rows r.set)) m) (has_name (mentions rows (place + 1) c) m)
-        (names_there place (members_of rows r.set) m ∙ subst (λ k. is_among (members_of rows k) m ≡ true) (sym (one_name r.set n here)) is)
-    by_part (inr there) more = or_right (has_name (named_by place (members_of rows r.set)) m) (has_name (mentions rows (place + 1) c) m) (more there)
+        or_left (has_name (named_by place (member_sets rows r.set)) m) (has_name (mentions rows (place + 1) c) m)
+        (names_there place (member_sets rows r.set) m ∙ subst (λ k. is_among (member_sets rows k) m ≡ true) (sym (one_name r.set n here)) is)
+    by_part (inr there) more = or_right (has_name (named_by place (member_sets rows r.set)) m) (has_name (mentions rows (place + 1) c) m) (more there)
 
 all_pass : (p : List ℕ → Bool) (xs : List (List ℕ)) → ((m : List ℕ) → is_among xs m ≡ true → p m ≡ true) → list_all p xs ≡ true
 all_pass p [] f = refl
 all_pass p (x ∷ xs) f = and_from (p x) (list_all p xs) (f x (or_left (bytes_eq x x) (is_among xs x) (name_itself x))) (all_pass p xs (λ m is. f m (or_right (bytes_eq x m) (is_among xs m) is)))
 
-closed_from : (c : List Reach) (rows : List SetRow) → ((n m : List ℕ) → has_name c n ≡ true → is_among (members_of rows n) m ≡ true → has_name c m ≡ true) → is_closed rows c ≡ true
+closed_from : (c : List Reach) (rows : List SetRow) → ((n m : List ℕ) → has_name c n ≡ true → is_among (member_sets rows n) m ≡ true → has_name c m ≡ true) → is_closed rows c ≡ true
 closed_from c [] f = refl
 closed_from c (r ∷ rows) f =
     and_from (not (has_name c r.name) || list_all (has_name c) (sets_in r.members)) (is_closed rows c) (first (has_name c r.name) refl)
-    (closed_from c rows (λ n m is member. f n m is (more_member r rows n m ∙ or_right (bytes_eq r.name n && is_among (sets_in r.members) m) (is_among (members_of rows n) m) member)))
+    (closed_from c rows (λ n m is member. f n m is (more_member r rows n m ∙ or_right (bytes_eq r.name n && is_among (sets_in r.members) m) (is_among (member_sets rows n) m) member)))
   where
     first : (b : Bool) → has_name c r.name ≡ b → (not b || list_all (has_name c) (sets_in r.members)) ≡ true
     first false e = refl
     first true e = all_pass (has_name c) (sets_in r.members) (λ m is. f r.name m e
-        (more_member r rows r.name m ∙ or_left (bytes_eq r.name r.name && is_among (sets_in r.members) m) (is_among (members_of rows r.name) m) (and_from (bytes_eq r.name r.name) (is_among (sets_in r.members) m) (name_itself r.name) is)))
+        (more_member r rows r.name m ∙ or_left (bytes_eq r.name r.name && is_among (sets_in r.members) m) (is_among (member_sets rows r.name) m) (and_from (bytes_eq r.name r.name) (is_among (sets_in r.members) m) (name_itself r.name) is)))
 
 breadth_closed : (rows : List SetRow) (root : List ℕ) (c : List Reach) → IsBreadthFirst rows root c → is_closed rows c ≡ true
 breadth_closed rows root c e = closed_from c rows (λ n m is member.
@@ -145,25 +145,25 @@ take_kept (q ∷ c) d zero r e = let h : q ≡ r = cc in ap (λ x. x ∷ []) h
 take_kept (q ∷ c) d (suc at) r e = ap (λ l. q ∷ l) (take_kept c d at r e)
 
 mentions_more : (rows : List SetRow) (place : ℕ) (c : List Reach) (at : ℕ) (r : Reach) → slice_get c at ≡ Some r
-    → mentions rows place (take at c ++ r ∷ []) ≡ mentions rows place (take at c) ++ named_by (place + at) (members_of rows r.set)
+    → mentions rows place (take at c ++ r ∷ []) ≡ mentions rows place (take at c) ++ named_by (place + at) (member_sets rows r.set)
 mentions_more rows place [] at r e = nothing_there r e
 mentions_more rows place (q ∷ c) zero r e =
     let same : place ≡ place + 0 = omega arith in
-    append-nil (named_by place (members_of rows r.set)) ∙ ap (λ k. named_by k (members_of rows r.set)) same
+    append-nil (named_by place (member_sets rows r.set)) ∙ ap (λ k. named_by k (member_sets rows r.set)) same
 mentions_more rows place (q ∷ c) (suc at) r e =
     let sum : place + 1 + at ≡ place + suc at = omega arith in
-    ap (λ l. named_by place (members_of rows q.set) ++ l) (mentions_more rows (place + 1) c at r e)
-    ∙ (sym (append_assoc (named_by place (members_of rows q.set)) (mentions rows (place + 1) (take at c)) (named_by (place + 1 + at) (members_of rows r.set)))
-    ∙ ap (λ n. named_by place (members_of rows q.set) ++ mentions rows (place + 1) (take at c) ++ named_by n (members_of rows r.set)) sum)
+    ap (λ l. named_by place (member_sets rows q.set) ++ l) (mentions_more rows (place + 1) c at r e)
+    ∙ (sym (append_assoc (named_by place (member_sets rows q.set)) (mentions rows (place + 1) (take at c)) (named_by (place + 1 + at) (member_sets rows r.set)))
+    ∙ ap (λ n. named_by place (member_sets rows q.set) ++ mentions rows (place + 1) (take at c) ++ named_by n (member_sets rows r.set)) sum)
 
-pub visited : (rows : List SetRow) (root : List ℕ) (sets : List ℕ → List (List ℕ)) (c n : List Reach) (at : ℕ) → ((q : List ℕ) → sets q ≡ members_of rows q) → at < length c
+pub visited : (rows : List SetRow) (root : List ℕ) (sets : List ℕ → List (List ℕ)) (c n : List Reach) (at : ℕ) → ((q : List ℕ) → sets q ≡ member_sets rows q) → at < length c
     → starts rows root c ≡ true → c ≡ adds [] (record { set = root; by = 0 } ∷ mentions rows 1 (take at c))
     → ((r : Reach) → slice_get c at ≡ Some r → n ≡ adds c (named_by (at + 1) (sets r.set)))
     → (at + 1 ≤ length n) × (starts rows root n ≡ true) × (n ≡ adds [] (record { set = root; by = 0 } ∷ mentions rows 1 (take (at + 1) n)))
 visited rows root sets c n at index within begun met says =
     let here = at_place c at within in
     let r : Reach = here.0 in
-    let news : List Reach = named_by (at + 1) (members_of rows r.set) in
+    let news : List Reach = named_by (at + 1) (member_sets rows r.set) in
     let now : n ≡ adds c news = says r here.1 ∙ ap (λ l. adds c (named_by (at + 1) l)) (index r.set) in
     let more = grows c news in
     let longer : n ≡ c ++ more.0 = now ∙ more.1 in
@@ -174,9 +174,9 @@ visited rows root sets c n at index within begun met says =
     let place : 1 + at ≡ at + 1 = omega arith in
     let back : at + 1 - 1 ≡ at = omega arith in
     let said : mentions rows 1 (take (at + 1) n) ≡ mentions rows 1 (take at c) ++ news =
-    ap (mentions rows 1) front ∙ (mentions_more rows 1 c at r here.1 ∙ ap (λ k. mentions rows 1 (take at c) ++ named_by k (members_of rows r.set)) place) in (
+    ap (mentions rows 1) front ∙ (mentions_more rows 1 c at r here.1 ∙ ap (λ k. mentions rows 1 (take at c) ++ named_by k (member_sets rows r.set)) place) in (
       omega (arith, len, within),
-      subst (λ l. starts rows root l ≡ true) (sym now) (starts_added rows root c news begun (all_named rows c (at + 1) (members_of rows r.set)
+      subst (λ l. starts rows root l ≡ true) (sym now) (starts_added rows root c news begun (all_named rows c (at + 1) (member_sets rows r.set)
           (λ m is. and_from (nat_le 1 (at + 1)) (names_set rows m (slice_get c (at + 1 - 1))) (le-leb 1 (at + 1) (omega arith))
           (subst (λ k. names_set rows m (slice_get c k) ≡ true) (sym back) (subst (λ o. names_set rows m o ≡ true) (sym here.1) is))))),
       now ∙ (ap (λ l. adds l news) met ∙ (sym (adds_more [] first news) ∙ ap (λ l. adds [] (record { set = root; by = 0 } ∷ l)) (sym said))),

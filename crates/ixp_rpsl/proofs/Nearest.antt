@@ -7,7 +7,7 @@ use Rattle.std.proofs.lemmas.List.Folds.{list_any-append}
 use Rattle.ixp_num_tables.specs.Sums.{Pairs}
 use Rattle.ixp_rpsl.specs.declared.objects.SetRow.{SetRow}
 use Rattle.ixp_rpsl.specs.declared.objects.Reach.{Reach}
-use Rattle.ixp_rpsl.specs.Expansion.{members_of, is_among, has_name, names_set, is_named}
+use Rattle.ixp_rpsl.specs.Expansion.{member_sets, is_among, has_name, names_set, is_named}
 use Rattle.ixp_rpsl.specs.Breadth.{IsBreadthFirst, IsNearest, StandsBefore, adds, members_at, mentions, named_by, place_in}
 use Rattle.ixp_rpsl.proofs.Chains.{never, name_itself, one_name}
 use Rattle.ixp_rpsl.proofs.Growing.{adds_more}
@@ -98,7 +98,7 @@ module _ (rows : List SetRow) (c : List Reach) (first : Reach) where
   widen place pre m y (inr is) = inr (is.0, among_before pre m y.set is.1)
 
   module _ (place : ℕ) (some : 1 ≤ place) (r : Reach) (at : slice_get c (place - 1) ≡ Some r) where
-    module _ (pre post : List (List ℕ)) (m : List ℕ) (list : List Reach) (split : members_of rows r.set ≡ pre ++ m ∷ post) (k : Known place pre list) where
+    module _ (pre post : List (List ℕ)) (m : List ℕ) (list : List Reach) (split : member_sets rows r.set ≡ pre ++ m ∷ post) (k : Known place pre list) where
       kept : has_name (first ∷ list) m ≡ true → Known place (pre ++ m ∷ []) list
       kept there = record {
         near = k.near;
@@ -116,7 +116,7 @@ module _ (rows : List SetRow) (c : List Reach) (first : Reach) where
         fresh : is_among pre m ≡ false
         fresh = not_true (is_among pre m) (λ is. clash (has_name (first ∷ list) m) (k.here m is) new)
 
-        there : is_among (members_of rows r.set) m ≡ true
+        there : is_among (member_sets rows r.set) m ≡ true
         there = subst (λ l. is_among l m ≡ true) (sym split)
             (list_any-append (λ x. bytes_eq x m) pre (m ∷ post) ∙ or_right (is_among pre m) (is_among (m ∷ post) m) (or_left (bytes_eq m m) (is_among post m) (name_itself m)))
 
@@ -159,24 +159,24 @@ module _ (rows : List SetRow) (c : List Reach) (first : Reach) where
         by true e = (list, refl, kept e)
         by false e = (list ++ record { set = m; by = place } ∷ [], refl, added e)
 
-    steps : (pre post : List (List ℕ)) (list : List Reach) → members_of rows r.set ≡ pre ++ post → Known place pre list
-        → (next : List Reach) × (adds (first ∷ list) (named_by place post) ≡ first ∷ next) × Known place (members_of rows r.set) next
+    steps : (pre post : List (List ℕ)) (list : List Reach) → member_sets rows r.set ≡ pre ++ post → Known place pre list
+        → (next : List Reach) × (adds (first ∷ list) (named_by place post) ≡ first ∷ next) × Known place (member_sets rows r.set) next
     steps pre [] list split k = (list, refl, subst (λ p. Known place p list) (sym (split ∙ append-nil pre)) k)
     steps pre (m ∷ post) list split k =
         let one = step pre post m list split k in
         let rest = steps (pre ++ m ∷ []) post one.0 (split ∙ sym (append_assoc pre (m ∷ []) post)) one.2 in
         (rest.0, ap (λ l. adds l (named_by place post)) one.1 ∙ rest.1, rest.2)
 
-    at_next : (list : List Reach) → Known place (members_of rows r.set) list → Known (place + 1) [] list
+    at_next : (list : List Reach) → Known place (member_sets rows r.set) list → Known (place + 1) [] list
     at_next list k = record {
       near = k.near;
       order = k.order;
-      upto = all_as (λ y. (y.by < place) ⊎ ((y.by ≡ place) × (is_among (members_of rows r.set) y.set ≡ true))) (λ y. (y.by < place + 1) ⊎ ((y.by ≡ place + 1) × (is_among [] y.set ≡ true))) list below k.upto;
+      upto = all_as (λ y. (y.by < place) ⊎ ((y.by ≡ place) × (is_among (member_sets rows r.set) y.set ≡ true))) (λ y. (y.by < place + 1) ⊎ ((y.by ≡ place + 1) × (is_among [] y.set ≡ true))) list below k.upto;
       earlier = λ j m less is. by j m is (less_or_same j place less);
       here = λ m is. never is;
     }
       where
-        below : (y : Reach) → (y.by < place) ⊎ ((y.by ≡ place) × (is_among (members_of rows r.set) y.set ≡ true)) → (y.by < place + 1) ⊎ ((y.by ≡ place + 1) × (is_among [] y.set ≡ true))
+        below : (y : Reach) → (y.by < place) ⊎ ((y.by ≡ place) × (is_among (member_sets rows r.set) y.set ≡ true)) → (y.by < place + 1) ⊎ ((y.by ≡ place + 1) × (is_among [] y.set ≡ true))
         below y (inl is) = inl (omega arith)
         below y (inr is) = let same = is.0 in inl (omega arith)
 
@@ -192,9 +192,9 @@ module _ (rows : List SetRow) (c : List Reach) (first : Reach) where
       let back : place - 1 ≡ length done = omega arith in
       let at : slice_get c (place - 1) ≡ Some r = ap (slice_get c) back ∙ (ap (λ l. slice_get l (length done)) split ∙ get_behind done r left) in
       let some : 1 ≤ place = omega arith in
-      let one = steps place some r at [] (members_of rows r.set) list refl k in
+      let one = steps place some r at [] (member_sets rows r.set) list refl k in
       let rest = outer left (done ++ r ∷ []) (place + 1) one.0 (split ∙ sym (append_assoc done (r ∷ []) left)) (omega (arith, length-append done (r ∷ []))) (at_next place some r at one.0 one.2) in
-      (rest.0, adds_more (first ∷ list) (named_by place (members_of rows r.set)) (mentions rows (place + 1) left) ∙ (ap (λ l. adds l (mentions rows (place + 1) left)) one.1 ∙ rest.1), rest.2, rest.3)
+      (rest.0, adds_more (first ∷ list) (named_by place (member_sets rows r.set)) (mentions rows (place + 1) left) ∙ (ap (λ l. adds l (mentions rows (place + 1) left)) one.1 ∙ rest.1), rest.2, rest.3)
 
   none_named : (k : ℕ) (m : List ℕ) → k < 1 → is_named rows c k m ≡ true → has_name (first ∷ []) m ≡ true
   none_named zero m less is = never is

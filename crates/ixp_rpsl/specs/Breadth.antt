@@ -3,7 +3,7 @@ use Rattle.std.specs.Prelude.{◌≡◌, ◌+◌, ◌-◌, ◌<◌, ◌++◌, �
 use Rattle.std.specs.List.{AllByRecursion, list_any, position_or_len, slice_get}
 use Rattle.std.specs.Str.{bytes_eq}
 use Rattle.ixp_num_tables.specs.Sums.{Pairs}
-use Rattle.ixp_rpsl.specs.Expansion.{members_of, has_name, is_chain, is_named}
+use Rattle.ixp_rpsl.specs.Expansion.{member_sets, has_name, is_chain, is_named}
 use Rattle.ixp_rpsl.specs.declared.fault.RpslFault.{RpslFault}
 use Rattle.ixp_rpsl.specs.declared.fault.RpslFault.TheVariants as fault
 use Rattle.ixp_rpsl.specs.declared.objects.Reach.{Reach}
@@ -16,7 +16,7 @@ IsNearest rows c r = (is_named rows c r.by r.set ≡ true) × ((k : ℕ) → k <
 -- the sets among the members of the one at a place
 abbrev pub members_at : List SetRow → Option Reach → List (List ℕ)
 members_at rows None = []
-members_at rows (Some r) = members_of rows r.set
+members_at rows (Some r) = member_sets rows r.set
 
 -- where a set stands first among the members of the one at its `by`
 abbrev pub place_in : List SetRow → List Reach → Reach → ℕ
@@ -30,8 +30,8 @@ StandsBefore rows c r s = (r.by < s.by) ⊎ ((r.by ≡ s.by) × (place_in rows c
 abbrev pub has_object : List SetRow → List ℕ → Bool
 has_object rows name = list_any (λ row. bytes_eq row.name name) rows
 
--- What expanding a set answers: a chain in which each set but the first has the least `by`, in the order of `by` and then of
--- the first places; or that no object has its name.
+-- What expanding a set answers: a chain in which each set but the first has the least `by`, in the order of
+-- `by` and then of the first places; or that no object has its name.
 abbrev pub ExpandAnswer : List SetRow → List ℕ → Result (List Reach) RpslFault → Type 0
 ExpandAnswer rows root (Ok c) =
     (has_object rows root ≡ true) × (is_chain rows root c ≡ true) × AllByRecursion (IsNearest rows c) (drop 1 c) × Pairs (StandsBefore rows c) (drop 1 c)
@@ -40,7 +40,8 @@ ExpandAnswer rows root (Err (fault.Line n)) = ⊥
 ExpandAnswer rows root (Err (fault.TooMany have)) = ⊥
 ExpandAnswer rows root (Err fault.NoMemory) = Unit {0}
 
--- What follows tells how an expansion is made. Nobody has to believe it, since `ExpandAnswer` is proved of it.
+-- What follows tells how an expansion is made. Nobody has to believe it, since `ExpandAnswer` is proved of
+-- it.
 
 abbrev pub named_by : ℕ → List (List ℕ) → List Reach
 named_by place [] = []
@@ -49,7 +50,7 @@ named_by place (n ∷ ns) = record { set = n; by = place } ∷ named_by place ns
 -- what the sets of a list name, one set after another, with the places of those sets
 abbrev pub mentions : List SetRow → ℕ → List Reach → List Reach
 mentions rows place [] = []
-mentions rows place (r ∷ rs) = named_by place (members_of rows r.set) ++ mentions rows (place + 1) rs
+mentions rows place (r ∷ rs) = named_by place (member_sets rows r.set) ++ mentions rows (place + 1) rs
 
 -- those of the second list whose name is new are added, one after another
 abbrev pub adds : List Reach → List Reach → List Reach

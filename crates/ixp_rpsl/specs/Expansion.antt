@@ -14,9 +14,9 @@ sets_in (item.As n ∷ is) = sets_in is
 sets_in (item.Set n ∷ is) = n ∷ sets_in is
 
 -- the sets among the members of the objects of this name, in order
-abbrev pub members_of : List SetRow → List ℕ → List (List ℕ)
-members_of [] n = []
-members_of (r ∷ rs) n = if bytes_eq r.name n then sets_in r.members ++ members_of rs n else members_of rs n
+abbrev pub member_sets : List SetRow → List ℕ → List (List ℕ)
+member_sets [] n = []
+member_sets (r ∷ rs) n = if bytes_eq r.name n then sets_in r.members ++ member_sets rs n else member_sets rs n
 
 abbrev pub is_among : List (List ℕ) → List ℕ → Bool
 is_among names n = list_any (λ m. bytes_eq m n) names
@@ -27,16 +27,16 @@ has_name c n = list_any (λ r. bytes_eq r.set n) c
 -- the sets that a finite chain of members leads to from the root
 pub data Leads (rows : List SetRow) (root : List ℕ) : List ℕ → Type 0 where
   Root : Leads rows root root
-  Member : (n m : List ℕ) → Leads rows root n → IsTrue (is_among (members_of rows n) m) → Leads rows root m
+  Member : (n m : List ℕ) → Leads rows root n → IsTrue (is_among (member_sets rows n) m) → Leads rows root m
 
 -- X has the root, and with each set the sets among its members
 abbrev pub Closed : List SetRow → List ℕ → (List ℕ → Type 0) → Type 0
-Closed rows root X = X root × ((n m : List ℕ) → X n → IsTrue (is_among (members_of rows n) m) → X m)
+Closed rows root X = X root × ((n m : List ℕ) → X n → IsTrue (is_among (member_sets rows n) m) → X m)
 
 -- the one at this place names the set
 abbrev pub names_set : List SetRow → List ℕ → Option Reach → Bool
 names_set rows m None = false
-names_set rows m (Some r) = is_among (members_of rows r.set) m
+names_set rows m (Some r) = is_among (member_sets rows r.set) m
 
 abbrev pub is_named : List SetRow → List Reach → ℕ → List ℕ → Bool
 is_named rows before by m = nat_le 1 by && names_set rows m (slice_get before (by - 1))

@@ -24,8 +24,8 @@ kind_of name =
     else if is_word (codes "as-set") name then kind.Set
     else kind.Other
 
--- The route of a prefix and the values of `origin`, or the first line that isn't of its form: a route has a prefix and one
--- origin, and one that lacks either is faulty at its first line.
+-- The route of a prefix and the values of `origin`, or the first line that isn't of its form: a route has a
+-- prefix and one origin, and one that lacks either is faulty at its first line.
 abbrev pub first_origin : Prefix → ℕ → Option Asn → List Attribute → Result (Prefix × Asn) ℕ
 first_origin p line None others = Err line
 first_origin p line (Some a) [] = Ok (p, a)
@@ -70,14 +70,15 @@ abbrev pub found_set : Result SetRow ℕ → Found
 found_set (Ok s) = record { routes = []; sets = s ∷ []; fault = None }
 found_set (Err n) = at_fault (Some n)
 
--- What an object of a kind says, where `key` is the value of its first attribute and these are the lines behind that line.
+-- What an object of a kind says, where `key` is the value of its first attribute and these are the lines
+-- behind that line.
 abbrev pub KindSays : Kind → ℕ → List ℕ → List Line → Found → Type 0
 KindSays (kind.Route family) first key ls found = (net : Option Prefix) × SaysPrefix family key net × (found ≡ found_route (route_of first net (attributes (codes "origin") ls)))
 KindSays kind.Set first key ls found = found ≡ found_set (set_of first key (attributes (codes "members") ls))
 KindSays kind.Other first key ls found = found ≡ at_fault None
 
--- An object is faulty also at each of its lines that neither has a name nor goes on with a value, its first line if that has
--- no name.
+-- An object is faulty also at each of its lines that neither has a name nor goes on with a value, its first
+-- line if that has no name.
 abbrev pub NamedSays : Option (List ℕ × List ℕ) → ℕ → List Line → Found → Type 0
 NamedSays None first ls found = found ≡ at_fault (earlier (Some first) (bad_line ls))
 NamedSays (Some p) first ls found = (said : Found) × KindSays (kind_of p.0) first (trimmed (whole_value p.1 ls)) ls said × (found ≡ joined (at_fault (bad_line ls)) said)

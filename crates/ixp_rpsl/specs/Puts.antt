@@ -1,4 +1,5 @@
--- What is added to the members of a set. Nobody has to believe this: what a set's object says is in Objects.antt.
+-- What is added to the members of a set. Nobody has to believe this: what a set's object says is in
+-- Objects.antt.
 use Rattle.std.specs.Prelude.{◌≡◌, ℕ, ◌++◌, ◌==◌, Bool, true, false, List, [], Option, Some, None}
 use Rattle.std.specs.List.{slice_split}
 use Rattle.ixp_rpsl.specs.declared.objects.Item.{Item}

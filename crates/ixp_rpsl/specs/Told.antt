@@ -1,4 +1,5 @@
--- What functions that may run out of memory tell of an object. Nobody has to believe this: what it says is in Objects.antt.
+-- What functions that may run out of memory tell of an object. Nobody has to believe this: what it says is in
+-- Objects.antt.
 use Rattle.std.specs.Prelude.{◌≡◌, ◌++◌, ℕ, List, Result, Ok, Err}
 use Rattle.ixp_rpsl.specs.declared.fault.ObjectFault.{ObjectFault}
 use Rattle.ixp_rpsl.specs.declared.objects.Item.{Item}

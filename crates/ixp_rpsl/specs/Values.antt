@@ -48,8 +48,8 @@ is_set_part (a ∷ s ∷ d ∷ rest) = a == 65 && s == 83 && d == 45 && (not (is
 abbrev pub is_name_part : List ℕ → Bool
 is_name_part part = is_set_part part || is_some (as_number part)
 
--- A set name in upper case: names of sets and AS numbers with colons between them, at least one of them a set's
--- (RFC 2622 section 5); at most 64 bytes.
+-- A set name in upper case: names of sets and AS numbers with colons between them, at least one of them a
+-- set's (RFC 2622 section 5); at most 64 bytes.
 abbrev pub is_set_name : List ℕ → Bool
 is_set_name t = is_name t && list_all is_name_part (slice_split (λ b. b == 58) t) && list_any is_set_part (slice_split (λ b. b == 58) t)
 

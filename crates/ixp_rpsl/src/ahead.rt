@@ -49,7 +49,8 @@ impl<'a> Ahead<'a> {
 
     /// The next line that is no remark, and what is behind it.
     pub(crate) fn next_line(self) -> Option<(Line<'a>, Ahead<'a>)>
-        ensures lines { MatchOption result (lines_ahead self.entry ≡ []) (λ p. lines_ahead self.entry ≡ line_of p.0 ∷ lines_ahead p.1) }
+        ensures lines { MatchOption result (lines_ahead self.entry ≡ [])
+            (λ p. lines_ahead self.entry ≡ line_of p.0 ∷ lines_ahead p.1) }
         ensures shorter { IfSome result (λ p. length p.1.text.now < length self.entry.text.now) }
     {
         let mut ahead = self;

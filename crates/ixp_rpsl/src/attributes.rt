@@ -1,8 +1,25 @@
 //! The attributes of an object.
 //!
-//! An attribute is a name, a colon and a value, which goes on in the next lines that begin with a blank or `+` (RFC 2622
-//! section 2).
-ghost use Rattle.std.specs.Prelude.{◌≡◌, ◌≤◌, ◌++◌, ◌∷◌, List, [], ◌==◌, ◌||◌, not, length, drop, OnOk, IfOk, IfSome, IfNone, MatchOption};
+//! An attribute is a name, a colon and a value, which goes on in the next lines that begin with a blank or
+//! `+` (RFC 2622 section 2).
+ghost use Rattle.std.specs.Prelude.{
+  ◌≡◌,
+  ◌≤◌,
+  ◌++◌,
+  ◌∷◌,
+  List,
+  [],
+  ◌==◌,
+  ◌||◌,
+  not,
+  length,
+  drop,
+  OnOk,
+  IfOk,
+  IfSome,
+  IfNone,
+  MatchOption,
+};
 ghost use Rattle.std.specs.Option.{option_map};
 ghost use Rattle.std.specs.List.{position};
 ghost use Rattle.ixp_rpsl.specs.Lines.{Line, line_of, lines_ahead};
@@ -106,7 +123,10 @@ fn put_part(value: &mut Vec<u8>, line: &[u8]) -> Result<(), AllocError>
 /// Adds what the next lines say to a value, and tells what is behind them.
 #[tactic(auto, using(crate::proofs::Going::going_more, crate::proofs::Going::going_none))]
 fn put_going<'a>(value: &mut Vec<u8>, ahead: Ahead<'a>) -> Result<Ahead<'a>, AllocError>
-    ensures { IfOk result (λ rest. (value.new.items ≡ value.old.items ++ spec.going (lines_ahead ahead.entry)) × (lines_ahead rest ≡ spec.past_value (lines_ahead ahead.entry)) × (length rest.text.now ≤ length ahead.entry.text.now)) }
+    ensures { IfOk result
+        (λ rest. (value.new.items ≡ value.old.items ++ spec.going (lines_ahead ahead.entry))
+        × (lines_ahead rest ≡ spec.past_value (lines_ahead ahead.entry))
+        × (length rest.text.now ≤ length ahead.entry.text.now)) }
 {
     let mut rest = ahead;
     'lines: while let Some((line, more)) = rest.next_line() {
@@ -125,7 +145,10 @@ pub(crate) fn put_value<'a>(
     first: &[u8],
     ahead: Ahead<'a>,
 ) -> Result<Ahead<'a>, AllocError>
-    ensures { IfOk result (λ rest. (value.new.items ≡ value.old.items ++ spec.whole_value first.now (lines_ahead ahead.entry)) × (lines_ahead rest ≡ spec.past_value (lines_ahead ahead.entry)) × (length rest.text.now ≤ length ahead.entry.text.now)) }
+    ensures { IfOk result
+        (λ rest. (value.new.items ≡ value.old.items ++ spec.whole_value first.now (lines_ahead ahead.entry))
+        × (lines_ahead rest ≡ spec.past_value (lines_ahead ahead.entry))
+        × (length rest.text.now ≤ length ahead.entry.text.now)) }
 {
     put(value, before(b'#', first))?;
     put_going(value, ahead)

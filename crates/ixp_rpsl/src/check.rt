@@ -1,7 +1,18 @@
 //! Whether a list of sets is a chain.
 ghost use Rattle.std.specs.Prelude.{◌≡◌, ◌++◌, List, [], ◌∷◌, IsTrue, nat_le, length, take, drop, ◌≤◌};
 ghost use Rattle.std.specs.List.{list_all};
-ghost use Rattle.ixp_rpsl.specs.Expansion.{sets_in, members_of, is_among, has_name, names_set, is_named, follows, starts, is_closed, is_chain};
+ghost use Rattle.ixp_rpsl.specs.Expansion.{
+  sets_in,
+  member_sets,
+  is_among,
+  has_name,
+  names_set,
+  is_named,
+  follows,
+  starts,
+  is_closed,
+  is_chain,
+};
 
 use crate::objects::{Item, Objects, Reach, SetRow};
 use ixp_num::Name;
@@ -29,7 +40,7 @@ fn has_set(items: &[Item], name: &Name) -> bool
 
 #[tactic(auto, using(crate::proofs::Chains::more_member))]
 fn has_member(rows: &[SetRow], set: &Name, name: &Name) -> bool
-    ensures { result ≡ is_among (members_of rows.now set.now) name.now }
+    ensures { result ≡ is_among (member_sets rows.now set.now) name.now }
 {
     let mut left = rows;
     'rows: while let Some((row, others)) = left.split_first() {
@@ -106,9 +117,9 @@ fn is_chain(rows: &[SetRow], root: &Name, c: &[Reach]) -> bool
     }
 }
 
-/// Whether a list is an expansion of a set: the set itself, and then sets each of which is among the members of the one at
-/// its `by`, which stands before it; no set twice, and with each set all that are among its members. It takes no memory, and
-/// time that grows with the square of the list.
+/// Whether a list is an expansion of a set: the set itself, and then sets each of which is among the members
+/// of the one at its `by`, which stands before it; no set twice, and with each set all that are among its
+/// members. It takes no memory, and time that grows with the square of the list.
 pub fn check_reach(objects: &Objects, root: &Name, c: &[Reach]) -> bool
     ensures { result ≡ is_chain objects.now.sets root.now c.now }
 {

@@ -56,7 +56,8 @@ impl Found {
     /// Takes a set, or the line that isn't of its form.
     #[tactic(auto, using(crate::proofs::Joining::join_set))]
     pub(crate) fn put_set(&mut self, set: Result<SetRow, ObjectFault>) -> Result<(), AllocError>
-        ensures { OnOk result ((said : Result SetRow ℕ) → Tells said set → self.new ≡ joined self.old (found_set said)) }
+        ensures { OnOk result
+            ((said : Result SetRow ℕ) → Tells said set → self.new ≡ joined self.old (found_set said)) }
     {
         match set {
             Ok(set) => self.sets.push(set)?,

@@ -12,9 +12,30 @@ pub(crate) struct Gathered {
 }
 
 impl Gathered {
-    ghost use Rattle.std.specs.Prelude.{◌≡◌, ◌≤◌, ◌++◌, ◌∷◌, [], None, Some, false, length, IfOk, if◌then◌else◌};
+    ghost use Rattle.std.specs.Prelude.{
+      ◌≡◌,
+      ◌≤◌,
+      ◌++◌,
+      ◌∷◌,
+      [],
+      None,
+      Some,
+      false,
+      length,
+      IfOk,
+      if◌then◌else◌,
+    };
     ghost use Rattle.ixp_rpsl.specs.Lines.{line_of, lines_ahead};
-    ghost use Rattle.ixp_rpsl.specs.Attributes.{attributes, bad_line, earlier, is_empty, goes_on, past_object, past_value, whole_value};
+    ghost use Rattle.ixp_rpsl.specs.Attributes.{
+      attributes,
+      bad_line,
+      earlier,
+      is_empty,
+      goes_on,
+      past_object,
+      past_value,
+      whole_value,
+    };
     ghost use Rattle.ixp_rpsl.specs.Gathers.{Gathers};
 
     /// Nothing yet.
@@ -36,7 +57,12 @@ impl Gathered {
         first: &[u8],
         ahead: Ahead<'a>,
     ) -> Result<Ahead<'a>, AllocError>
-        ensures { IfOk result (λ rest. (self.new.found ≡ self.old.found ++ record { line = line; value = whole_value first.now (lines_ahead ahead.entry) } ∷ []) × (self.new.fault ≡ self.old.fault) × (lines_ahead rest ≡ past_value (lines_ahead ahead.entry)) × (length rest.text.now ≤ length ahead.entry.text.now)) }
+        ensures { IfOk result
+            (λ rest. (self.new.found ≡ self.old.found
+            ++ record { line = line; value = whole_value first.now (lines_ahead ahead.entry) } ∷ [])
+            × (self.new.fault ≡ self.old.fault)
+            × (lines_ahead rest ≡ past_value (lines_ahead ahead.entry))
+            × (length rest.text.now ≤ length ahead.entry.text.now)) }
     {
         let mut value = Vec::new(alloc);
         let rest = put_value(&mut value, first, ahead)?;
@@ -50,7 +76,9 @@ impl Gathered {
     /// Notes a line without a name, if it doesn't go on with a value.
     fn note(&mut self, line: Line<'_>)
         ensures found { self.new.found ≡ self.old.found }
-        ensures fault { self.new.fault ≡ (if goes_on line.entry.bytes.now then self.old.fault else earlier self.old.fault (Some line.entry.number)) }
+        ensures fault { self.new.fault
+            ≡ (if goes_on line.entry.bytes.now then self.old.fault
+            else earlier self.old.fault (Some line.entry.number)) }
     {
         if !goes_on(line.bytes) {
             self.fault = earlier(self.fault, Some(line.number));
@@ -66,7 +94,9 @@ impl Gathered {
         ahead: Ahead<'a>,
     ) -> Result<Ahead<'a>, AllocError>
         requires { is_empty line.bytes.now ≡ false }
-        ensures { IfOk result (λ rest. Gathers word.now (line_of line.entry) (lines_ahead ahead.entry) (lines_ahead rest) self.old self.new × (length rest.text.now ≤ length ahead.entry.text.now)) }
+        ensures { IfOk result
+            (λ rest. Gathers word.now (line_of line.entry) (lines_ahead ahead.entry)
+            (lines_ahead rest) self.old self.new × (length rest.text.now ≤ length ahead.entry.text.now)) }
     {
         match named(line.bytes) {
             Some((name, first)) => {
@@ -91,7 +121,11 @@ impl Gathered {
         word: &[u8],
         ahead: Ahead<'a>,
     ) -> Result<Ahead<'a>, AllocError>
-        ensures { IfOk result (λ rest. (self.new.found ≡ self.old.found ++ attributes word.now (lines_ahead ahead.entry)) × (self.new.fault ≡ earlier self.old.fault (bad_line (lines_ahead ahead.entry))) × (lines_ahead rest ≡ past_object (lines_ahead ahead.entry)) × (length rest.text.now ≤ length ahead.entry.text.now)) }
+        ensures { IfOk result
+            (λ rest. (self.new.found ≡ self.old.found ++ attributes word.now (lines_ahead ahead.entry))
+            × (self.new.fault ≡ earlier self.old.fault (bad_line (lines_ahead ahead.entry)))
+            × (lines_ahead rest ≡ past_object (lines_ahead ahead.entry))
+            × (length rest.text.now ≤ length ahead.entry.text.now)) }
     {
         let mut rest = ahead;
         'lines: while let Some((line, more)) = rest.next_line() {

@@ -1,7 +1,7 @@
 //! The expansion of a set.
 ghost use Rattle.std.specs.Prelude.{◌≡◌, ◌+◌, ◌<◌, ◌^◌, List, ℕ, [], ◌∷◌, IfOk, Some, IsTrue, length};
 ghost use Rattle.std.specs.List.{slice_get};
-ghost use Rattle.ixp_rpsl.specs.Expansion.{members_of, is_chain};
+ghost use Rattle.ixp_rpsl.specs.Expansion.{member_sets, is_chain};
 ghost use Rattle.ixp_rpsl.specs.Breadth.{adds, named_by, ExpandAnswer, has_object, IsBreadthFirst};
 ghost use Rattle.ixp_rpsl.specs.Lookups.{sets_at, Agrees};
 ghost use Rattle.ixp_rpsl.specs.declared.objects.Reach.{Reach};
@@ -32,7 +32,8 @@ fn nothing(alloc: Global) -> Reached
 
 fn add(alloc: Global, name: &Name, by: u64, reached: Reached) -> Result<Reached, AllocError>
     requires { Agrees reached }
-    ensures { IfOk result (λ n. Agrees n × (n.list ≡ adds reached.list (record { set = name.now; by = by } ∷ []))) }
+    ensures { IfOk result
+        (λ n. Agrees n × (n.list ≡ adds reached.list (record { set = name.now; by = by } ∷ []))) }
 {
     if reached.seen.contains_key(name.as_bytes()) {
         return Ok(reached);
@@ -68,7 +69,9 @@ fn visit(
 ) -> Result<Reached, AllocError>
     requires within { at < length reached.list }
     requires agrees { Agrees reached }
-    ensures { IfOk result (λ n. Agrees n × ((r : Reach) → slice_get reached.list at ≡ Some r → n.list ≡ adds reached.list (named_by (at + 1) (sets_at index.now r.set)))) }
+    ensures { IfOk result
+        (λ n. Agrees n × ((r : Reach) → slice_get reached.list at ≡ Some r
+        → n.list ≡ adds reached.list (named_by (at + 1) (sets_at index.now r.set)))) }
 {
     match index.get(reached.list.as_slice()[at].set.as_bytes()) {
         Some(names) => add_all(alloc, names.as_slice(), at as u64 + 1, reached),
@@ -98,8 +101,9 @@ fn has_object(rows: &[SetRow], name: &Name) -> bool
         .any(|row| row.name.as_bytes() == name.as_bytes())
 }
 
-/// Expands a set: itself, and all sets that members lead to from it, each once and breadth first. Each but the first has the
-/// least place of a set among whose members it is; a set without an object has no members. A name is in upper case.
+/// Expands a set: itself, and all sets that members lead to from it, each once and breadth first. Each but
+/// the first has the least place of a set among whose members it is; a set without an object has no members.
+/// A name is in upper case.
 pub fn expand(alloc: Global, objects: &Objects, root: &Name) -> Result<Items<Reach>, RpslFault>
     ensures { ExpandAnswer objects.now.sets root.now result }
 {

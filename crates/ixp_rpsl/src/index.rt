@@ -1,6 +1,6 @@
 //! The sets among the members of each object, by the object's name.
 ghost use Rattle.std.specs.Prelude.{◌≡◌, ◌++◌, List, [], ℕ, IfOk, OnOk, if◌then◌else◌, bytes_eq};
-ghost use Rattle.ixp_rpsl.specs.Expansion.{sets_in, members_of};
+ghost use Rattle.ixp_rpsl.specs.Expansion.{sets_in, member_sets};
 ghost use Rattle.ixp_rpsl.specs.Lookups.{sets_at};
 
 use crate::objects::{Item, SetRow};
@@ -23,7 +23,8 @@ fn put_sets(alloc: Global, names: &mut Items<Name>, items: &[Item]) -> Result<()
 
 fn taken(alloc: Global, index: &mut BTreeMap<Vec<u8>, Items<Name>>, name: &Name) -> Items<Name>
     ensures sets { result ≡ sets_at index.old name.now }
-    ensures others { (q : List ℕ) → sets_at index.new q ≡ (if bytes_eq name.now q then [] else sets_at index.old q) }
+    ensures others { (q : List ℕ)
+        → sets_at index.new q ≡ (if bytes_eq name.now q then [] else sets_at index.old q) }
 {
     match index.remove(name.as_bytes()) {
         Some(names) => names,
@@ -36,7 +37,10 @@ fn put_row(
     index: &mut BTreeMap<Vec<u8>, Items<Name>>,
     row: &SetRow,
 ) -> Result<(), AllocError>
-    ensures { OnOk result ((q : List ℕ) → sets_at index.new q ≡ (if bytes_eq row.now.name q then sets_at index.old q ++ sets_in row.now.members else sets_at index.old q)) }
+    ensures { OnOk result
+        ((q : List ℕ) → sets_at index.new q
+        ≡ (if bytes_eq row.now.name q then sets_at index.old q ++ sets_in row.now.members
+        else sets_at index.old q)) }
 {
     let mut names = taken(alloc, index, &row.name);
     put_sets(alloc, &mut names, row.members.as_slice())?;
@@ -50,7 +54,7 @@ pub fn index_of(
     alloc: Global,
     rows: &[SetRow],
 ) -> Result<BTreeMap<Vec<u8>, Items<Name>>, AllocError>
-    ensures { IfOk result (λ index. (q : List ℕ) → sets_at index q ≡ members_of rows.now q) }
+    ensures { IfOk result (λ index. (q : List ℕ) → sets_at index q ≡ member_sets rows.now q) }
 {
     let mut index = BTreeMap::new(alloc);
     let mut left = rows;

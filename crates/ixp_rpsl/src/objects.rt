@@ -15,16 +15,17 @@ pub struct SetRow {
     pub members: Items<Item>,
 }
 
-/// What objects say: which prefixes are registered as routes from which origins, and which members sets have, each in the
-/// order of the objects. Objects of one set name count as one, with the members of the first of them first.
+/// What objects say: which prefixes are registered as routes from which origins, and which members sets have,
+/// each in the order of the objects. Objects of one set name count as one, with the members of the first of
+/// them first.
 #[derive(Debug, Drop)]
 pub struct Objects {
     pub routes: Items<(Prefix, Asn)>,
     pub sets: Items<SetRow>,
 }
 
-/// A set of an expansion, and the place, counted from 1, of a set of it among whose members it is; 0 for the set that is
-/// expanded.
+/// A set of an expansion, and the place, counted from 1, of a set of it among whose members it is; 0 for the
+/// set that is expanded.
 #[derive(Debug, Drop)]
 pub struct Reach {
     pub set: Name,

@@ -95,7 +95,8 @@ pub fn origins_of(alloc: Global, objects: &Objects, c: &[Reach]) -> Result<Sorte
 
 /// The numbers of origins.
 fn marks_of(alloc: Global, origins: &[Asn]) -> Result<HashSet<u32>, AllocError>
-    ensures { IfOk result (λ marks. (q : ℕ) → contains nat_eq marks q ≡ list_any (λ o. nat_eq q o.0) origins.now) }
+    ensures { IfOk result
+        (λ marks. (q : ℕ) → contains nat_eq marks q ≡ list_any (λ o. nat_eq q o.0) origins.now) }
 {
     let mut marks = HashSet::new(alloc);
     for origin in origins {

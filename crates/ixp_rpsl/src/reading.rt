@@ -26,7 +26,9 @@ fn read_route<'a>(
     key: &[u8],
     ahead: Ahead<'a>,
 ) -> Result<Ahead<'a>, AllocError>
-    ensures { IfOk result (λ rest. FindsOf (kinds.Route family) first key.now (lines_ahead ahead.entry) (lines_ahead rest) found.old found.new × (length rest.text.now ≤ length ahead.entry.text.now)) }
+    ensures { IfOk result
+        (λ rest. FindsOf (kinds.Route family) first key.now (lines_ahead ahead.entry)
+        (lines_ahead rest) found.old found.new × (length rest.text.now ≤ length ahead.entry.text.now)) }
 {
     let mut value = Vec::new(alloc);
     let mut origins = Gathered::new(alloc);
@@ -46,7 +48,9 @@ fn read_set<'a>(
     key: &[u8],
     ahead: Ahead<'a>,
 ) -> Result<Ahead<'a>, AllocError>
-    ensures { IfOk result (λ rest. FindsOf kinds.Set first key.now (lines_ahead ahead.entry) (lines_ahead rest) found.old found.new × (length rest.text.now ≤ length ahead.entry.text.now)) }
+    ensures { IfOk result
+        (λ rest. FindsOf kinds.Set first key.now (lines_ahead ahead.entry)
+        (lines_ahead rest) found.old found.new × (length rest.text.now ≤ length ahead.entry.text.now)) }
 {
     let mut value = Vec::new(alloc);
     let mut values = Gathered::new(alloc);
@@ -64,7 +68,10 @@ fn read_set<'a>(
 
 /// Passes by the rest of an object, and tells what is ahead behind it.
 fn pass_by<'a>(alloc: Global, found: &mut Found, ahead: Ahead<'a>) -> Result<Ahead<'a>, AllocError>
-    ensures { IfOk result (λ rest. (found.new ≡ spec.joined found.old (spec.at_fault (bad_line (lines_ahead ahead.entry)))) × (lines_ahead rest ≡ past_object (lines_ahead ahead.entry)) × (length rest.text.now ≤ length ahead.entry.text.now)) }
+    ensures { IfOk result
+        (λ rest. (found.new ≡ spec.joined found.old (spec.at_fault (bad_line (lines_ahead ahead.entry))))
+        × (lines_ahead rest ≡ past_object (lines_ahead ahead.entry))
+        × (length rest.text.now ≤ length ahead.entry.text.now)) }
 {
     let mut nothing = Gathered::new(alloc);
     let rest = nothing.gather(alloc, b"", ahead)?;
@@ -81,7 +88,9 @@ fn read_kind<'a>(
     key: &[u8],
     ahead: Ahead<'a>,
 ) -> Result<Ahead<'a>, AllocError>
-    ensures { IfOk result (λ rest. FindsOf kind first key.now (lines_ahead ahead.entry) (lines_ahead rest) found.old found.new × (length rest.text.now ≤ length ahead.entry.text.now)) }
+    ensures { IfOk result
+        (λ rest. FindsOf kind first key.now (lines_ahead ahead.entry) (lines_ahead rest) found.old found.new
+        × (length rest.text.now ≤ length ahead.entry.text.now)) }
 {
     match kind {
         Kind::Route(family) => read_route(alloc, found, family, first, key, ahead),
@@ -100,7 +109,9 @@ fn read_object<'a>(
     line: Line<'a>,
     ahead: Ahead<'a>,
 ) -> Result<Ahead<'a>, AllocError>
-    ensures { IfOk result (λ rest. Finds (line_of line.entry) (lines_ahead ahead.entry) (lines_ahead rest) found.old found.new × (length rest.text.now ≤ length ahead.entry.text.now)) }
+    ensures { IfOk result
+        (λ rest. Finds (line_of line.entry) (lines_ahead ahead.entry) (lines_ahead rest) found.old found.new
+        × (length rest.text.now ≤ length ahead.entry.text.now)) }
 {
     match named(line.bytes) {
         Some((name, key)) => {
@@ -122,7 +133,9 @@ fn read_next<'a>(
     line: Line<'a>,
     ahead: Ahead<'a>,
 ) -> Result<Ahead<'a>, AllocError>
-    ensures { IfOk result (λ rest. Passes (line_of line.entry ∷ lines_ahead ahead.entry) (lines_ahead rest) found.old found.new × (length rest.text.now ≤ length ahead.entry.text.now)) }
+    ensures { IfOk result
+        (λ rest. Passes (line_of line.entry ∷ lines_ahead ahead.entry) (lines_ahead rest) found.old found.new
+        × (length rest.text.now ≤ length ahead.entry.text.now)) }
 {
     if is_nothing(line.bytes) {
         return Ok(ahead);
@@ -142,9 +155,9 @@ fn read_all(alloc: Global, found: &mut Found, t: &[u8]) -> Result<(), AllocError
     Ok(())
 }
 
-/// Reads the objects `route`, `route6` and `as-set` of whois data, as registries and their mirrors give them: objects of all
-/// kinds, parted by empty lines, with lines of the server's that begin with `%` or `#` between them. All other objects and
-/// attributes are passed by: of them only the lines are read.
+/// Reads the objects `route`, `route6` and `as-set` of whois data, as registries and their mirrors give them:
+/// objects of all kinds, parted by empty lines, with lines of the server's that begin with `%` or `#` between
+/// them. All other objects and attributes are passed by: of them only the lines are read.
 pub fn read_objects(alloc: Global, t: &[u8]) -> Result<Objects, RpslFault>
     ensures { spec.ReadAnswer t.now result }
 {

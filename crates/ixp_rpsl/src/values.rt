@@ -1,5 +1,24 @@
 //! The values of attributes.
-ghost use Rattle.std.specs.Prelude.{◌≡◌, ◌↔◌, ◌<◌, ◌∷◌, [], ◌++◌, ◌==◌, ◌&&◌, ◌||◌, not, Some, map, reverse, length, IfOk, OnOk, IfSome, IsTrue};
+ghost use Rattle.std.specs.Prelude.{
+  ◌≡◌,
+  ◌↔◌,
+  ◌<◌,
+  ◌∷◌,
+  [],
+  ◌++◌,
+  ◌==◌,
+  ◌&&◌,
+  ◌||◌,
+  not,
+  Some,
+  map,
+  reverse,
+  length,
+  IfOk,
+  OnOk,
+  IfSome,
+  IsTrue,
+};
 ghost use Rattle.std.specs.Option.{option_map};
 ghost use Rattle.std.specs.List.{list_all, list_any, slice_split};
 ghost use Rattle.std.specs.Char.{to_ascii_uppercase};
@@ -135,7 +154,8 @@ fn is_set_part(part: &[u8]) -> bool
 
 /// What is before the first such byte, and what is behind it where there is one.
 fn first_part(mark: u8, t: &[u8]) -> (&[u8], Option<&[u8]>)
-    ensures parts { slice_split (λ b. b == mark) t.now ≡ result.0.now ∷ parts_of mark (option_map (λ r. r.now) result.1) }
+    ensures parts { slice_split (λ b. b == mark) t.now
+        ≡ result.0.now ∷ parts_of mark (option_map (λ r. r.now) result.1) }
     ensures shorter { IfSome result.1 (λ r. length r.now < length t.now) }
 {
     match parted(mark, t) {
@@ -146,7 +166,9 @@ fn first_part(mark: u8, t: &[u8]) -> (&[u8], Option<&[u8]>)
 
 /// Whether the parts of a name are names of sets or AS numbers, and one is a set's.
 fn are_name_parts(t: &[u8]) -> bool
-    ensures { result ≡ (list_all spec.is_name_part (slice_split (λ b. b == 58) t.now) && list_any spec.is_set_part (slice_split (λ b. b == 58) t.now)) }
+    ensures { result ≡ (list_all spec.is_name_part
+        (slice_split (λ b. b == 58) t.now) && list_any spec.is_set_part
+        (slice_split (λ b. b == 58) t.now)) }
 {
     let mut left = Some(t);
     let mut has_set = false;
@@ -179,8 +201,8 @@ fn upper(alloc: Global, t: &[u8]) -> Result<Vec<u8>, AllocError>
     Ok(upper)
 }
 
-/// The set name that a text is in any case: names of sets, each `AS-` and letters, digits, `-` or `_`, and AS numbers with
-/// colons between them, at least one of them a set's. It is kept in upper case.
+/// The set name that a text is in any case: names of sets, each `AS-` and letters, digits, `-` or `_`, and AS
+/// numbers with colons between them, at least one of them a set's. It is kept in upper case.
 pub fn read_set_name(alloc: Global, t: &[u8]) -> Result<Option<Name>, AllocError>
     ensures { IfOk result (λ name. name ≡ spec.set_name t.now) }
 {

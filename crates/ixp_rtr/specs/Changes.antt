@@ -25,7 +25,7 @@ withdrawal roa = Prefix false roa
 abbrev pub announcement : Roa → Pdu
 announcement roa = Prefix true roa
 
--- from one set to another: a withdrawal of each ROA that only the first has, then an announcement of each that
--- only the second has
+-- from one set to another: a withdrawal of each ROA that only the first has, then an announcement of each
+-- that only the second has
 abbrev pub changes : List Roa → List Roa → List Pdu
 changes from to = map withdrawal (others from to) ++ map announcement (others to from)

@@ -34,7 +34,8 @@ end_bytes session serial = concat (
     header_bytes (header 7 session 24) ∷ to_be_bytes w32 serial
     ∷ to_be_bytes w32 3600 ∷ to_be_bytes w32 600 ∷ to_be_bytes w32 7200 ∷ [])
 
--- Error Report (5.11): header; length of the encapsulated PDU, which is its header, and that; length of the text
+-- Error Report (5.11): header; length of the encapsulated PDU, which is its header, and that; length of the
+-- text
 abbrev pub report_bytes : ℕ → Header → List ℕ
 report_bytes code faulty = concat (
     header_bytes (header 10 code 24) ∷ to_be_bytes w32 8 ∷ header_bytes faulty ∷ to_be_bytes w32 0 ∷ [])

@@ -24,8 +24,8 @@ query_length kind = if kind == 1 then 12 else 8
 abbrev pub length_fault : Header → Option QueryFault
 length_fault h = if h.length == query_length h.kind then None else Some (Length h.length h)
 
--- The first fault of a header, if it has one: another version, an Error Report, a type that doesn't exist, a PDU
--- that is no query, another length.
+-- The first fault of a header, if it has one: another version, an Error Report, a type that doesn't exist, a
+-- PDU that is no query, another length.
 abbrev pub fault_of : Header → Option QueryFault
 fault_of h =
     if not (h.version == 1) then Some (Version h.version h) else (

@@ -62,7 +62,8 @@ impl RtrCache {
     /// A cache of a new session, with these ROAs under serial 0. `roas` may be in any order and have
     /// doubles. The only error is out of memory.
     pub fn open(alloc: Global, session: u16, roas: &[Roa]) -> Result<RtrCache, AllocError>
-        ensures { IfOk result (λ cache. (set : List Roa) × IsInOrder roa_key roas.now set × (cache ≡ spec.opened session set)) }
+        ensures { IfOk result
+            (λ cache. (set : List Roa) × IsInOrder roa_key roas.now set × (cache ≡ spec.opened session set)) }
     {
         let set = in_order(alloc, roas)?;
         let present = Held::new(alloc, set)?;
@@ -100,7 +101,9 @@ impl RtrCache {
     /// changes. `roas` may be in any order and have doubles. The only error is out of memory, and leaves
     /// the cache as it was.
     pub fn update(&mut self, alloc: Global, roas: &[Roa]) -> Result<bool, AllocError>
-        ensures ok { IfOk result (λ changed. (set : List Roa) × IsInOrder roa_key roas.now set × spec.Updates self.old set changed self.new) }
+        ensures ok { IfOk result
+            (λ changed. (set : List Roa) × IsInOrder roa_key roas.now set
+            × spec.Updates self.old set changed self.new) }
         ensures err { OnErr result (self.new ≡ self.old) }
     {
         let set = in_order(alloc, roas)?;

@@ -20,7 +20,8 @@ fn pass<'a>(set: &'a [Roa], roa: &Roa) -> (bool, &'a [Roa])
     requires { Ascends roa_key set.now }
     ensures among { result.0 ≡ spec.is_among set.now roa.now }
     ensures ascends { Ascends roa_key result.1.now }
-    ensures rest { (r : Roa) → order (roa_key roa.now) (roa_key r) ≡ Less → spec.is_among set.now r ≡ spec.is_among result.1.now r }
+    ensures rest { (r : Roa) → order (roa_key roa.now) (roa_key r) ≡ Less
+        → spec.is_among set.now r ≡ spec.is_among result.1.now r }
 {
     let mut left = set;
     'rows: while let Some((first, rest)) = left.split_first() {

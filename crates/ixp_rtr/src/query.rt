@@ -107,8 +107,10 @@ fn length_fault(header: &Header) -> Option<QueryFault>
 // The rest of a Serial Query, whose header was read.
 fn read_serial<L: Source>(link: &mut L, session: u16) -> Result<Query, QueryFault>
     ensures answers { result ≢ Err QueryFault.ReadFault
-        → Told (L.left link.old) (L.left link.new) (λ left rest. spec.with_serial session left ≡ (result, rest)) }
-    ensures failed { result ≡ Err QueryFault.ReadFault → Rose (L.read_faults link.old) (L.read_faults link.new) }
+        → Told (L.left link.old) (L.left link.new)
+        (λ left rest. spec.with_serial session left ≡ (result, rest)) }
+    ensures failed { result ≡ Err QueryFault.ReadFault
+        → Rose (L.read_faults link.old) (L.read_faults link.new) }
     ensures counts { L.read_faults link.old ≤ L.read_faults link.new }
     ensures written { L.written link.new ≡ L.written link.old }
     ensures write_faults { L.write_faults link.new ≡ L.write_faults link.old }
@@ -130,7 +132,8 @@ fn read_serial<L: Source>(link: &mut L, session: u16) -> Result<Query, QueryFaul
 pub fn read_query<L: Source>(link: &mut L) -> Result<Query, QueryFault>
     ensures answers { result ≢ Err QueryFault.ReadFault
         → Told (L.left link.old) (L.left link.new) (λ left rest. spec.first left ≡ (result, rest)) }
-    ensures failed { result ≡ Err QueryFault.ReadFault → Rose (L.read_faults link.old) (L.read_faults link.new) }
+    ensures failed { result ≡ Err QueryFault.ReadFault
+        → Rose (L.read_faults link.old) (L.read_faults link.new) }
     ensures counts { L.read_faults link.old ≤ L.read_faults link.new }
     ensures written { L.written link.new ≡ L.written link.old }
     ensures write_faults { L.write_faults link.new ≡ L.write_faults link.old }

@@ -50,8 +50,8 @@ fn is_from(rule: &MemberRule, net: &Prefix, sender: Asn) -> bool
     !rule.way.is_advertise() && names_sender(rule, sender) && is_about(rule, net)
 }
 
-/// What the sender's rules ask of the server `rs` for the net and the receiver `to`: the action of the first rule on
-/// them, None where there is none.
+/// What the sender's rules ask of the server `rs` for the net and the receiver `to`: the action of the first
+/// rule on them, None where there is none.
 pub fn asked(rules: &[MemberRule], rs: Asn, net: &Prefix, to: Asn) -> Option<Action>
     ensures { result ≡ asked rules.now rs.0 net.now to.0 }
 {

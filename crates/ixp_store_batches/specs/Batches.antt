@@ -131,15 +131,17 @@ batch s p = map drop_row (old_rows s p) ++ map set_row (new_rows s p)
 abbrev pub rules_in : Option RuleList → ℕ
 rules_in o = if_there o 0 (λ l. length l.rules)
 
--- How many rows of a store a change of a registry is about, at most: those of the row that it replaces or takes out, and of the one that
--- it puts in. An interface has three of them, with its addresses; a member's rules and a public list have one for each item; all else is one.
+-- How many rows of a store a change of a registry is about, at most: those of the row that it replaces or
+-- takes out, and of the one that it puts in. An interface has three of them, with its addresses; a member's
+-- rules and a public list have one for each item; all else is one.
 abbrev pub rows_about : Registry → RegistryChange → ℕ
 rows_about r (of.Interfaces c) = 6
 rows_about r (of.Rules c) = rules_in (old_row rules_key (λ k. k ∷ []) c r.rules) + rules_in (new_row c)
 rows_about r (of.Public list) = length (old_public r.public list) + length (new_public list)
 rows_about r c = 2
 
--- A batch has no more changes than those, whatever else the store holds, and six: the count is dropped and set, the number of the request
--- is set and one that it puts out dropped, and the owner's floor is dropped and set.
+-- A batch has no more changes than those, whatever else the store holds, and six: the count is dropped and
+-- set, the number of the request is set and one that it puts out dropped, and the owner's floor is dropped
+-- and set.
 abbrev pub IsShort : State → Prepared → List Change → Type 0
 IsShort s p cs = length cs ≤ rows_about s.registry p.change + 6

@@ -20,7 +20,8 @@ fn clear_rows(
     prepared: &Prepared,
     batch: &mut Vec<Change>,
 ) -> Result<(), AllocError>
-    ensures { OnOk result (batch.new.items ≡ batch.old.items ++ map drop_row (old_rows state.now prepared.now)) }
+    ensures { OnOk result
+        (batch.new.items ≡ batch.old.items ++ map drop_row (old_rows state.now prepared.now)) }
 {
     clear_entries(alloc, &state.registry, &prepared.change, batch)?;
     clear_kept(alloc, &state.kept, &prepared.owner, &prepared.kept, batch)?;
@@ -35,7 +36,8 @@ fn set_rows(
     batch: &mut Vec<Change>,
 ) -> Result<(), AllocError>
     requires { state.now.accepted < 2 ^ 64 - 1 }
-    ensures { OnOk result (batch.new.items ≡ batch.old.items ++ map set_row (new_rows state.now prepared.now)) }
+    ensures { OnOk result
+        (batch.new.items ≡ batch.old.items ++ map set_row (new_rows state.now prepared.now)) }
 {
     set_entries(alloc, &prepared.change, batch)?;
     set_number(alloc, &state.kept, &prepared.owner, &prepared.kept, batch)?;
@@ -43,8 +45,8 @@ fn set_rows(
     Ok(())
 }
 
-/// The batch that turns the rows of a state into those of the state after a request that was made ready. It has the rows that the
-/// request is about and no others, however many the store has.
+/// The batch that turns the rows of a state into those of the state after a request that was made ready. It
+/// has the rows that the request is about and no others, however many the store has.
 #[tactic(auto, using(crate::proofs::States::batch_makes, crate::proofs::Sizes::batch_is_short))]
 pub fn batch_of(
     alloc: Global,
@@ -55,7 +57,8 @@ pub fn batch_of(
     requires next { ValidState (becomes state.now prepared.now) }
     requires fresh { IsFresh state.now prepared.now }
     requires room { state.now.accepted < 2 ^ 64 - 1 }
-    ensures makes { IfOk result (λ batch. changed (tables state.now) batch.items ≡ tables (becomes state.now prepared.now)) }
+    ensures makes { IfOk result
+        (λ batch. changed (tables state.now) batch.items ≡ tables (becomes state.now prepared.now)) }
     ensures changes { IfOk result (λ batch. batch.items ≡ batch_for state.now prepared.now) }
     ensures short { IfOk result (λ batch. IsShort state.now prepared.now batch.items) }
 {

@@ -1,6 +1,14 @@
 //! Rows of what is kept of an owner's requests.
 ghost use Rattle.std.specs.Prelude.{◌≡◌, ◌++◌, ◌<◌, ◌^◌, length, OnOk, map, nat_lt, false};
-ghost use Rattle.ixp_store_batches.specs.Batches.{gone_among, added_among, gone_numbers, added_numbers, raised_above, old_floor, new_floor};
+ghost use Rattle.ixp_store_batches.specs.Batches.{
+  gone_among,
+  added_among,
+  gone_numbers,
+  added_numbers,
+  raised_above,
+  old_floor,
+  new_floor,
+};
 ghost use Rattle.ixp_machine_steps.specs.Kept.{kept_of};
 ghost use Rattle.ixp_store_rows.specs.Names.{floor_rows, kept_row};
 ghost use Rattle.ixp_store_rows.specs.States.{drop_row, set_row};
@@ -29,7 +37,9 @@ fn clear_least(
     number: &KeptNumber,
     batch: &mut Vec<Change>,
 ) -> Result<(), AllocError>
-    ensures { OnOk result (batch.new.items ≡ batch.old.items ++ map drop_row (map (kept_row owner.now) (gone_among number.now numbers.now))) }
+    ensures { OnOk result
+        (batch.new.items ≡ batch.old.items
+        ++ map drop_row (map (kept_row owner.now) (gone_among number.now numbers.now))) }
 {
     let Some((least, _)) = numbers.split_first() else {
         return Ok(());
@@ -40,7 +50,8 @@ fn clear_least(
     Ok(())
 }
 
-/// Adds that the rows go which the number of a request puts out: that of the least number, and that of the floor.
+/// Adds that the rows go which the number of a request puts out: that of the least number, and that of the
+/// floor.
 pub(crate) fn clear_kept(
     alloc: Global,
     kept: &Table<KeptOwner>,
@@ -48,7 +59,10 @@ pub(crate) fn clear_kept(
     number: &KeptNumber,
     batch: &mut Vec<Change>,
 ) -> Result<(), AllocError>
-    ensures { OnOk result (batch.new.items ≡ batch.old.items ++ map drop_row (old_floor number.now (kept_of kept.now owner.now) ++ map (kept_row owner.now) (gone_numbers number.now (kept_of kept.now owner.now)))) }
+    ensures { OnOk result
+        (batch.new.items ≡ batch.old.items
+        ++ map drop_row (old_floor number.now (kept_of kept.now owner.now)
+        ++ map (kept_row owner.now) (gone_numbers number.now (kept_of kept.now owner.now)))) }
 {
     let Some(row) = kept.find(owner) else {
         return Ok(());
@@ -66,7 +80,8 @@ fn raise_floor(
     number: &KeptNumber,
     batch: &mut Vec<Change>,
 ) -> Result<(), AllocError>
-    ensures { OnOk result (batch.new.items ≡ batch.old.items ++ map set_row (raised_above number.now row.now row.now.numbers)) }
+    ensures { OnOk result
+        (batch.new.items ≡ batch.old.items ++ map set_row (raised_above number.now row.now row.now.numbers)) }
 {
     let Some((least, _)) = row.numbers.as_slice().split_first() else {
         return Ok(());
@@ -87,7 +102,9 @@ fn add_number(
     number: &KeptNumber,
     batch: &mut Vec<Change>,
 ) -> Result<(), AllocError>
-    ensures { OnOk result (batch.new.items ≡ batch.old.items ++ map set_row (map (kept_row owner.now) (added_among number.now numbers.now))) }
+    ensures { OnOk result
+        (batch.new.items ≡ batch.old.items
+        ++ map set_row (map (kept_row owner.now) (added_among number.now numbers.now))) }
 {
     if let Some((least, _)) = numbers.split_first() {
         if number.number <= least.number {
@@ -106,7 +123,10 @@ pub(crate) fn set_number(
     number: &KeptNumber,
     batch: &mut Vec<Change>,
 ) -> Result<(), AllocError>
-    ensures { OnOk result (batch.new.items ≡ batch.old.items ++ map set_row (new_floor number.now (kept_of kept.now owner.now) ++ map (kept_row owner.now) (added_numbers number.now (kept_of kept.now owner.now)))) }
+    ensures { OnOk result
+        (batch.new.items ≡ batch.old.items
+        ++ map set_row (new_floor number.now (kept_of kept.now owner.now)
+        ++ map (kept_row owner.now) (added_numbers number.now (kept_of kept.now owner.now)))) }
 {
     let Some(row) = kept.find(owner) else {
         batch.push(set_kept(alloc, owner, number)?)?;

@@ -1,7 +1,15 @@
 //! Rows of a registry that a request replaces, takes out or puts in.
 ghost use Rattle.std.specs.Prelude.{◌≡◌, ◌++◌, OnOk, map};
 ghost use Rattle.std.specs.Option.{option_copied};
-ghost use Rattle.ixp_store_batches.specs.Batches.{old_row, new_row, entries_of, old_public, new_public, old_entries, new_entries};
+ghost use Rattle.ixp_store_batches.specs.Batches.{
+  old_row,
+  new_row,
+  entries_of,
+  old_public,
+  new_public,
+  old_entries,
+  new_entries,
+};
 ghost use Rattle.ixp_store_rows.specs.States.{drop_row, set_row};
 
 use ixp_io::Change;
@@ -17,7 +25,9 @@ fn clear_found<R: Rows>(
     found: Option<&R>,
     batch: &mut Vec<Change>,
 ) -> Result<(), AllocError>
-    ensures { OnOk result (batch.new.items ≡ batch.old.items ++ map drop_row (entries_of R.entries (option_copied found.entry))) }
+    ensures { OnOk result
+        (batch.new.items ≡ batch.old.items
+        ++ map drop_row (entries_of R.entries (option_copied found.entry))) }
 {
     match found {
         Some(row) => row.clear(alloc, batch),
@@ -33,7 +43,10 @@ fn clear_old<R: Keyed + Rows>(
 ) -> Result<(), AllocError>
 where
     R::Key: Drop,
-    ensures { OnOk result (batch.new.items ≡ batch.old.items ++ map drop_row (entries_of R.Rows.entries (old_row R.Row.key_of R.Row.named change.now table.now))) }
+    ensures { OnOk result
+        (batch.new.items ≡ batch.old.items
+        ++ map drop_row (entries_of R.Rows.entries
+        (old_row R.Row.key_of R.Row.named change.now table.now))) }
 {
     match change {
         TableChange::Keep => Ok(()),
@@ -50,7 +63,8 @@ fn set_new<R: Keyed + Rows>(
     change: &TableChange<R, R::Key>,
     batch: &mut Vec<Change>,
 ) -> Result<(), AllocError>
-    ensures { OnOk result (batch.new.items ≡ batch.old.items ++ map set_row (entries_of R.Rows.entries (new_row change.now))) }
+    ensures { OnOk result
+        (batch.new.items ≡ batch.old.items ++ map set_row (entries_of R.Rows.entries (new_row change.now))) }
 {
     match change {
         TableChange::Keep => Ok(()),
@@ -65,7 +79,8 @@ fn clear_public(
     list: &PublicList,
     batch: &mut Vec<Change>,
 ) -> Result<(), AllocError>
-    ensures { OnOk result (batch.new.items ≡ batch.old.items ++ map drop_row (old_public public.now list.now)) }
+    ensures { OnOk result
+        (batch.new.items ≡ batch.old.items ++ map drop_row (old_public public.now list.now)) }
 {
     match list {
         PublicList::Bogons(_) => drop_rows(alloc, public.bogons.as_slice(), batch),
@@ -93,7 +108,8 @@ pub(crate) fn clear_entries(
     change: &RegistryChange,
     batch: &mut Vec<Change>,
 ) -> Result<(), AllocError>
-    ensures { OnOk result (batch.new.items ≡ batch.old.items ++ map drop_row (old_entries registry.now change.now)) }
+    ensures { OnOk result
+        (batch.new.items ≡ batch.old.items ++ map drop_row (old_entries registry.now change.now)) }
 {
     match change {
         RegistryChange::Members(change) => clear_old(alloc, &registry.members, change, batch),

@@ -84,8 +84,8 @@ unfoldable pub EndsWithKept : Owner → ℕ → List Entry → Type 0
 EndsWithKept owner zero es = Unit {0}
 EndsWithKept owner (suc n) es = (front : List Entry) × (k : KeptNumber) × (es ≡ front ++ kept_row owner k ∷ []) × EndsWithKept owner n front
 
--- a kept number of an owner who is there: not below the owner's floor, its place among those that were accepted, and not behind
--- 1,024 others of this owner
+-- a kept number of an owner who is there: not below the owner's floor, its place among those that were
+-- accepted, and not behind 1,024 others of this owner
 pub record IsKeptRow (es before : List Entry) (e : Entry) : Type 0 where
   pub owner : Owner
   pub kept : KeptNumber
@@ -103,8 +103,8 @@ IsFloorRow es e = (owner : Owner) × (floor : ℕ) × SaysFloor owner floor e ×
 abbrev pub IsCountRow : Entry → Type 0
 IsCountRow e = (n : ℕ) × (n < 2 ^ 64) × (e ≡ count_row n)
 
--- The row is one that a store of these rows may have behind those before it: that of the version, one of the registry, a floor, a kept
--- number, or that of the count.
+-- The row is one that a store of these rows may have behind those before it: that of the version, one of the
+-- registry, a floor, a kept number, or that of the count.
 abbrev pub IsRow : List Entry → List Entry → Entry → Type 0
 IsRow es before e = (e ≡ version_row) ⊎ (((kind : Kind) × IsRowOf kind e) ⊎ (IsFloorRow es e ⊎ (IsKeptRow es before e ⊎ IsCountRow e)))
 
@@ -132,8 +132,8 @@ abbrev pub BeginsWrong : List Entry → List Entry → List Entry → RowName �
 BeginsWrong es before [] name = ⊥
 BeginsWrong es before (e ∷ after) name = (name ≡ e.0) × ¬ (IsRow es before e)
 
--- The name is the first at which something is wrong: the rows before it are right, none is missing that comes before it, and its own is
--- wrong or is missing.
+-- The name is the first at which something is wrong: the rows before it are right, none is missing that comes
+-- before it, and its own is wrong or is missing.
 pub record IsFirstWrong (es : List Entry) (name : RowName) : Type 0 where
   pub before : List Entry
   pub after : List Entry
@@ -178,7 +178,8 @@ pub record HasLine (ordered : List Entry) (name : RowName) (line : ℕ) : Type 0
   pub above : breaks (entries_text before) + 1 < line
   pub below : line ≤ breaks (entries_text before) + (breaks (entry_text row) + 1)
 
--- In the order in which they are a dump, the rows of lines break this rule, and none below it, and this row has the first line that breaks it.
+-- In the order in which they are a dump, the rows of lines break this rule, and none below it, and this row
+-- has the first line that breaks it.
 pub record BreaksRule (es : List Entry) (name : RowName) (rule : ℕ) : Type 0 where
   pub ordered : List Entry
   pub kinds : KindByKind es all_kinds ordered
@@ -188,7 +189,8 @@ pub record BreaksRule (es : List Entry) (name : RowName) (rule : ℕ) : Type 0 w
   pub broken : breach rows ≡ Some (record { rule = rule; line = line })
   pub at : HasLine ordered name line
 
--- What is told of rows in the order of their names: the first that is wrong, or the rule that they break where each is right.
+-- What is told of rows in the order of their names: the first that is wrong, or the rule that they break
+-- where each is right.
 abbrev pub TellsDamage : List Entry → RowName → Damage → Type 0
 TellsDamage es name Row = IsFirstWrong es name
 TellsDamage es name (Rule rule) = AreAllRight es × BreaksRule es name rule
@@ -206,7 +208,8 @@ pub record IsOneTooMany (rows : Table) (name : RowName) : Type 0 where
 abbrev pub FitsNoState : Table → Type 0
 FitsNoState rows = (s : State) → ValidState s → IsStorable s → rows ≢ tables s
 
--- Which row is told to be damaged: a store with one row too many is told by that row, and any other by what is wrong with its rows.
+-- Which row is told to be damaged: a store with one row too many is told by that row, and any other by what
+-- is wrong with its rows.
 abbrev pub TellsRow : Result State LoadFault → Table → Type 0
 TellsRow (Err (Damaged name damage)) rows =
     FitsNoState rows × (((len rows ≤ 8000000) × TellsDamage (entries rows) name damage) ⊎ (IsOneTooMany rows name × (damage ≡ Row)))

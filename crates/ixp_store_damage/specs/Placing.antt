@@ -1,4 +1,5 @@
--- Rows of a store with the lines that their bodies begin with. Nobody needs to believe these: they serve proofs.
+-- Rows of a store with the lines that their bodies begin with. Nobody needs to believe these: they serve
+-- proofs.
 use Rattle.std.specs.Prelude.{◌≡◌, ◌++◌, List, [], ◌∷◌, Result, IfOk, IsSome, IsTrue, Bool}
 use Rattle.std.specs.List.{AllByRecursion}
 use Rattle.std.specs.List.Sorted.{IsPermutation}

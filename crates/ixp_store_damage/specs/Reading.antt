@@ -1,4 +1,5 @@
--- Which rows of a keeper have been read, and which comes next. Nobody needs to believe these: they serve proofs.
+-- Which rows of a keeper have been read, and which comes next. Nobody needs to believe these: they serve
+-- proofs.
 use Rattle.std.specs.Prelude.{◌≡◌, ◌++◌, ◌-◌, ℕ, List, [], ◌∷◌, length, slice_get, Option, Some, None, option_map, map, Bool, true}
 use Rattle.std.specs.FinMap.{entries}
 use Rattle.std.specs.Option.{option_map_or}

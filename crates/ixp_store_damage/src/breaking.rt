@@ -1,11 +1,32 @@
 //! The first rule that the rows of a registry break, and the row that breaks it.
-ghost use Rattle.std.specs.Prelude.{◌≡◌, ◌++◌, ◌+◌, ◌<◌, ◌≤◌, List, IfOk, IfErr, IfSome, IsOk, IsSome, OnOk, map};
+ghost use Rattle.std.specs.Prelude.{
+  ◌≡◌,
+  ◌++◌,
+  ◌+◌,
+  ◌<◌,
+  ◌≤◌,
+  List,
+  IfOk,
+  IfErr,
+  IfSome,
+  IsOk,
+  IsSome,
+  OnOk,
+  map,
+};
 ghost use Rattle.ixp_io.specs.Tables.{row_entry};
 ghost use Rattle.ixp_num_tables.specs.Tables.{Ascends};
 ghost use Rattle.ixp_rows.specs.Reading.{breaks};
 ghost use Rattle.ixp_rows.specs.Printing.{all_kinds};
 ghost use Rattle.ixp_store_rows.specs.Names.{Entry};
-ghost use Rattle.ixp_store_damage.specs.Damages.{AreAllRight, HasLine, entries_dump, entries_text, entry_text, has_whole_lines};
+ghost use Rattle.ixp_store_damage.specs.Damages.{
+  AreAllRight,
+  HasLine,
+  entries_dump,
+  entries_text,
+  entry_text,
+  has_whole_lines,
+};
 ghost use Rattle.ixp_store_words.specs.Opening.{entry_name};
 ghost use Rattle.ixp_store_damage.specs.Placing.{Adds, AddsKinds, AreSections, ref_entry};
 ghost use Rattle.ixp_store_damage.specs.Walking.{TellsLine, TellsRegistry, TellsRule};
@@ -26,14 +47,16 @@ use ixp_store_rows::VERSION;
 use ixp_store_words::{Damage, NoState};
 use std::alloc::{AllocError, Global};
 
-/// Adds the rows of a kind in the order of their lines; not where the body of one of them doesn't begin with a line of the kind.
+/// Adds the rows of a kind in the order of their lines; not where the body of one of them doesn't begin with
+/// a line of the kind.
 fn add_kind<'a>(
     alloc: Global,
     kind: Kind,
     rows: &'a [Row],
     ordered: &mut Vec<&'a Row>,
 ) -> Result<bool, AllocError>
-    ensures { Adds kind (map row_entry rows.now) result (map ref_entry ordered.old.items) (map ref_entry ordered.new.items) }
+    ensures { Adds kind (map row_entry rows.now) result (map ref_entry ordered.old.items)
+        (map ref_entry ordered.new.items) }
 {
     match kind {
         Kind::Sites => add_section::<Site>(alloc, rows, ordered),
@@ -63,7 +86,8 @@ fn add_kinds<'a>(
     rows: &'a [Row],
     ordered: &mut Vec<&'a Row>,
 ) -> Result<bool, AllocError>
-    ensures { AddsKinds kinds.now (map row_entry rows.now) result (map ref_entry ordered.old.items) (map ref_entry ordered.new.items) }
+    ensures { AddsKinds kinds.now (map row_entry rows.now) result (map ref_entry ordered.old.items)
+        (map ref_entry ordered.new.items) }
 {
     let mut left = kinds;
     'each: while let Some((kind, others)) = left.split_first() {
@@ -142,7 +166,8 @@ fn row_at<'a>(rows: &[&'a Row], line: usize) -> Option<&'a Row>
 
 /// The fault of a rule that the rows break at this line of their dump.
 fn broken(alloc: Global, rows: &[&Row], line: usize, rule: u32) -> NoState
-    ensures { 2 ≤ line → line < breaks (entries_text (map ref_entry rows.now)) + 2 → TellsLine (map ref_entry rows.now) line rule result }
+    ensures { 2 ≤ line → line < breaks (entries_text (map ref_entry rows.now)) + 2
+        → TellsLine (map ref_entry rows.now) line rule result }
 {
     let Some(row) = row_at(rows, line) else {
         return missing(alloc, VERSION);
@@ -158,8 +183,10 @@ fn broken(alloc: Global, rows: &[&Row], line: usize, rule: u32) -> NoState
 
 /// Whether rows in the order of their lines in a dump are those of a valid registry.
 fn are_sound(alloc: Global, rows: &[&Row]) -> Result<(), NoState>
-    ensures sound { (es : List Entry) → AreSections es all_kinds (map ref_entry rows.now) → IsOk result → TellsRegistry es }
-    ensures broken { (es : List Entry) → Ascends entry_name es → AreAllRight es → AreSections es all_kinds (map ref_entry rows.now) → IfErr result (TellsRule es) }
+    ensures sound { (es : List Entry) → AreSections es all_kinds (map ref_entry rows.now) → IsOk result
+        → TellsRegistry es }
+    ensures broken { (es : List Entry) → Ascends entry_name es → AreAllRight es
+        → AreSections es all_kinds (map ref_entry rows.now) → IfErr result (TellsRule es) }
 {
     let text = dump_of(alloc, rows)?;
     match read_dump(alloc, text.as_slice()) {
@@ -174,8 +201,10 @@ fn are_sound(alloc: Global, rows: &[&Row]) -> Result<(), NoState>
 
 /// Whether the rows of a registry among these are those of a valid one.
 pub fn sound_registry(alloc: Global, rows: &[Row]) -> Result<(), NoState>
-    ensures sound { Ascends entry_name (map row_entry rows.now) → AreAllRight (map row_entry rows.now) → IsOk result → TellsRegistry (map row_entry rows.now) }
-    ensures broken { Ascends entry_name (map row_entry rows.now) → AreAllRight (map row_entry rows.now) → IfErr result (TellsRule (map row_entry rows.now)) }
+    ensures sound { Ascends entry_name (map row_entry rows.now) → AreAllRight (map row_entry rows.now)
+        → IsOk result → TellsRegistry (map row_entry rows.now) }
+    ensures broken { Ascends entry_name (map row_entry rows.now) → AreAllRight (map row_entry rows.now)
+        → IfErr result (TellsRule (map row_entry rows.now)) }
 {
     let mut ordered = Vec::new(alloc);
     if add_kinds(alloc, &KINDS, rows, &mut ordered)? {

@@ -46,7 +46,8 @@ pub(crate) fn front_line<R: Lined + Drop>(
     text: &[u8],
 ) -> Result<Option<(R, &[u8])>, AllocError>
     ensures shorter { IfOk result (λ o. IfSome o (λ x. length x.1.now < length text.now)) }
-    ensures reads { IfOk result (λ o. option_map (λ x. (R.Lined.fields Two x.0, x.1.now)) o ≡ front_at R.Lined.row_kind text.now) }
+    ensures reads { IfOk result
+        (λ o. option_map (λ x. (R.Lined.fields Two x.0, x.1.now)) o ≡ front_at R.Lined.row_kind text.now) }
 {
     let Some(rest) = text.strip_prefix(word_of(R::kind())) else {
         return Ok(None);

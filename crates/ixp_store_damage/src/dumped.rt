@@ -1,5 +1,19 @@
 //! The registry that a store's rows tell.
-ghost use Rattle.std.specs.Prelude.{◌≡◌, ◌++◌, ◌-◌, ◌≤◌, IfOk, OnOk, IfSome, IsTrue, Some, length, map, flat_map, option_map};
+ghost use Rattle.std.specs.Prelude.{
+  ◌≡◌,
+  ◌++◌,
+  ◌-◌,
+  ◌≤◌,
+  IfOk,
+  OnOk,
+  IfSome,
+  IsTrue,
+  Some,
+  length,
+  map,
+  flat_map,
+  option_map,
+};
 ghost use Rattle.ixp_io.specs.Tables.{row_entry};
 ghost use Rattle.ixp_registry.specs.declared.registry.Registry.{Registry as Told};
 ghost use Rattle.ixp_registry.specs.Registries.{rows_of};
@@ -54,7 +68,9 @@ fn put_kinds(
     rows: &[Row],
     out: &mut Vec<u8>,
 ) -> Result<bool, AllocError>
-    ensures { (r : Told) → Valid r → AreRowsOf r (map row_entry rows.now) → IfOk result (λ done. IsTrue done × (out.new.items ≡ out.old.items ++ flat_map (kind_lines Two (rows_of r)) kinds.now)) }
+    ensures { (r : Told) → Valid r → AreRowsOf r (map row_entry rows.now)
+        → IfOk result (λ done. IsTrue done
+        × (out.new.items ≡ out.old.items ++ flat_map (kind_lines Two (rows_of r)) kinds.now)) }
 {
     let mut left = kinds;
     'each: while let Some((kind, others)) = left.split_first() {
@@ -93,7 +109,8 @@ pub(crate) fn put_end(out: &mut Vec<u8>) -> Result<(), AllocError>
 
 /// The dump of a registry's rows.
 fn dump_of(alloc: Global, rows: &[Row]) -> Result<Option<Vec<u8>>, AllocError>
-    ensures { (r : Told) → Valid r → AreRowsOf r (map row_entry rows.now) → IfOk result (λ o. option_map (λ text. text.items) o ≡ Some (dump_text Two (rows_of r))) }
+    ensures { (r : Told) → Valid r → AreRowsOf r (map row_entry rows.now)
+        → IfOk result (λ o. option_map (λ text. text.items) o ≡ Some (dump_text Two (rows_of r))) }
 {
     let mut text = Vec::new(alloc);
     put(&mut text, b"ixp-registry 2\n")?;
@@ -107,7 +124,8 @@ fn dump_of(alloc: Global, rows: &[Row]) -> Result<Option<Vec<u8>>, AllocError>
 /// The valid registry whose dump the text is.
 fn registry_in(alloc: Global, text: &[u8]) -> Result<Option<Registry>, AllocError>
     ensures valid { IfOk result (λ o. IfSome o Valid) }
-    ensures complete { (r : Told) → Valid r → text.now ≡ dump_text Two (rows_of r) → IfOk result (λ o. o ≡ Some r) }
+    ensures complete { (r : Told) → Valid r → text.now ≡ dump_text Two (rows_of r)
+        → IfOk result (λ o. o ≡ Some r) }
 {
     match read_dump(alloc, text) {
         Ok(registry) => Ok(Some(registry)),
@@ -122,7 +140,8 @@ fn registry_in(alloc: Global, text: &[u8]) -> Result<Option<Registry>, AllocErro
 /// The valid registry whose rows these are, among rows of other kinds.
 pub fn registry_told(alloc: Global, rows: &[Row]) -> Result<Option<Registry>, AllocError>
     ensures valid { IfOk result (λ o. IfSome o Valid) }
-    ensures complete { (r : Told) → Valid r → AreRowsOf r (map row_entry rows.now) → IfOk result (λ o. o ≡ Some r) }
+    ensures complete { (r : Told) → Valid r → AreRowsOf r (map row_entry rows.now)
+        → IfOk result (λ o. o ≡ Some r) }
 {
     match dump_of(alloc, rows)? {
         None => Ok(None),

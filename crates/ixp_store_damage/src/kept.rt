@@ -1,5 +1,21 @@
 //! The rows of what a store keeps of requests: the first of them that is wrong.
-ghost use Rattle.std.specs.Prelude.{◌≡◌, ◌<◌, ◌≤◌, ◌^◌, ◌∷◌, ◌↔◌, [], ℕ, suc, List, IfOk, IfErr, IsTrue, Some, map};
+ghost use Rattle.std.specs.Prelude.{
+  ◌≡◌,
+  ◌<◌,
+  ◌≤◌,
+  ◌^◌,
+  ◌∷◌,
+  ◌↔◌,
+  [],
+  ℕ,
+  suc,
+  List,
+  IfOk,
+  IfErr,
+  IsTrue,
+  Some,
+  map,
+};
 ghost use Rattle.ixp_io.specs.Tables.{row_entry};
 ghost use Rattle.ixp_rows_lines.specs.Fields.{Number};
 ghost use Rattle.ixp_registry.specs.declared.kind.Kind.TheVariants.{Members};
@@ -9,7 +25,19 @@ ghost use Rattle.ixp_num_tables.specs.Tables.{Ascends};
 ghost use Rattle.ixp_store_damage.specs.Damages.{EndsWithKept, HasName, IsOwner};
 ghost use Rattle.ixp_store_words.specs.Gathering.{floor_at};
 ghost use Rattle.ixp_store_words.specs.Opening.{entry_name};
-ghost use Rattle.ixp_store_damage.specs.Walking.{AreFloors, FindsFloor, FindsFloorRow, FindsKept, FloorsNoted, Follows, GoesOn, IsCounted, IsRun, Reached, TellsFirst};
+ghost use Rattle.ixp_store_damage.specs.Walking.{
+  AreFloors,
+  FindsFloor,
+  FindsFloorRow,
+  FindsKept,
+  FloorsNoted,
+  Follows,
+  GoesOn,
+  IsCounted,
+  IsRun,
+  Reached,
+  TellsFirst,
+};
 
 use crate::decode::{damaged, sets};
 use crate::lines::Left;
@@ -23,13 +51,16 @@ use std::alloc::{AllocError, Global};
 
 /// Whether one of the rows, which are in the order of their names, has this one.
 fn has_name(rows: &[Row], name: &RowName) -> bool
-    ensures { Ascends entry_name (map row_entry rows.now) → IsTrue result ↔ HasName (map row_entry rows.now) name.now }
+    ensures { Ascends entry_name (map row_entry rows.now) → IsTrue result
+        ↔ HasName (map row_entry rows.now) name.now }
 {
     rows.binary_search_by(|row| row.name.cmp(name)).is_ok()
 }
 
 fn has_member(alloc: Global, rows: &[Row], number: u32) -> Result<bool, AllocError>
-    ensures { Ascends entry_name (map row_entry rows.now) → IfOk result (λ has. IsTrue has ↔ HasName (map row_entry rows.now) (name_of Members (Number number ∷ []))) }
+    ensures { Ascends entry_name (map row_entry rows.now)
+        → IfOk result (λ has. IsTrue has
+        ↔ HasName (map row_entry rows.now) (name_of Members (Number number ∷ []))) }
 {
     let mut key = Vec::new(alloc);
     put_number(&mut key, u64::from(number))?;
@@ -42,7 +73,8 @@ fn has_member(alloc: Global, rows: &[Row], number: u32) -> Result<bool, AllocErr
 
 /// Whether the store knows the owner: staff are 1 to 16, a member has a row.
 fn is_owner(alloc: Global, rows: &[Row], owner: Owner) -> Result<bool, AllocError>
-    ensures { Ascends entry_name (map row_entry rows.now) → IfOk result (λ is. IsTrue is ↔ IsOwner (map row_entry rows.now) owner) }
+    ensures { Ascends entry_name (map row_entry rows.now)
+        → IfOk result (λ is. IsTrue is ↔ IsOwner (map row_entry rows.now) owner) }
 {
     match owner {
         Owner::Staff(number) => Ok(1 <= number && number <= 16),
@@ -75,7 +107,8 @@ fn floor_of(alloc: Global, row: &Row) -> Result<Option<KeptOwner>, AllocError>
 
 /// The same, where the owner is one of the store's.
 fn known_floor(alloc: Global, rows: &[Row], row: &Row) -> Result<Option<KeptOwner>, AllocError>
-    ensures { Ascends entry_name (map row_entry rows.now) → IfOk result (FindsFloorRow (map row_entry rows.now) (row_entry row.now)) }
+    ensures { Ascends entry_name (map row_entry rows.now)
+        → IfOk result (FindsFloorRow (map row_entry rows.now) (row_entry row.now)) }
 {
     let Some(kept) = floor_of(alloc, row)? else {
         return Ok(None);
@@ -93,8 +126,11 @@ fn floors<'a>(
     rows: &[Row],
     first: Left<'a>,
 ) -> Result<(Table<KeptOwner>, Left<'a>), NoState>
-    ensures noted { (es : List Entry) → es ≡ map row_entry rows.now → Reached 18 18 es (map row_entry first.now) → IfOk result (λ x. FloorsNoted 19 es (map row_entry x.1.now) x.0) }
-    ensures told { (es : List Entry) → es ≡ map row_entry rows.now → Reached 18 18 es (map row_entry first.now) → IfErr result (TellsFirst es) }
+    ensures noted { (es : List Entry) → es ≡ map row_entry rows.now
+        → Reached 18 18 es (map row_entry first.now)
+        → IfOk result (λ x. FloorsNoted 19 es (map row_entry x.1.now) x.0) }
+    ensures told { (es : List Entry) → es ≡ map row_entry rows.now
+        → Reached 18 18 es (map row_entry first.now) → IfErr result (TellsFirst es) }
 {
     let mut kept: Table<KeptOwner> = Table::new(alloc);
     let mut left = first;
@@ -159,7 +195,8 @@ struct Run {
 /// How many rows of this owner came last.
 #[tactic(auto, unfolding(crate::specs::Damages::EndsWithKept))]
 fn count_for(run: Run, owner: Owner) -> usize
-    ensures { (before : List Entry) → IsRun run before → IsNumber (owner_number owner) → EndsWithKept owner result before × ¬ (EndsWithKept owner (suc result) before) }
+    ensures { (before : List Entry) → IsRun run before → IsNumber (owner_number owner)
+        → EndsWithKept owner result before × ¬ (EndsWithKept owner (suc result) before) }
 {
     if run.owner == Some(owner) {
         run.count
@@ -183,8 +220,8 @@ fn one_more(run: Run, owner: Owner) -> Option<Run>
     }
 }
 
-/// The rows that came last together with this one; None where it is no row of a kept number, or none that may follow them. `rows`
-/// are all rows of the store.
+/// The rows that came last together with this one; None where it is no row of a kept number, or none that may
+/// follow them. `rows` are all rows of the store.
 fn followed(
     alloc: Global,
     rows: &[Row],
@@ -193,7 +230,9 @@ fn followed(
     run: Run,
     row: &Row,
 ) -> Result<Option<Run>, AllocError>
-    ensures { (es before : List Entry) → es ≡ map row_entry rows.now → Ascends entry_name es → AreFloors es es floors.now → IsCounted es count → IsRun run before → IfOk result (Follows es before (row_entry row.now)) }
+    ensures { (es before : List Entry) → es ≡ map row_entry rows.now → Ascends entry_name es
+        → AreFloors es es floors.now → IsCounted es count → IsRun run before
+        → IfOk result (Follows es before (row_entry row.now)) }
 {
     let Some((owner, number)) = number_in(alloc, row)? else {
         return Ok(None);
@@ -210,7 +249,8 @@ fn followed(
     Ok(one_more(run, owner))
 }
 
-/// Goes through the rows of kept numbers that stand first, and gives the rows behind them. `rows` are all rows of the store.
+/// Goes through the rows of kept numbers that stand first, and gives the rows behind them. `rows` are all
+/// rows of the store.
 fn behind_numbers<'a>(
     alloc: Global,
     rows: &[Row],
@@ -218,8 +258,11 @@ fn behind_numbers<'a>(
     count: Option<u64>,
     first: Left<'a>,
 ) -> Result<Left<'a>, NoState>
-    ensures reached { (es : List Entry) → es ≡ map row_entry rows.now → IsCounted es count → FloorsNoted 19 es (map row_entry first.now) floors.now → IfOk result (λ rest. Reached 20 20 es (map row_entry rest.now)) }
-    ensures told { (es : List Entry) → es ≡ map row_entry rows.now → IsCounted es count → FloorsNoted 19 es (map row_entry first.now) floors.now → IfErr result (TellsFirst es) }
+    ensures reached { (es : List Entry) → es ≡ map row_entry rows.now → IsCounted es count
+        → FloorsNoted 19 es (map row_entry first.now) floors.now
+        → IfOk result (λ rest. Reached 20 20 es (map row_entry rest.now)) }
+    ensures told { (es : List Entry) → es ≡ map row_entry rows.now → IsCounted es count
+        → FloorsNoted 19 es (map row_entry first.now) floors.now → IfErr result (TellsFirst es) }
 {
     let mut run = Run {
         owner: None,
@@ -239,16 +282,19 @@ fn behind_numbers<'a>(
     Ok(left)
 }
 
-/// Goes through the rows of floors and kept numbers that stand first, and gives the rows behind them. `rows` are all rows of the
-/// store, and `count` is how many requests were accepted, where a row says so.
+/// Goes through the rows of floors and kept numbers that stand first, and gives the rows behind them. `rows`
+/// are all rows of the store, and `count` is how many requests were accepted, where a row says so.
 pub fn behind_kept<'a>(
     alloc: Global,
     rows: &[Row],
     first: Left<'a>,
     count: Option<u64>,
 ) -> Result<Left<'a>, NoState>
-    ensures reached { (es : List Entry) → es ≡ map row_entry rows.now → IsCounted es count → Reached 18 18 es (map row_entry first.now) → IfOk result (λ rest. Reached 20 20 es (map row_entry rest.now)) }
-    ensures told { (es : List Entry) → es ≡ map row_entry rows.now → IsCounted es count → Reached 18 18 es (map row_entry first.now) → IfErr result (TellsFirst es) }
+    ensures reached { (es : List Entry) → es ≡ map row_entry rows.now → IsCounted es count
+        → Reached 18 18 es (map row_entry first.now)
+        → IfOk result (λ rest. Reached 20 20 es (map row_entry rest.now)) }
+    ensures told { (es : List Entry) → es ≡ map row_entry rows.now → IsCounted es count
+        → Reached 18 18 es (map row_entry first.now) → IfErr result (TellsFirst es) }
 {
     let (floors, left) = floors(alloc, rows, first)?;
     behind_numbers(alloc, rows, &floors, count, left)

@@ -1,8 +1,8 @@
 //! Which row of a store is damaged.
 //!
-//! A store that holds no state of a registry has a first row, in the order of names, that is none or is missing; or its rows break
-//! a rule, and one of them has the first line that breaks it (`specs/Damages.antt`). The rows of a registry are put together as its
-//! dump, which `ixp_rows` reads.
+//! A store that holds no state of a registry has a first row, in the order of names, that is none or is
+//! missing; or its rows break a rule, and one of them has the first line that breaks it
+//! (`specs/Damages.antt`). The rows of a registry are put together as its dump, which `ixp_rows` reads.
 #![tactic(auto)]
 
 mod breaking;

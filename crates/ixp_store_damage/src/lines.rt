@@ -1,5 +1,28 @@
 //! The rows of a registry, gone through in the order of their names up to the first that is wrong.
-ghost use Rattle.std.specs.Prelude.{◌≡◌, ◌<◌, ◌^◌, ◌++◌, ◌∷◌, ◌↔◌, [], ℕ, suc, List, IfOk, IfErr, IfSome, IsTrue, Some, None, false, true, map, option_map, take, decimal};
+ghost use Rattle.std.specs.Prelude.{
+  ◌≡◌,
+  ◌<◌,
+  ◌^◌,
+  ◌++◌,
+  ◌∷◌,
+  ◌↔◌,
+  [],
+  ℕ,
+  suc,
+  List,
+  IfOk,
+  IfErr,
+  IfSome,
+  IsTrue,
+  Some,
+  None,
+  false,
+  true,
+  map,
+  option_map,
+  take,
+  decimal,
+};
 ghost use Rattle.std.specs.declared.cmp.Ordering.TheVariants.{Less};
 ghost use Rattle.ixp_io.specs.Tables.{row_entry};
 ghost use Rattle.ixp_num.specs.AddressForms.{version_of};
@@ -9,7 +32,15 @@ ghost use Rattle.ixp_rows_lines.specs.Lines.{place_of};
 ghost use Rattle.ixp_store_rows.specs.Names.{Entry, version_row};
 ghost use Rattle.ixp_store_damage.specs.Damages.{IsListRow};
 ghost use Rattle.ixp_store_words.specs.Opening.{entry_name};
-ghost use Rattle.ixp_store_damage.specs.Walking.{AreLines, IsRowFault, MayFollow, Reached, TellsFirst, is_listed, is_site};
+ghost use Rattle.ixp_store_damage.specs.Walking.{
+  AreLines,
+  IsRowFault,
+  MayFollow,
+  Reached,
+  TellsFirst,
+  is_listed,
+  is_site,
+};
 
 use crate::decode::{damaged, front_line, is_row};
 use ixp_io::{Row, RowName};
@@ -31,8 +62,13 @@ pub type Left<'a> = &'a [Row];
 /// Goes through the rows of a kind that stand first, and gives the rows behind them.
 fn section<'a, R: Stored + Drop>(alloc: Global, rows: Left<'a>) -> Result<Left<'a>, NoState>
     requires plain { is_listed R.Lined.row_kind ≡ false }
-    ensures reached { (es : List Entry) → Reached (place_of R.Lined.row_kind) (place_of R.Lined.row_kind) es (map row_entry rows.now) → IfOk result (λ rest. Reached (suc (place_of R.Lined.row_kind)) (suc (place_of R.Lined.row_kind)) es (map row_entry rest.now)) }
-    ensures told { (es : List Entry) → Reached (place_of R.Lined.row_kind) (place_of R.Lined.row_kind) es (map row_entry rows.now) → IfErr result (TellsFirst es) }
+    ensures reached { (es : List Entry)
+        → Reached (place_of R.Lined.row_kind) (place_of R.Lined.row_kind) es (map row_entry rows.now)
+        → IfOk result (λ rest. Reached (suc (place_of R.Lined.row_kind)) (suc (place_of R.Lined.row_kind)) es
+        (map row_entry rest.now)) }
+    ensures told { (es : List Entry)
+        → Reached (place_of R.Lined.row_kind) (place_of R.Lined.row_kind) es (map row_entry rows.now)
+        → IfErr result (TellsFirst es) }
 {
     let mut left = rows;
     'rows: while let Some((row, others)) = left.split_first() {
@@ -101,7 +137,8 @@ fn is_above<R: Lined>(last: &Option<R>, line: &R) -> bool
 
 /// Whether the line is one of the list, and above the line before it.
 fn may_follow<R: InList>(last: &Option<R>, line: &R, member: u32, family: Family) -> bool
-    ensures { IsTrue result ↔ MayFollow member family (option_map R.Lined.key last.now) (R.Lined.key line.now) }
+    ensures { IsTrue result
+        ↔ MayFollow member family (option_map R.Lined.key last.now) (R.Lined.key line.now) }
 {
     line.is_in(member, family) && is_above(last, line)
 }
@@ -122,7 +159,8 @@ fn family_of(text: &[u8]) -> Option<Family>
 /// Which list a row's name says.
 #[tactic(auto, using(ixp_store_words::proofs::WordTexts::small_unbroken))]
 fn list_of(name: &RowName) -> Option<(u32, Family)>
-    ensures { (member : ℕ) (family : Kin) → member < 2 ^ 32 → name.now.key ≡ decimal member ++ 32 ∷ decimal (version_of family) → result ≡ Some (member, family) }
+    ensures { (member : ℕ) (family : Kin) → member < 2 ^ 32
+        → name.now.key ≡ decimal member ++ 32 ∷ decimal (version_of family) → result ≡ Some (member, family) }
 {
     let (member, family) = first_word(name.key.as_slice());
     let Some(member) = small_of(member) else {
@@ -136,7 +174,8 @@ fn list_of(name: &RowName) -> Option<(u32, Family)>
 
 /// Whether the row is a member's list of a family.
 fn is_list<R: InList>(alloc: Global, row: &Row) -> Result<bool, AllocError>
-    ensures { row.now.name.kind ≡ place_of R.Lined.row_kind → IfOk result (λ is. IsTrue is ↔ IsListRow R.Lined.row_kind (row_entry row.now)) }
+    ensures { row.now.name.kind ≡ place_of R.Lined.row_kind
+        → IfOk result (λ is. IsTrue is ↔ IsListRow R.Lined.row_kind (row_entry row.now)) }
 {
     let Some((member, family)) = list_of(&row.name) else {
         return Ok(false);
@@ -154,8 +193,13 @@ fn is_list<R: InList>(alloc: Global, row: &Row) -> Result<bool, AllocError>
 /// Goes through the lists of members that stand first, and gives the rows behind them.
 fn lists<'a, R: InList>(alloc: Global, rows: Left<'a>) -> Result<Left<'a>, NoState>
     requires listed { is_listed R.Lined.row_kind ≡ true }
-    ensures reached { (es : List Entry) → Reached (place_of R.Lined.row_kind) (place_of R.Lined.row_kind) es (map row_entry rows.now) → IfOk result (λ rest. Reached (suc (place_of R.Lined.row_kind)) (suc (place_of R.Lined.row_kind)) es (map row_entry rest.now)) }
-    ensures told { (es : List Entry) → Reached (place_of R.Lined.row_kind) (place_of R.Lined.row_kind) es (map row_entry rows.now) → IfErr result (TellsFirst es) }
+    ensures reached { (es : List Entry)
+        → Reached (place_of R.Lined.row_kind) (place_of R.Lined.row_kind) es (map row_entry rows.now)
+        → IfOk result (λ rest. Reached (suc (place_of R.Lined.row_kind)) (suc (place_of R.Lined.row_kind)) es
+        (map row_entry rest.now)) }
+    ensures told { (es : List Entry)
+        → Reached (place_of R.Lined.row_kind) (place_of R.Lined.row_kind) es (map row_entry rows.now)
+        → IfErr result (TellsFirst es) }
 {
     let mut left = rows;
     'rows: while let Some((row, others)) = left.split_first() {
@@ -194,8 +238,10 @@ fn is_site(row: &Row) -> bool
 
 /// The site's row, which has to stand first behind that of the version.
 fn site<'a>(alloc: Global, rows: Left<'a>) -> Result<Left<'a>, NoState>
-    ensures reached { (es : List Entry) → es ≡ version_row ∷ map row_entry rows.now → Ascends entry_name es → IfOk result (λ rest. Reached 2 2 es (map row_entry rest.now)) }
-    ensures told { (es : List Entry) → es ≡ version_row ∷ map row_entry rows.now → Ascends entry_name es → IfErr result (TellsFirst es) }
+    ensures reached { (es : List Entry) → es ≡ version_row ∷ map row_entry rows.now → Ascends entry_name es
+        → IfOk result (λ rest. Reached 2 2 es (map row_entry rest.now)) }
+    ensures told { (es : List Entry) → es ≡ version_row ∷ map row_entry rows.now → Ascends entry_name es
+        → IfErr result (TellsFirst es) }
 {
     let Some((row, others)) = rows.split_first() else {
         return Err(missing(alloc, SITE));
@@ -213,8 +259,10 @@ fn site<'a>(alloc: Global, rows: Left<'a>) -> Result<Left<'a>, NoState>
 }
 
 fn people<'a>(alloc: Global, left: Left<'a>) -> Result<Left<'a>, NoState>
-    ensures reached { (es : List Entry) → Reached 2 2 es (map row_entry left.now) → IfOk result (λ rest. Reached 5 5 es (map row_entry rest.now)) }
-    ensures told { (es : List Entry) → Reached 2 2 es (map row_entry left.now) → IfErr result (TellsFirst es) }
+    ensures reached { (es : List Entry) → Reached 2 2 es (map row_entry left.now)
+        → IfOk result (λ rest. Reached 5 5 es (map row_entry rest.now)) }
+    ensures told { (es : List Entry) → Reached 2 2 es (map row_entry left.now)
+        → IfErr result (TellsFirst es) }
 {
     let left = section::<Member>(alloc, left)?;
     let left = section::<Contact>(alloc, left)?;
@@ -222,8 +270,10 @@ fn people<'a>(alloc: Global, left: Left<'a>) -> Result<Left<'a>, NoState>
 }
 
 fn network<'a>(alloc: Global, left: Left<'a>) -> Result<Left<'a>, NoState>
-    ensures reached { (es : List Entry) → Reached 5 5 es (map row_entry left.now) → IfOk result (λ rest. Reached 10 10 es (map row_entry rest.now)) }
-    ensures told { (es : List Entry) → Reached 5 5 es (map row_entry left.now) → IfErr result (TellsFirst es) }
+    ensures reached { (es : List Entry) → Reached 5 5 es (map row_entry left.now)
+        → IfOk result (λ rest. Reached 10 10 es (map row_entry rest.now)) }
+    ensures told { (es : List Entry) → Reached 5 5 es (map row_entry left.now)
+        → IfErr result (TellsFirst es) }
 {
     let left = section::<Switch>(alloc, left)?;
     let left = section::<Port>(alloc, left)?;
@@ -233,8 +283,10 @@ fn network<'a>(alloc: Global, left: Left<'a>) -> Result<Left<'a>, NoState>
 }
 
 fn steering<'a>(alloc: Global, left: Left<'a>) -> Result<Left<'a>, NoState>
-    ensures reached { (es : List Entry) → Reached 10 10 es (map row_entry left.now) → IfOk result (λ rest. Reached 14 14 es (map row_entry rest.now)) }
-    ensures told { (es : List Entry) → Reached 10 10 es (map row_entry left.now) → IfErr result (TellsFirst es) }
+    ensures reached { (es : List Entry) → Reached 10 10 es (map row_entry left.now)
+        → IfOk result (λ rest. Reached 14 14 es (map row_entry rest.now)) }
+    ensures told { (es : List Entry) → Reached 10 10 es (map row_entry left.now)
+        → IfErr result (TellsFirst es) }
 {
     let left = section::<Router>(alloc, left)?;
     let left = lists::<MemberPrefix>(alloc, left)?;
@@ -243,8 +295,10 @@ fn steering<'a>(alloc: Global, left: Left<'a>) -> Result<Left<'a>, NoState>
 }
 
 fn public<'a>(alloc: Global, left: Left<'a>) -> Result<Left<'a>, NoState>
-    ensures reached { (es : List Entry) → Reached 14 14 es (map row_entry left.now) → IfOk result (λ rest. Reached 18 18 es (map row_entry rest.now)) }
-    ensures told { (es : List Entry) → Reached 14 14 es (map row_entry left.now) → IfErr result (TellsFirst es) }
+    ensures reached { (es : List Entry) → Reached 14 14 es (map row_entry left.now)
+        → IfOk result (λ rest. Reached 18 18 es (map row_entry rest.now)) }
+    ensures told { (es : List Entry) → Reached 14 14 es (map row_entry left.now)
+        → IfErr result (TellsFirst es) }
 {
     let left = section::<Pattern>(alloc, left)?;
     let left = section::<(Asn, Asn)>(alloc, left)?;
@@ -254,8 +308,10 @@ fn public<'a>(alloc: Global, left: Left<'a>) -> Result<Left<'a>, NoState>
 
 /// Goes through the registry's rows, which stand behind that of the version, and gives the rows behind them.
 pub fn registry_rows<'a>(alloc: Global, left: Left<'a>) -> Result<Left<'a>, NoState>
-    ensures reached { (es : List Entry) → es ≡ version_row ∷ map row_entry left.now → Ascends entry_name es → IfOk result (λ rest. Reached 18 18 es (map row_entry rest.now)) }
-    ensures told { (es : List Entry) → es ≡ version_row ∷ map row_entry left.now → Ascends entry_name es → IfErr result (TellsFirst es) }
+    ensures reached { (es : List Entry) → es ≡ version_row ∷ map row_entry left.now → Ascends entry_name es
+        → IfOk result (λ rest. Reached 18 18 es (map row_entry rest.now)) }
+    ensures told { (es : List Entry) → es ≡ version_row ∷ map row_entry left.now → Ascends entry_name es
+        → IfErr result (TellsFirst es) }
 {
     let left = site(alloc, left)?;
     let left = people(alloc, left)?;

@@ -1,5 +1,19 @@
 //! The lines of a store's rows, kind by kind in the order of a dump.
-ghost use Rattle.std.specs.Prelude.{◌≡◌, ◌≢◌, ◌++◌, List, IfOk, IfSome, IsSome, OnOk, IsTrue, Some, map, flat_map, option_map};
+ghost use Rattle.std.specs.Prelude.{
+  ◌≡◌,
+  ◌≢◌,
+  ◌++◌,
+  List,
+  IfOk,
+  IfSome,
+  IsSome,
+  OnOk,
+  IsTrue,
+  Some,
+  map,
+  flat_map,
+  option_map,
+};
 ghost use Rattle.std.specs.List.{AllByRecursion};
 ghost use Rattle.std.specs.List.Sorted.{IsPermutation};
 ghost use Rattle.ixp_io.specs.Tables.{row_entry};
@@ -29,7 +43,8 @@ struct Placed<'a, R> {
 /// The line that the row's body begins with, where it begins with one of the kind.
 #[tactic(auto, unfolding(crate::specs::Loading::line_said))]
 fn typed_of<R: Lined + Drop>(alloc: Global, row: &Row) -> Result<Option<R>, AllocError>
-    ensures { IfOk result (λ o. option_map (R.Lined.fields Two) o ≡ line_said R.Lined.row_kind (row_entry row.now)) }
+    ensures { IfOk result
+        (λ o. option_map (R.Lined.fields Two) o ≡ line_said R.Lined.row_kind (row_entry row.now)) }
 {
     let mut text = Vec::from_slice(alloc, row.body.as_slice())?;
     text.push(b'\n')?;
@@ -44,9 +59,15 @@ fn placed_rows<R: Lined + Drop>(
     alloc: Global,
     rows: &[Row],
 ) -> Result<Option<Vec<Placed<'_, R>>>, AllocError>
-    ensures rows { IfOk result (λ o. IfSome o (λ v. map placed_entry v.items ≡ kind_rows (place_of R.Lined.row_kind) (map row_entry rows.now))) }
-    ensures said { IfOk result (λ o. IfSome o (λ v. AllByRecursion (λ p. line_said R.Lined.row_kind (placed_entry p) ≡ Some (R.Lined.fields Two p.line)) v.items)) }
-    ensures complete { AllByRecursion (λ e. IsSome (line_said R.Lined.row_kind e)) (kind_rows (place_of R.Lined.row_kind) (map row_entry rows.now)) → IfOk result (λ o. IsSome o) }
+    ensures rows { IfOk result
+        (λ o. IfSome o (λ v. map placed_entry v.items
+        ≡ kind_rows (place_of R.Lined.row_kind) (map row_entry rows.now))) }
+    ensures said { IfOk result
+        (λ o. IfSome o (λ v. AllByRecursion
+        (λ p. line_said R.Lined.row_kind (placed_entry p)
+        ≡ Some (R.Lined.fields Two p.line)) v.items)) }
+    ensures complete { AllByRecursion (λ e. IsSome (line_said R.Lined.row_kind e))
+        (kind_rows (place_of R.Lined.row_kind) (map row_entry rows.now)) → IfOk result (λ o. IsSome o) }
 {
     let mut placed: Vec<Placed<R>> = Vec::new(alloc);
     let mut left = rows;
@@ -81,7 +102,9 @@ fn line_end(kind: Kind) -> &'static [u8]
 }
 
 fn put_bodies<R: Lined>(rows: &[Placed<R>], out: &mut Vec<u8>) -> Result<(), AllocError>
-    ensures { OnOk result (out.new.items ≡ out.old.items ++ flat_map (λ p. row_text R.Lined.row_kind (placed_entry p)) rows.now) }
+    ensures { OnOk result
+        (out.new.items ≡ out.old.items
+        ++ flat_map (λ p. row_text R.Lined.row_kind (placed_entry p)) rows.now) }
 {
     for placed in rows {
         put(out, placed.row.body.as_slice())?;
@@ -90,13 +113,19 @@ fn put_bodies<R: Lined>(rows: &[Placed<R>], out: &mut Vec<u8>) -> Result<(), All
     Ok(())
 }
 
-/// Adds the lines of the rows of a kind, in the order of a dump; not where one of them begins with no line of the kind.
+/// Adds the lines of the rows of a kind, in the order of a dump; not where one of them begins with no line of
+/// the kind.
 pub(crate) fn put_section<R: Lined + Drop>(
     alloc: Global,
     rows: &[Row],
     out: &mut Vec<u8>,
 ) -> Result<bool, AllocError>
-    ensures complete { (es : List Entry) → Same (kind_rows (place_of R.Lined.row_kind) (map row_entry rows.now)) es → Pairs (λ a b. a ≢ b) (map row_entry rows.now) → Ascends (line_key R.Lined.row_kind) es → AllByRecursion (λ e. IsSome (line_said R.Lined.row_kind e)) es → IfOk result (λ done. IsTrue done × (out.new.items ≡ out.old.items ++ flat_map (row_text R.Lined.row_kind) es)) }
+    ensures complete { (es : List Entry)
+        → Same (kind_rows (place_of R.Lined.row_kind) (map row_entry rows.now)) es
+        → Pairs (λ a b. a ≢ b) (map row_entry rows.now) → Ascends (line_key R.Lined.row_kind) es
+        → AllByRecursion (λ e. IsSome (line_said R.Lined.row_kind e)) es
+        → IfOk result (λ done. IsTrue done
+        × (out.new.items ≡ out.old.items ++ flat_map (row_text R.Lined.row_kind) es)) }
 {
     match placed_rows::<R>(alloc, rows)? {
         None => Ok(false),
@@ -109,7 +138,8 @@ pub(crate) fn put_section<R: Lined + Drop>(
 }
 
 fn add_rows<'a, R>(rows: &[Placed<'a, R>], ordered: &mut Vec<&'a Row>) -> Result<(), AllocError>
-    ensures { OnOk result (map ref_entry ordered.new.items ≡ map ref_entry ordered.old.items ++ map placed_entry rows.now) }
+    ensures { OnOk result
+        (map ref_entry ordered.new.items ≡ map ref_entry ordered.old.items ++ map placed_entry rows.now) }
 {
     for placed in rows {
         ordered.push(placed.row)?;
@@ -123,7 +153,8 @@ pub(crate) fn add_section<'a, R: Lined + Drop>(
     rows: &'a [Row],
     ordered: &mut Vec<&'a Row>,
 ) -> Result<bool, AllocError>
-    ensures { Adds R.Lined.row_kind (map row_entry rows.now) result (map ref_entry ordered.old.items) (map ref_entry ordered.new.items) }
+    ensures { Adds R.Lined.row_kind (map row_entry rows.now) result (map ref_entry ordered.old.items)
+        (map ref_entry ordered.new.items) }
 {
     match placed_rows::<R>(alloc, rows)? {
         None => Ok(false),

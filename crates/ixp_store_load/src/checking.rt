@@ -42,8 +42,11 @@ fn sort_changes(batch: &mut Vec<Change>)
 
 /// Whether the rows are those that a store has of the state, in the order of their names.
 pub(crate) fn are_rows_of(alloc: Global, state: &State, rows: &[Row]) -> Result<bool, AllocError>
-    ensures same { IfOk result (λ are. IsTrue are → IsPermutation (map set_row (stored_rows state.now)) (map set_row (map row_entry rows.now))) }
-    ensures complete { ValidState state.now → AreAllRows state.now (map row_entry rows.now) → IfOk result (λ are. IsTrue are) }
+    ensures same { IfOk result
+        (λ are. IsTrue are → IsPermutation (map set_row (stored_rows state.now))
+        (map set_row (map row_entry rows.now))) }
+    ensures complete { ValidState state.now → AreAllRows state.now (map row_entry rows.now)
+        → IfOk result (λ are. IsTrue are) }
 {
     let mut batch = whole_batch(alloc, state)?;
     sort_changes(&mut batch);

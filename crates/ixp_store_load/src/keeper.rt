@@ -1,5 +1,19 @@
 //! All rows of a keeper.
-ghost use Rattle.std.specs.Prelude.{◌≡◌, ◌≤◌, ◌<◌, IfOk, IfErr, IsErrOf, Err, IsSome, IfSome, None, length, map, option_map};
+ghost use Rattle.std.specs.Prelude.{
+  ◌≡◌,
+  ◌≤◌,
+  ◌<◌,
+  IfOk,
+  IfErr,
+  IsErrOf,
+  Err,
+  IsSome,
+  IfSome,
+  None,
+  length,
+  map,
+  option_map,
+};
 ghost use Rattle.std.specs.FinMap.{entries, len};
 ghost use Rattle.ixp_io.specs.Faults.{Rose};
 ghost use Rattle.ixp_io.specs.Tables.{row_entry};
@@ -53,17 +67,19 @@ fn is_above(rows: &[Row], row: &Row) -> bool
     }
 }
 
-/// All rows of the keeper in the order of their names, and none; or its first rows, and the name of the row after them, where it
-/// doesn't come after them in the order of names, or would be one too many.
+/// All rows of the keeper in the order of their names, and none; or its first rows, and the name of the row
+/// after them, where it doesn't come after them in the order of names, or would be one too many.
 #[tactic(auto, using(crate::proofs::Reading::none_read, crate::proofs::Reading::all_read, crate::proofs::Reading::more_read, crate::proofs::Reading::never_below, crate::proofs::Reading::too_many))]
 pub(crate) fn read_rows<P: Keeper>(
     alloc: Global,
     keeper: &mut P,
 ) -> Result<(Vec<Row>, Option<RowName>), LoadFault>
     ensures front { IfOk result (λ x. WhereTold (P.table keeper.old) (λ t. IsFront t x.0.items)) }
-    ensures all { IfOk result (λ x. x.1 ≡ None → WhereTold (P.table keeper.old) (λ t. map row_entry x.0.items ≡ entries t)) }
+    ensures all { IfOk result
+        (λ x. x.1 ≡ None → WhereTold (P.table keeper.old) (λ t. map row_entry x.0.items ≡ entries t)) }
     ensures many { IfOk result (λ x. IsSome x.1 → WhereTold (P.table keeper.old) (λ t. 8000000 < len t)) }
-    ensures beyond { IfOk result (λ x. IfSome x.1 (λ name. WhereTold (P.table keeper.old) (λ t. IsOneTooMany t name))) }
+    ensures beyond { IfOk result
+        (λ x. IfSome x.1 (λ name. WhereTold (P.table keeper.old) (λ t. IsOneTooMany t name))) }
     ensures most { IfOk result (λ x. length x.0.items ≤ 8000000) }
     ensures some { IfOk result (λ x. IsSome x.1 → 0 < length x.0.items) }
     ensures faults { IfErr result IsKeepers }

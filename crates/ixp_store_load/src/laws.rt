@@ -13,12 +13,13 @@ ghost use Rattle.ixp_store_words.specs.Answers.{IsLoaded, IsStoreOf, LoadsAll};
 ghost use Rattle.ixp_store_words.specs.Storing.{IsStorable};
 ghost use Rattle.ixp_io.specs.Tables.{Table};
 
-/// States that requests lead to can be loaded again: the first state of a registry is one, and a request to one leaves one, as
-/// long as the count of accepted requests has room.
+/// States that requests lead to can be loaded again: the first state of a registry is one, and a request to
+/// one leaves one, as long as the count of accepted requests has room.
 #[tactic(auto, using(ixp_store_words::proofs::KeepStorable::first_storable, ixp_store_words::proofs::KeepStorable::still_storable))]
 pub fn requests_keep_states_storable()
     ensures first { (r : Registry) → IsStorable (first_state r) }
-    ensures next { (s : State) (e : Entry) → ValidState s → IsStorable s → IsLawful e.edit → s.accepted < 2 ^ 64 - 1 → IsStorable (step s e) }
+    ensures next { (s : State) (e : Entry) → ValidState s → IsStorable s → IsLawful e.edit
+        → s.accepted < 2 ^ 64 - 1 → IsStorable (step s e) }
 {}
 
 /// A store of a valid state has at most 8,000,000 rows.
@@ -27,8 +28,9 @@ pub fn valid_states_have_few_rows()
     ensures { (s : State) → ValidState s → length (stored_rows s) ≤ 8000000 }
 {}
 
-/// The store of a valid state that may be stored is loaded as that state, unless memory runs out or the keeper fails. So what a session has stored
-/// is the state after its last turn.
+/// The store of a valid state that may be stored is loaded as that state, unless memory runs out or the
+/// keeper fails. So what a session has stored is the state after its last turn.
 pub fn stores_are_loaded_as_their_states()
-    ensures { (s : State) (rows : Table) (r : Result State LoadFault) → ValidState s → IsStorable s → IsStoreOf s rows → LoadsAll (Some rows) r → IsLoaded s r }
+    ensures { (s : State) (rows : Table) (r : Result State LoadFault) → ValidState s → IsStorable s
+        → IsStoreOf s rows → LoadsAll (Some rows) r → IsLoaded s r }
 {}

@@ -1,5 +1,27 @@
 //! The state that a keeper's rows are those of.
-ghost use Rattle.std.specs.Prelude.{◌≡◌, ◌≤◌, ◌<◌, ◌^◌, ◌∷◌, ◌↔◌, [], ℕ, List, IfOk, IfErr, IsOk, IfSome, IsErrOf, Err, IsTrue, None, Some, false, true, map};
+ghost use Rattle.std.specs.Prelude.{
+  ◌≡◌,
+  ◌≤◌,
+  ◌<◌,
+  ◌^◌,
+  ◌∷◌,
+  ◌↔◌,
+  [],
+  ℕ,
+  List,
+  IfOk,
+  IfErr,
+  IsOk,
+  IfSome,
+  IsErrOf,
+  Err,
+  IsTrue,
+  None,
+  Some,
+  false,
+  true,
+  map,
+};
 ghost use Rattle.std.specs.List.Sorted.{IsPermutation};
 ghost use Rattle.std.specs.List.{AllByRecursion};
 ghost use Rattle.ixp_io.specs.Faults.{Rose};
@@ -18,11 +40,30 @@ ghost use Rattle.ixp_num_tables.specs.Tables.{Ascends};
 ghost use Rattle.ixp_store_words.specs.Answers.{IsLoaded, IsStoreOf, TellsVersion, empty_registry};
 ghost use Rattle.ixp_store_damage.specs.Loading.{kind_rows};
 ghost use Rattle.ixp_store_damage.specs.Damages.{AreAllRight, TellsRow};
-ghost use Rattle.ixp_store_words.specs.Opening.{AreAllRows, IsFirstOrOf, IsTold, SaysVersion, entry_name, is_count, is_old, is_version};
+ghost use Rattle.ixp_store_words.specs.Opening.{
+  AreAllRows,
+  IsFirstOrOf,
+  IsTold,
+  SaysVersion,
+  entry_name,
+  is_count,
+  is_old,
+  is_version,
+};
 ghost use Rattle.ixp_store_words.specs.Sorting.{Same};
 ghost use Rattle.ixp_store_words.specs.Storing.{AreStorable, IsStorable};
 ghost use Rattle.ixp_store_words.specs.Keeping.{AreKept};
-ghost use Rattle.ixp_store_damage.specs.Walking.{FindsCount, IsCounted, LoadTellsRow, LoadTellsWrong, Reached, TellNoState, TellsFirst, TellsRegistry, TellsWrong};
+ghost use Rattle.ixp_store_damage.specs.Walking.{
+  FindsCount,
+  IsCounted,
+  LoadTellsRow,
+  LoadTellsWrong,
+  Reached,
+  TellNoState,
+  TellsFirst,
+  TellsRegistry,
+  TellsWrong,
+};
 ghost use Rattle.ixp_store_words.specs.declared.fault.LoadFault.TheVariants.{KeeperFault};
 
 use crate::checking::are_rows_of;
@@ -48,7 +89,8 @@ fn is_version(row: &Row) -> bool
 /// The rows behind that of the version, which has to stand first.
 fn after_version(alloc: Global, rows: &[Row]) -> Result<Left<'_>, NoState>
     ensures first { IfOk result (λ left. map row_entry rows.now ≡ version_row ∷ map row_entry left.now) }
-    ensures told { Ascends entry_name (map row_entry rows.now) → IfErr result (TellsFirst (map row_entry rows.now)) }
+    ensures told { Ascends entry_name (map row_entry rows.now)
+        → IfErr result (TellsFirst (map row_entry rows.now)) }
 {
     let Some((row, others)) = rows.split_first() else {
         return Err(missing(alloc, VERSION));
@@ -71,7 +113,8 @@ fn is_count(row: &Row) -> bool
 
 /// How many requests were accepted, by the row that says so.
 fn count_in(rows: &[Row]) -> Option<u64>
-    ensures { (n : ℕ) → n < 2 ^ 64 → kind_rows 20 (map row_entry rows.now) ≡ count_row n ∷ [] → result ≡ Some n }
+    ensures { (n : ℕ) → n < 2 ^ 64 → kind_rows 20 (map row_entry rows.now) ≡ count_row n ∷ []
+        → result ≡ Some n }
 {
     let mut left = rows;
     'rows: while let Some((row, others)) = left.split_first() {
@@ -117,8 +160,10 @@ fn count_told(alloc: Global, rows: &[Row]) -> Result<Option<u64>, AllocError>
 
 /// The count's row has to be the last one.
 fn ends_with_count(alloc: Global, left: Left, count: Option<u64>) -> Result<(), NoState>
-    ensures right { (es : List Entry) → Reached 20 20 es (map row_entry left.now) → IsCounted es count → IsOk result → AreAllRight es }
-    ensures told { (es : List Entry) → Reached 20 20 es (map row_entry left.now) → IsCounted es count → IfErr result (TellsFirst es) }
+    ensures right { (es : List Entry) → Reached 20 20 es (map row_entry left.now) → IsCounted es count
+        → IsOk result → AreAllRight es }
+    ensures told { (es : List Entry) → Reached 20 20 es (map row_entry left.now) → IsCounted es count
+        → IfErr result (TellsFirst es) }
 {
     let Some((row, others)) = left.split_first() else {
         return Err(missing(alloc, COUNT));
@@ -161,7 +206,8 @@ fn joined(alloc: Global, registry: Registry, kept: Table<KeptOwner>, accepted: u
     requires storable { AreStorable kept }
     ensures valid { IfSome result ValidState }
     ensures storable { IfSome result IsStorable }
-    ensures complete { (s : Whole) → ValidState s → registry ≡ s.registry → kept ≡ s.kept → accepted ≡ s.accepted → result ≡ Some s }
+    ensures complete { (s : Whole) → ValidState s → registry ≡ s.registry → kept ≡ s.kept
+        → accepted ≡ s.accepted → result ≡ Some s }
 {
     if !have_owners(&registry.members, &kept) {
         return None;
@@ -180,7 +226,8 @@ fn joined(alloc: Global, registry: Registry, kept: Table<KeptOwner>, accepted: u
 fn told_by(alloc: Global, rows: &[Row]) -> Result<Option<State>, AllocError>
     ensures valid { IfOk result (λ o. IfSome o ValidState) }
     ensures storable { IfOk result (λ o. IfSome o IsStorable) }
-    ensures complete { (s : Whole) → ValidState s → IsStorable s → AreAllRows s (map row_entry rows.now) → IfOk result (λ o. o ≡ Some s) }
+    ensures complete { (s : Whole) → ValidState s → IsStorable s → AreAllRows s (map row_entry rows.now)
+        → IfOk result (λ o. o ≡ Some s) }
 {
     let Some(registry) = registry_told(alloc, rows)? else {
         return Ok(None);
@@ -196,7 +243,8 @@ fn told_by(alloc: Global, rows: &[Row]) -> Result<Option<State>, AllocError>
 
 /// Why rows are no state's. Those that are each right and break no rule are some state's.
 fn damage_of(alloc: Global, rows: &[Row]) -> NoState
-    ensures { Ascends entry_name (map row_entry rows.now) → TellNoState (map row_entry rows.now) → TellsWrong (map row_entry rows.now) result }
+    ensures { Ascends entry_name (map row_entry rows.now) → TellNoState (map row_entry rows.now)
+        → TellsWrong (map row_entry rows.now) result }
 {
     match sound_rows(alloc, rows) {
         Ok(()) => missing(alloc, VERSION),
@@ -206,8 +254,10 @@ fn damage_of(alloc: Global, rows: &[Row]) -> NoState
 
 /// Goes through the rows in the order of their names up to the first that is wrong.
 fn right_rows(alloc: Global, rows: &[Row]) -> Result<(), NoState>
-    ensures right { Ascends entry_name (map row_entry rows.now) → IsOk result → AreAllRight (map row_entry rows.now) }
-    ensures told { Ascends entry_name (map row_entry rows.now) → IfErr result (TellsFirst (map row_entry rows.now)) }
+    ensures right { Ascends entry_name (map row_entry rows.now) → IsOk result
+        → AreAllRight (map row_entry rows.now) }
+    ensures told { Ascends entry_name (map row_entry rows.now)
+        → IfErr result (TellsFirst (map row_entry rows.now)) }
 {
     let left = after_version(alloc, rows)?;
     let left = registry_rows(alloc, left)?;
@@ -218,9 +268,12 @@ fn right_rows(alloc: Global, rows: &[Row]) -> Result<(), NoState>
 
 /// Goes through the rows, and then through the rules of their registry, up to the first fault.
 fn sound_rows(alloc: Global, rows: &[Row]) -> Result<(), NoState>
-    ensures right { Ascends entry_name (map row_entry rows.now) → IsOk result → AreAllRight (map row_entry rows.now) }
-    ensures sound { Ascends entry_name (map row_entry rows.now) → IsOk result → TellsRegistry (map row_entry rows.now) }
-    ensures told { Ascends entry_name (map row_entry rows.now) → IfErr result (TellsWrong (map row_entry rows.now)) }
+    ensures right { Ascends entry_name (map row_entry rows.now) → IsOk result
+        → AreAllRight (map row_entry rows.now) }
+    ensures sound { Ascends entry_name (map row_entry rows.now) → IsOk result
+        → TellsRegistry (map row_entry rows.now) }
+    ensures told { Ascends entry_name (map row_entry rows.now)
+        → IfErr result (TellsWrong (map row_entry rows.now)) }
 {
     right_rows(alloc, rows)?;
     sound_registry(alloc, rows)
@@ -262,8 +315,11 @@ fn empty_registry(alloc: Global) -> Registry
 fn confirmed(alloc: Global, rows: &[Row]) -> Result<Option<State>, AllocError>
     ensures valid { IfOk result (λ o. IfSome o ValidState) }
     ensures storable { IfOk result (λ o. IfSome o IsStorable) }
-    ensures same { IfOk result (λ o. IfSome o (λ s. IsPermutation (map set_row (stored_rows s)) (map set_row (map row_entry rows.now)))) }
-    ensures complete { (s : Whole) → ValidState s → IsStorable s → AreAllRows s (map row_entry rows.now) → IfOk result (λ o. o ≡ Some s) }
+    ensures same { IfOk result
+        (λ o. IfSome o (λ s. IsPermutation (map set_row (stored_rows s))
+        (map set_row (map row_entry rows.now)))) }
+    ensures complete { (s : Whole) → ValidState s → IsStorable s → AreAllRows s (map row_entry rows.now)
+        → IfOk result (λ o. o ≡ Some s) }
 {
     match told_by(alloc, rows)? {
         None => Ok(None),
@@ -281,9 +337,12 @@ fn confirmed(alloc: Global, rows: &[Row]) -> Result<Option<State>, AllocError>
 fn state_of(alloc: Global, rows: &[Row]) -> Result<State, NoState>
     ensures valid { IfOk result ValidState }
     ensures storable { IfOk result IsStorable }
-    ensures same { IfOk result (λ s. IsPermutation (map set_row (stored_rows s)) (map set_row (map row_entry rows.now))) }
-    ensures complete { (s : Whole) → ValidState s → IsStorable s → AreAllRows s (map row_entry rows.now) → IsTold s result }
-    ensures damage { Ascends entry_name (map row_entry rows.now) → IfErr result (TellsWrong (map row_entry rows.now)) }
+    ensures same { IfOk result
+        (λ s. IsPermutation (map set_row (stored_rows s)) (map set_row (map row_entry rows.now))) }
+    ensures complete { (s : Whole) → ValidState s → IsStorable s → AreAllRows s (map row_entry rows.now)
+        → IsTold s result }
+    ensures damage { Ascends entry_name (map row_entry rows.now)
+        → IfErr result (TellsWrong (map row_entry rows.now)) }
 {
     match confirmed(alloc, rows)? {
         Some(state) => Ok(state),
@@ -315,8 +374,10 @@ fn opened(alloc: Global, rows: &[Row], beyond: Option<RowName>) -> Result<State,
     ensures version { SaysVersion result rows.now }
     ensures cause { IsErrOf result KeeperFault → ⊥ }
     ensures nothing { rows.now ≡ [] → beyond ≡ None → IsLoaded (first_state empty_registry) result }
-    ensures complete { (s : Whole) → ValidState s → IsStorable s → AreAllRows s (map row_entry rows.now) → is_old rows.now ≡ false → beyond ≡ None → IsLoaded s result }
-    ensures damage { Ascends entry_name (map row_entry rows.now) → beyond ≡ None → LoadTellsWrong (map row_entry rows.now) result }
+    ensures complete { (s : Whole) → ValidState s → IsStorable s → AreAllRows s (map row_entry rows.now)
+        → is_old rows.now ≡ false → beyond ≡ None → IsLoaded s result }
+    ensures damage { Ascends entry_name (map row_entry rows.now) → beyond ≡ None
+        → LoadTellsWrong (map row_entry rows.now) result }
     ensures last { IfSome beyond (λ name. LoadTellsRow name result) }
 {
     if is_old(rows) {
@@ -343,7 +404,8 @@ pub fn load<P: Keeper>(alloc: Global, keeper: &mut P) -> Result<State, LoadFault
     ensures valid { IfOk result ValidState }
     ensures storable { IfOk result IsStorable }
     ensures state { IfOk result (λ s. WhereTold (P.table keeper.old) (IsStoreOf s)) }
-    ensures complete { (s : Whole) → ValidState s → IsStorable s → P.table keeper.old ≡ Some (tables s) → IsLoaded s result }
+    ensures complete { (s : Whole) → ValidState s → IsStorable s → P.table keeper.old ≡ Some (tables s)
+        → IsLoaded s result }
     ensures nothing { P.table keeper.old ≡ Some empty → IsLoaded (first_state empty_registry) result }
     ensures version { WhereTold (P.table keeper.old) (TellsVersion result) }
     ensures damage { WhereTold (P.table keeper.old) (TellsRow result) }

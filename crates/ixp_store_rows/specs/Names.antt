@@ -77,7 +77,8 @@ floor_row o = (floor_name o.owner, decimal o.floor)
 abbrev pub floor_rows : KeptOwner → List Entry
 floor_rows o = if o.floor == 0 then [] else floor_row o ∷ []
 
--- of kind 19 are the numbers that are kept: the kind of the request, what it is about, and its place among those accepted
+-- of kind 19 are the numbers that are kept: the kind of the request, what it is about, and its place among
+-- those accepted
 abbrev pub subject_text : Subject → List ℕ
 subject_text (about.Number n) = decimal n
 subject_text (about.Pair a b) = decimal a ++ 32 ∷ decimal b

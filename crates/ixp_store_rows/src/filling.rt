@@ -48,7 +48,9 @@ impl From<AllocError> for FillFault {
 
 /// Puts all rows of a state into a keeper without rows, or leaves it as it was.
 pub fn fill<P: Keeper>(alloc: Global, keeper: &mut P, state: &State) -> Result<(), FillFault>
-    ensures filled { OnOk result (Told (P.table keeper.old) (P.table keeper.new) (λ before now. (before ≡ empty) × (now ≡ tables state.now))) }
+    ensures filled { OnOk result
+        (Told (P.table keeper.old) (P.table keeper.new)
+        (λ before now. (before ≡ empty) × (now ≡ tables state.now))) }
     ensures kept { OnErr result (P.table keeper.new ≡ P.table keeper.old) }
     ensures full { IsErrOf result SomeRow → WhereTold (P.table keeper.old) (λ rows. rows ≢ empty) }
     ensures counts { P.faults keeper.old ≤ P.faults keeper.new }

@@ -1,6 +1,17 @@
 //! Rows of what is kept of requests, and of the counts.
 ghost use Rattle.std.specs.Prelude.{◌≡◌, ◌++◌, OnOk, IfOk, None, map, flat_map, decimal};
-ghost use Rattle.ixp_store_rows.specs.Names.{subject_text, kept_name, kept_body, kept_row, kept_rows, floor_name, floor_row, floor_rows, version_row, count_row};
+ghost use Rattle.ixp_store_rows.specs.Names.{
+  subject_text,
+  kept_name,
+  kept_body,
+  kept_row,
+  kept_rows,
+  floor_name,
+  floor_row,
+  floor_rows,
+  version_row,
+  count_row,
+};
 ghost use Rattle.ixp_store_rows.specs.States.{drop_row, set_row};
 
 use crate::keys::put_owner;

@@ -44,7 +44,9 @@ pub fn place_of(kind: Kind) -> u8
 pub trait Stored: Lined {
     /// Adds the text of the row's key.
     fn print_key(&self, out: &mut Vec<u8>) -> Result<(), AllocError>
-        ensures { OnOk result (out.new.items ≡ out.old.items ++ key_text (name_fields Self.Lined.row_kind (Self.Lined.fields Two self.now))) };
+        ensures { OnOk result
+            (out.new.items ≡ out.old.items
+            ++ key_text (name_fields Self.Lined.row_kind (Self.Lined.fields Two self.now))) };
 }
 
 fn put_one(number: u32, out: &mut Vec<u8>) -> Result<(), AllocError>
@@ -76,7 +78,8 @@ pub(crate) fn put_of_family(
     family: Family,
     out: &mut Vec<u8>,
 ) -> Result<(), AllocError>
-    ensures { OnOk result (out.new.items ≡ out.old.items ++ key_text (Number number ∷ Number (version_of family) ∷ [])) }
+    ensures { OnOk result
+        (out.new.items ≡ out.old.items ++ key_text (Number number ∷ Number (version_of family) ∷ [])) }
 {
     put_two(number, version_of(family), out)
 }

@@ -1,8 +1,8 @@
 //! The rows that a store holds of a state.
 //!
-//! `specs/Names.antt` says how each row is named and what its body is: rows of a registry are the lines of its dump, lists and kept
-//! numbers have rows of their own. `specs/States.antt` says which rows a state has; [`whole_batch`] makes all of them, and [`fill`]
-//! puts them into a store that is empty.
+//! `specs/Names.antt` says how each row is named and what its body is: rows of a registry are the lines of
+//! its dump, lists and kept numbers have rows of their own. `specs/States.antt` says which rows a state has;
+//! [`whole_batch`] makes all of them, and [`fill`] puts them into a store that is empty.
 #![tactic(auto)]
 
 mod filling;

@@ -3,7 +3,13 @@ ghost use Rattle.std.specs.Prelude.{◌≡◌, ◌++◌, OnOk, IfOk, map, flat_m
 ghost use Rattle.ixp_num.specs.AddressForms.{version_of};
 ghost use Rattle.ixp_registry.specs.Registries.{bare, prefixes_of, origins_of};
 ghost use Rattle.ixp_registry.specs.Registries.{address_rows as addresses_in};
-ghost use Rattle.ixp_rows_lines.specs.Lines.{interface_line, address_line, line_text, prefix_line, origin_line};
+ghost use Rattle.ixp_rows_lines.specs.Lines.{
+  interface_line,
+  address_line,
+  line_text,
+  prefix_line,
+  origin_line,
+};
 ghost use Rattle.ixp_store_rows.specs.Names.{line_row, list_name, irr_row, origins_row};
 ghost use Rattle.ixp_store_rows.specs.States.{address_rows, rule_rows, set_row};
 
@@ -29,7 +35,9 @@ pub(crate) fn set_interfaces(
     interfaces: &[Interface],
     batch: &mut Vec<Change>,
 ) -> Result<(), AllocError>
-    ensures { OnOk result (batch.new.items ≡ batch.old.items ++ map set_row (map (λ i. line_row (interface_line (bare i))) interfaces.now)) }
+    ensures { OnOk result
+        (batch.new.items ≡ batch.old.items
+        ++ map set_row (map (λ i. line_row (interface_line (bare i))) interfaces.now)) }
 {
     for interface in interfaces {
         batch.push(set_interface(alloc, interface)?)?;
@@ -59,7 +67,9 @@ pub(crate) fn set_address(
     interface: u32,
     address: &IfAddr,
 ) -> Result<Change, AllocError>
-    ensures { IfOk result (λ change. change ≡ set_row (line_row (address_line (record { interface = interface; address = address.now })))) }
+    ensures { IfOk result
+        (λ change. change ≡ set_row
+        (line_row (address_line (record { interface = interface; address = address.now })))) }
 {
     let row = AddressRow {
         interface,
@@ -74,7 +84,9 @@ fn set_column(
     column: &Option<IfAddr>,
     batch: &mut Vec<Change>,
 ) -> Result<(), AllocError>
-    ensures { OnOk result (batch.new.items ≡ batch.old.items ++ map set_row (map (λ a. line_row (address_line a)) (addresses_in interface column.now))) }
+    ensures { OnOk result
+        (batch.new.items ≡ batch.old.items
+        ++ map set_row (map (λ a. line_row (address_line a)) (addresses_in interface column.now))) }
 {
     if let Some(address) = column {
         batch.push(set_address(alloc, interface, address)?)?;
@@ -98,7 +110,8 @@ pub(crate) fn set_addresses(
     interfaces: &[Interface],
     batch: &mut Vec<Change>,
 ) -> Result<(), AllocError>
-    ensures { OnOk result (batch.new.items ≡ batch.old.items ++ map set_row (flat_map address_rows interfaces.now)) }
+    ensures { OnOk result
+        (batch.new.items ≡ batch.old.items ++ map set_row (flat_map address_rows interfaces.now)) }
 {
     for interface in interfaces {
         set_addresses_of(alloc, interface, batch)?;

@@ -12,7 +12,9 @@ use std::alloc::{AllocError, Global};
 
 /// The name of a row.
 pub(crate) fn name_of<R: Stored>(alloc: Global, row: &R) -> Result<RowName, AllocError>
-    ensures { IfOk result (λ name. name ≡ name_of R.Lined.row_kind (name_fields R.Lined.row_kind (R.Lined.fields Two row.now))) }
+    ensures { IfOk result
+        (λ name. name ≡ name_of R.Lined.row_kind
+        (name_fields R.Lined.row_kind (R.Lined.fields Two row.now))) }
 {
     let mut key = Vec::new(alloc);
     row.print_key(&mut key)?;
@@ -35,7 +37,8 @@ fn body_of<R: Lined>(alloc: Global, row: &R) -> Result<Items<u8>, AllocError>
 /// Puts a row into the store.
 #[tactic(auto, unfolding(crate::specs::Names::fields_row))]
 pub fn set_row<R: Stored>(alloc: Global, row: &R) -> Result<Change, AllocError>
-    ensures { IfOk result (λ change. change ≡ set_row (fields_row R.Lined.row_kind (R.Lined.fields Two row.now))) }
+    ensures { IfOk result
+        (λ change. change ≡ set_row (fields_row R.Lined.row_kind (R.Lined.fields Two row.now))) }
 {
     Ok(Change {
         name: name_of(alloc, row)?,
@@ -46,7 +49,8 @@ pub fn set_row<R: Stored>(alloc: Global, row: &R) -> Result<Change, AllocError>
 /// Takes a row out of the store.
 #[tactic(auto, unfolding(crate::specs::Names::fields_row))]
 pub fn drop_row<R: Stored>(alloc: Global, row: &R) -> Result<Change, AllocError>
-    ensures { IfOk result (λ change. change ≡ drop_row (fields_row R.Lined.row_kind (R.Lined.fields Two row.now))) }
+    ensures { IfOk result
+        (λ change. change ≡ drop_row (fields_row R.Lined.row_kind (R.Lined.fields Two row.now))) }
 {
     Ok(Change {
         name: name_of(alloc, row)?,
@@ -60,7 +64,9 @@ pub fn drop_rows<R: Stored>(
     rows: &[R],
     batch: &mut Vec<Change>,
 ) -> Result<(), AllocError>
-    ensures { OnOk result (batch.new.items ≡ batch.old.items ++ map drop_row (map (λ row. fields_row R.Lined.row_kind (R.Lined.fields Two row)) rows.now)) }
+    ensures { OnOk result
+        (batch.new.items ≡ batch.old.items
+        ++ map drop_row (map (λ row. fields_row R.Lined.row_kind (R.Lined.fields Two row)) rows.now)) }
 {
     for row in rows {
         batch.push(drop_row(alloc, row)?)?;
@@ -74,7 +80,9 @@ pub fn set_rows<R: Stored>(
     rows: &[R],
     batch: &mut Vec<Change>,
 ) -> Result<(), AllocError>
-    ensures { OnOk result (batch.new.items ≡ batch.old.items ++ map set_row (map (λ row. fields_row R.Lined.row_kind (R.Lined.fields Two row)) rows.now)) }
+    ensures { OnOk result
+        (batch.new.items ≡ batch.old.items
+        ++ map set_row (map (λ row. fields_row R.Lined.row_kind (R.Lined.fields Two row)) rows.now)) }
 {
     for row in rows {
         batch.push(set_row(alloc, row)?)?;

@@ -47,7 +47,9 @@ impl<R: Stored> Rows for R {
 }
 
 fn drop_address(alloc: Global, interface: u32, address: &IfAddr) -> Result<Change, AllocError>
-    ensures { IfOk result (λ change. change ≡ drop_row (line_row (address_line (record { interface = interface; address = address.now })))) }
+    ensures { IfOk result
+        (λ change. change ≡ drop_row
+        (line_row (address_line (record { interface = interface; address = address.now })))) }
 {
     let row = AddressRow {
         interface,
@@ -62,7 +64,9 @@ fn clear_column(
     column: &Option<IfAddr>,
     batch: &mut Vec<Change>,
 ) -> Result<(), AllocError>
-    ensures { OnOk result (batch.new.items ≡ batch.old.items ++ map drop_row (map (λ a. line_row (address_line a)) (addresses_in interface column.now))) }
+    ensures { OnOk result
+        (batch.new.items ≡ batch.old.items
+        ++ map drop_row (map (λ a. line_row (address_line a)) (addresses_in interface column.now))) }
 {
     if let Some(address) = column {
         batch.push(drop_address(alloc, interface, address)?)?;

@@ -2,7 +2,18 @@
 ghost use Rattle.std.specs.Prelude.{◌≡◌, ◌++◌, OnOk, IfOk, map};
 ghost use Rattle.std.specs.FinMap.{empty};
 ghost use Rattle.ixp_io.specs.Tables.{changed};
-ghost use Rattle.ixp_store_rows.specs.States.{people_rows, port_rows, interface_rows, list_rows, bogon_rows, origin_rows, registry_rows, stored_rows, set_row, tables};
+ghost use Rattle.ixp_store_rows.specs.States.{
+  people_rows,
+  port_rows,
+  interface_rows,
+  list_rows,
+  bogon_rows,
+  origin_rows,
+  registry_rows,
+  stored_rows,
+  set_row,
+  tables,
+};
 
 use crate::kept::{set_all_kept, set_count, set_floors, set_version};
 use crate::lists::{set_addresses, set_all_irr, set_all_origins, set_all_rules, set_interfaces};

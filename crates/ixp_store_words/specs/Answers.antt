@@ -49,8 +49,8 @@ IsLoaded s (Err KeeperFault) = Unit {0}
 IsLoaded s (Err NoMemory) = Unit {0}
 IsLoaded s (Err fault) = ⊥
 
--- What can be loaded is: the rows of a state that requests lead to as that state, and no row as the first state of the registry
--- without rows.
+-- What can be loaded is: the rows of a state that requests lead to as that state, and no row as the first
+-- state of the registry without rows.
 pub record LoadsAll (rows : Option Table) (r : Result State LoadFault) : Type 0 where
   pub whole : (s : State) → ValidState s → IsStorable s → rows ≡ Some (tables s) → IsLoaded s r
   pub nothing : rows ≡ Some empty → IsLoaded (first_state empty_registry) r

@@ -1,4 +1,5 @@
--- What is kept of requests, while rows that say so are gathered in any order. Nobody needs to believe these: they serve proofs.
+-- What is kept of requests, while rows that say so are gathered in any order. Nobody needs to believe these:
+-- they serve proofs.
 use Rattle.std.specs.Prelude.{◌≡◌, ◌≢◌, ◌⊎◌, ◌<◌, ◌^◌, ℕ, Bool, IsTrue, List, [], ◌∷◌, Option, Some, None}
 use Rattle.std.specs.List.{AllByRecursion}
 use Rattle.ixp_registry.specs.declared.members.Owner.{Owner}

@@ -1,4 +1,5 @@
--- What a list has; lists with the same items, and lists whose keys don't fall. But for `Has` nobody needs to believe these: they serve proofs.
+-- What a list has; lists with the same items, and lists whose keys don't fall. But for `Has` nobody needs to
+-- believe these: they serve proofs.
 use Rattle.std.specs.Prelude.{◌≡◌, ◌⊎◌, ℕ, Bool, false, List, [], ◌∷◌}
 use Rattle.std.specs.Ordering.{is_lt}
 use Rattle.std.specs.List.{AllByRecursion}

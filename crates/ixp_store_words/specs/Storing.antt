@@ -26,7 +26,8 @@ form_of kind.DropRouter = RouterHandle
 form_of kind.PutPublic = SharedList
 form_of other = OneNumber
 
--- a subject of the form: numbers of 32 bits, of which a second one may have to be 4 or 6, a route server's handle, or a public list
+-- a subject of the form: numbers of 32 bits, of which a second one may have to be 4 or 6, a route server's
+-- handle, or a public list
 abbrev pub HasForm : Form → Subject → Type 0
 HasForm OneNumber (about.Number n) = IsNumber n
 HasForm TwoNumbers (about.Pair m n) = IsNumber m × IsNumber n
@@ -47,7 +48,8 @@ KeepsSome o = (o.floor ≢ 0) ⊎ (o.numbers ≢ [])
 abbrev pub AreStorable : List KeptOwner → Type 0
 AreStorable ks = AllByRecursion (λ o. KeepsSome o × AllByRecursion HasSubject o.numbers) ks
 
--- The count has 64 bits, something is kept for each owner who is there, and kept numbers have subjects of their kind.
+-- The count has 64 bits, something is kept for each owner who is there, and kept numbers have subjects of
+-- their kind.
 pub record IsStorable (s : State) : Type 0 where
   pub accepted : s.accepted < 2 ^ 64
   pub some : AllByRecursion KeepsSome s.kept

@@ -1,5 +1,21 @@
 //! What is kept of requests, gathered from rows in any order.
-ghost use Rattle.std.specs.Prelude.{◌≡◌, ◌≢◌, ◌<◌, ◌≤◌, ◌^◌, ◌↔◌, ℕ, [], OnOk, IfOk, IfSome, IsTrue, Some, map, true};
+ghost use Rattle.std.specs.Prelude.{
+  ◌≡◌,
+  ◌≢◌,
+  ◌<◌,
+  ◌≤◌,
+  ◌^◌,
+  ◌↔◌,
+  ℕ,
+  [],
+  OnOk,
+  IfOk,
+  IfSome,
+  IsTrue,
+  Some,
+  map,
+  true,
+};
 ghost use Rattle.std.specs.List.{AllByRecursion};
 ghost use Rattle.ixp_io.specs.Tables.{row_entry};
 ghost use Rattle.ixp_registry.specs.declared.members.Owner.{Owner as By};
@@ -34,7 +50,8 @@ pub const MOST_KEPT: usize = 1024;
 
 /// The owner and the floor that a row says.
 pub fn floor_said(row: &Row) -> Option<(Owner, u64)>
-    ensures { (o : Kept) → IsNumber (owner_number o.owner) → o.floor < 2 ^ 64 → row_entry row.now ≡ floor_row o → result ≡ Some (o.owner, o.floor) }
+    ensures { (o : Kept) → IsNumber (owner_number o.owner) → o.floor < 2 ^ 64
+        → row_entry row.now ≡ floor_row o → result ≡ Some (o.owner, o.floor) }
 {
     match (
         owner_of(row.name.key.as_slice()),
@@ -47,7 +64,8 @@ pub fn floor_said(row: &Row) -> Option<(Owner, u64)>
 
 /// The owner and the number that a row says.
 pub fn number_said(alloc: Global, row: &Row) -> Result<Option<(Owner, KeptNumber)>, AllocError>
-    ensures told { (w : By) (k : Number) → IsNumber (owner_number w) → HasSubject k → k.place < 2 ^ 64 → row_entry row.now ≡ kept_row w k → IfOk result (λ o. o ≡ Some (w, k)) }
+    ensures told { (w : By) (k : Number) → IsNumber (owner_number w) → HasSubject k → k.place < 2 ^ 64
+        → row_entry row.now ≡ kept_row w k → IfOk result (λ o. o ≡ Some (w, k)) }
     ensures subject { IfOk result (λ o. IfSome o (λ x. HasSubject x.1)) }
 {
     let Some((owner, number)) = numbered_of(row.name.key.as_slice()) else {
@@ -107,7 +125,9 @@ fn set_aside(
     owner: Owner,
 ) -> Result<KeptOwner, AllocError>
     ensures row { IfOk result (λ row. row ≡ kept_of (all_of kept.old current) owner) }
-    ensures rest { OnOk result (without kept_owner_key (owner_numbers owner) kept.new ≡ without kept_owner_key (owner_numbers owner) (all_of kept.old current)) }
+    ensures rest { OnOk result
+        (without kept_owner_key (owner_numbers owner) kept.new
+        ≡ without kept_owner_key (owner_numbers owner) (all_of kept.old current)) }
 {
     match current {
         Some(row) => {
@@ -164,7 +184,10 @@ fn together(gathered: Collected) -> Result<Table<KeptOwner>, AllocError>
 
 /// Takes up a floor, where the row says one.
 fn note_floor(alloc: Global, gathered: &mut Collected, row: &Row) -> Result<bool, AllocError>
-    ensures { (o : Kept) → IsNumber (owner_number o.owner) → o.floor < 2 ^ 64 → row_entry row.now ≡ floor_row o → IfOk result (λ done. IsTrue done × (all_in gathered.new ≡ with_floor o.owner o.floor (all_in gathered.old))) }
+    ensures { (o : Kept) → IsNumber (owner_number o.owner) → o.floor < 2 ^ 64
+        → row_entry row.now ≡ floor_row o
+        → IfOk result (λ done. IsTrue done
+        × (all_in gathered.new ≡ with_floor o.owner o.floor (all_in gathered.old))) }
 {
     match floor_said(row) {
         Some((owner, floor)) => {
@@ -177,7 +200,9 @@ fn note_floor(alloc: Global, gathered: &mut Collected, row: &Row) -> Result<bool
 
 /// Takes up a number, where the row says one.
 fn note_number(alloc: Global, gathered: &mut Collected, row: &Row) -> Result<bool, AllocError>
-    ensures { (w : By) (k : Number) → IsNumber (owner_number w) → HasSubject k → k.place < 2 ^ 64 → row_entry row.now ≡ kept_row w k → IfOk result (λ done. IsTrue done × (all_in gathered.new ≡ with_number w k (all_in gathered.old))) }
+    ensures { (w : By) (k : Number) → IsNumber (owner_number w) → HasSubject k → k.place < 2 ^ 64
+        → row_entry row.now ≡ kept_row w k
+        → IfOk result (λ done. IsTrue done × (all_in gathered.new ≡ with_number w k (all_in gathered.old))) }
 {
     match number_said(alloc, row)? {
         Some((owner, number)) => {
@@ -190,7 +215,8 @@ fn note_number(alloc: Global, gathered: &mut Collected, row: &Row) -> Result<boo
 
 /// Takes up what the row says of requests; not where it should say something, and says nothing.
 fn note_row(alloc: Global, gathered: &mut Collected, row: &Row) -> Result<bool, AllocError>
-    ensures { IfOk result (λ done. IsNoted (row_entry row.now) done (all_in gathered.old) (all_in gathered.new)) }
+    ensures { IfOk result
+        (λ done. IsNoted (row_entry row.now) done (all_in gathered.old) (all_in gathered.new)) }
 {
     if row.name.kind == FLOORS {
         note_floor(alloc, gathered, row)
@@ -203,7 +229,8 @@ fn note_row(alloc: Global, gathered: &mut Collected, row: &Row) -> Result<bool, 
 
 /// What the rows say of requests.
 fn gathered(alloc: Global, rows: &[Row]) -> Result<Option<Table<KeptOwner>>, AllocError>
-    ensures { (s : Whole) → ValidState s → IsStorable s → AreAllRows s (map row_entry rows.now) → IfOk result (λ o. o ≡ Some s.kept) }
+    ensures { (s : Whole) → ValidState s → IsStorable s → AreAllRows s (map row_entry rows.now)
+        → IfOk result (λ o. o ≡ Some s.kept) }
 {
     let mut gathered = Collected {
         kept: Table::new(alloc),
@@ -281,7 +308,8 @@ pub fn kept_told(
 ) -> Result<Option<Table<KeptOwner>>, AllocError>
     ensures kept { IfOk result (λ o. IfSome o (AreKept accepted)) }
     ensures storable { IfOk result (λ o. IfSome o AreStorable) }
-    ensures complete { (s : Whole) → ValidState s → IsStorable s → accepted ≡ s.accepted → AreAllRows s (map row_entry rows.now) → IfOk result (λ o. o ≡ Some s.kept) }
+    ensures complete { (s : Whole) → ValidState s → IsStorable s → accepted ≡ s.accepted
+        → AreAllRows s (map row_entry rows.now) → IfOk result (λ o. o ≡ Some s.kept) }
 {
     match gathered(alloc, rows)? {
         Some(kept) => {

@@ -1,5 +1,20 @@
 //! Words of names and bodies.
-ghost use Rattle.std.specs.Prelude.{◌≡◌, ◌<◌, ◌^◌, ◌++◌, ◌∷◌, ℕ, List, Some, IfOk, IfSome, decimal, find as first_with, false, true};
+ghost use Rattle.std.specs.Prelude.{
+  ◌≡◌,
+  ◌<◌,
+  ◌^◌,
+  ◌++◌,
+  ◌∷◌,
+  ℕ,
+  List,
+  Some,
+  IfOk,
+  IfSome,
+  decimal,
+  find as first_with,
+  false,
+  true,
+};
 ghost use Rattle.std.specs.List.{position, AllByRecursion};
 ghost use Rattle.ixp_rows_lines.specs.Fields.{is_break};
 ghost use Rattle.ixp_rows_lines.specs.Lines.{owner_word};
@@ -12,7 +27,11 @@ ghost use Rattle.ixp_registry.specs.Widths.{IsNumber, owner_number};
 ghost use Rattle.ixp_machine_steps.specs.declared.kept.KeptNumber.{KeptNumber as Number};
 ghost use Rattle.ixp_machine_steps.specs.declared.subject.PublicKind.{PublicKind as Shared};
 ghost use Rattle.ixp_machine_steps.specs.declared.subject.Subject.{Subject as About};
-ghost use Rattle.ixp_machine_steps.specs.declared.subject.Subject.TheVariants.{Number as Single, Handle, Public};
+ghost use Rattle.ixp_machine_steps.specs.declared.subject.Subject.TheVariants.{
+  Number as Single,
+  Handle,
+  Public,
+};
 ghost use Rattle.ixp_machine_steps.specs.Subjects.{public_word};
 ghost use Rattle.ixp_store_rows.specs.Names.{key_text, owner_fields, subject_text, kept_body};
 ghost use Rattle.ixp_num_tables.specs.Tables.{same};
@@ -57,8 +76,10 @@ fn behind_one(text: &[u8]) -> &[u8]
 
 /// The bytes up to the first blank or line's end, and those after it; none after it where there is neither.
 pub fn first_word(text: &[u8]) -> (&[u8], &[u8])
-    ensures word { (word rest : List ℕ) → AllByRecursion (λ c. is_break c ≡ false) word → text.now ≡ word ++ 32 ∷ rest → result.0.now ≡ word }
-    ensures rest { (word rest : List ℕ) → AllByRecursion (λ c. is_break c ≡ false) word → text.now ≡ word ++ 32 ∷ rest → result.1.now ≡ rest }
+    ensures word { (word rest : List ℕ) → AllByRecursion (λ c. is_break c ≡ false) word
+        → text.now ≡ word ++ 32 ∷ rest → result.0.now ≡ word }
+    ensures rest { (word rest : List ℕ) → AllByRecursion (λ c. is_break c ≡ false) word
+        → text.now ≡ word ++ 32 ∷ rest → result.1.now ≡ rest }
 {
     let (word, behind) = parted(text);
     (word, behind_one(behind))
@@ -84,7 +105,8 @@ pub fn small_of(text: &[u8]) -> Option<u32>
 }
 
 fn owner_with(word: &[u8], number: &[u8]) -> Option<Owner>
-    ensures { (o : By) → IsNumber (owner_number o) → word.now ≡ owner_word o → number.now ≡ decimal (owner_number o) → result ≡ Some o }
+    ensures { (o : By) → IsNumber (owner_number o) → word.now ≡ owner_word o
+        → number.now ≡ decimal (owner_number o) → result ≡ Some o }
 {
     let Some(number) = small_of(number) else {
         return None;
@@ -110,7 +132,8 @@ pub(crate) fn owner_of(text: &[u8]) -> Option<Owner>
 /// The owner and the number of `staff 1 7`.
 #[tactic(auto, using(crate::proofs::WordTexts::small_unbroken, crate::proofs::WordTexts::owner_unbroken, crate::proofs::WordTexts::numbered_key))]
 pub(crate) fn numbered_of(text: &[u8]) -> Option<(Owner, u64)>
-    ensures { (o : By) (n : ℕ) → IsNumber (owner_number o) → n < 2 ^ 64 → text.now ≡ key_text (owner_fields o) ++ 32 ∷ decimal n → result ≡ Some (o, n) }
+    ensures { (o : By) (n : ℕ) → IsNumber (owner_number o) → n < 2 ^ 64
+        → text.now ≡ key_text (owner_fields o) ++ 32 ∷ decimal n → result ≡ Some (o, n) }
 {
     let (word, rest) = first_word(text);
     let (number, last) = first_word(rest);
@@ -236,7 +259,8 @@ pub(crate) fn form_of(kind: EditKind) -> Form
 /// A number, and the place behind it.
 #[tactic(auto, using(crate::proofs::WordTexts::small_unbroken))]
 fn number_at(text: &[u8]) -> Option<(Subject, u64)>
-    ensures told { (n place : ℕ) → IsNumber n → place < 2 ^ 64 → text.now ≡ decimal n ++ 32 ∷ decimal place → result ≡ Some (Single n, place) }
+    ensures told { (n place : ℕ) → IsNumber n → place < 2 ^ 64 → text.now ≡ decimal n ++ 32 ∷ decimal place
+        → result ≡ Some (Single n, place) }
     ensures form { IfSome result (λ x. HasForm OneNumber x.0) }
 {
     let (word, last) = first_word(text);
@@ -252,7 +276,8 @@ fn number_at(text: &[u8]) -> Option<(Subject, u64)>
 /// Two numbers, and the place behind them.
 #[tactic(auto, using(crate::proofs::WordTexts::small_unbroken, crate::proofs::WordTexts::pair_text))]
 fn pair_at(text: &[u8]) -> Option<(u32, u32, u64)>
-    ensures told { (m n place : ℕ) → IsNumber m → IsNumber n → place < 2 ^ 64 → text.now ≡ (decimal m ++ 32 ∷ decimal n) ++ 32 ∷ decimal place → result ≡ Some (m, n, place) }
+    ensures told { (m n place : ℕ) → IsNumber m → IsNumber n → place < 2 ^ 64
+        → text.now ≡ (decimal m ++ 32 ∷ decimal n) ++ 32 ∷ decimal place → result ≡ Some (m, n, place) }
     ensures small { IfSome result (λ x. IsNumber x.0 × IsNumber x.1) }
 {
     let (word, rest) = first_word(text);
@@ -272,7 +297,8 @@ fn pair_at(text: &[u8]) -> Option<(u32, u32, u64)>
 /// A handle, and the place behind it.
 #[tactic(auto, using(crate::proofs::WordTexts::handle_unbroken))]
 fn handle_at(alloc: Global, text: &[u8]) -> Result<Option<(Subject, u64)>, AllocError>
-    ensures told { (h : List ℕ) (place : ℕ) → is_handle h ≡ true → place < 2 ^ 64 → text.now ≡ h ++ 32 ∷ decimal place → IfOk result (λ o. o ≡ Some (Handle h, place)) }
+    ensures told { (h : List ℕ) (place : ℕ) → is_handle h ≡ true → place < 2 ^ 64
+        → text.now ≡ h ++ 32 ∷ decimal place → IfOk result (λ o. o ≡ Some (Handle h, place)) }
     ensures form { IfOk result (λ o. IfSome o (λ x. HasForm RouterHandle x.0)) }
 {
     let (word, last) = first_word(text);
@@ -287,7 +313,8 @@ fn handle_at(alloc: Global, text: &[u8]) -> Result<Option<(Subject, u64)>, Alloc
 
 /// The word of a public list, and the place behind it.
 fn public_at(text: &[u8]) -> Option<(Subject, u64)>
-    ensures told { (p : Shared) (place : ℕ) → place < 2 ^ 64 → text.now ≡ public_word p ++ 32 ∷ decimal place → result ≡ Some (Public p, place) }
+    ensures told { (p : Shared) (place : ℕ) → place < 2 ^ 64 → text.now ≡ public_word p ++ 32 ∷ decimal place
+        → result ≡ Some (Public p, place) }
     ensures form { IfSome result (λ x. HasForm SharedList x.0) }
 {
     let (word, last) = first_word(text);
@@ -299,7 +326,8 @@ fn public_at(text: &[u8]) -> Option<(Subject, u64)>
 
 /// What an edit is about, and the place behind it.
 fn subject_at(alloc: Global, form: Form, text: &[u8]) -> Result<Option<(Subject, u64)>, AllocError>
-    ensures told { (s : About) (place : ℕ) → HasForm form s → place < 2 ^ 64 → text.now ≡ subject_text s ++ 32 ∷ decimal place → IfOk result (λ o. o ≡ Some (s, place)) }
+    ensures told { (s : About) (place : ℕ) → HasForm form s → place < 2 ^ 64
+        → text.now ≡ subject_text s ++ 32 ∷ decimal place → IfOk result (λ o. o ≡ Some (s, place)) }
     ensures form { IfOk result (λ o. IfSome o (λ x. HasForm form x.0)) }
 {
     match form {
@@ -328,7 +356,8 @@ pub(crate) fn request_of(
     alloc: Global,
     text: &[u8],
 ) -> Result<Option<(EditKind, Subject, u64)>, AllocError>
-    ensures told { (k : Number) → HasSubject k → k.place < 2 ^ 64 → text.now ≡ kept_body k → IfOk result (λ o. o ≡ Some (k.kind, k.subject, k.place)) }
+    ensures told { (k : Number) → HasSubject k → k.place < 2 ^ 64 → text.now ≡ kept_body k
+        → IfOk result (λ o. o ≡ Some (k.kind, k.subject, k.place)) }
     ensures form { IfOk result (λ o. IfSome o (λ x. HasForm (form_of x.0) x.1)) }
 {
     let (word, rest) = first_word(text);

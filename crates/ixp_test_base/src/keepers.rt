@@ -90,7 +90,8 @@ fn a_keeper_gives_its_rows_in_order(rt: HostRuntime) -> Result<(), Fail> {
     Ok(())
 }
 
-// Three batches of one row, where the call with this number fails: how many of them were made, and the count of faults.
+// Three batches of one row, where the call with this number fails: how many of them were made, and the count
+// of faults.
 fn commits(alloc: Global, number: u64) -> Result<(usize, u64), KeepFault> {
     let mut keeper = MemKeeper::new(alloc, Plan::failing(alloc, &[number])?);
     let mut made = 0usize;

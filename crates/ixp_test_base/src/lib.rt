@@ -1,8 +1,9 @@
-//! Tests of the lowest layer: lists, tables of rows, texts, the numbers of the trade, a table of a million ROAs, the outside,
-//! and an RTR cache over it.
+//! Tests of the lowest layer: lists, tables of rows, texts, the numbers of the trade, a table of a million
+//! ROAs, the outside, and an RTR cache over it.
 //!
-//! They stand here and not in the crates that they test, so that each of those is proved once and not once more with its
-//! tests. Each calls what allocates on its happy path, compares with values from outside, or makes a read or a write fail.
+//! They stand here and not in the crates that they test, so that each of those is proved once and not once
+//! more with its tests. Each calls what allocates on its happy path, compares with values from outside, or
+//! makes a read or a write fail.
 #![tactic(auto)]
 
 #[cfg(test)]

@@ -1,4 +1,5 @@
-//! Texts of the standards (RFC 4291 sections 2.2 and 2.3, RFC 5952 sections 1, 2 and 4.2), and places of faults counted by hand.
+//! Texts of the standards (RFC 4291 sections 2.2 and 2.3, RFC 5952 sections 1, 2 and 4.2), and places of
+//! faults counted by hand.
 use ixp_num::{
     NumFault, Pattern, print_addr, print_asn, print_pattern, print_pattern_bounds, print_prefix,
     read_addr, read_asn, read_pattern, read_prefix,

@@ -63,8 +63,8 @@ fn a_source_is_read_whole_in_pieces(rt: HostRuntime) {
     }
 }
 
-// Reads ten bytes by four, where the read with this number fails: the fault, how often the source failed, and how many bytes a
-// second reading gives.
+// Reads ten bytes by four, where the read with this number fails: the fault, how often the source failed, and
+// how many bytes a second reading gives.
 fn reads_again(alloc: Global, number: u64) -> Result<(Option<WholeFault>, u64, usize), WholeFault> {
     let mut input = source(alloc, 10, 4, &[number])?;
     let fault = read_whole(alloc, &mut input, 10).err();
@@ -86,8 +86,8 @@ fn each_read_fails_in_turn(rt: HostRuntime) {
     }
 }
 
-// Writes `count` bytes in pieces of `most`, where the write with this number fails: whether all were written, whether what
-// was written is a first part of them, and its length.
+// Writes `count` bytes in pieces of `most`, where the write with this number fails: whether all were written,
+// whether what was written is a first part of them, and its length.
 fn writes(
     alloc: Global,
     count: usize,

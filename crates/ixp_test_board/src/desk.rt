@@ -1,5 +1,5 @@
-//! A small desk: a lock round a pen and a turn that may be owed. It meets what the pen asks of its caller, and what it asks of
-//! its own callers is nothing.
+//! A small desk: a lock round a pen and a turn that may be owed. It meets what the pen asks of its caller,
+//! and what it asks of its own callers is nothing.
 ghost use Rattle.std.specs.Prelude.{◌≡◌, OnOk, OnErr, MatchBool, length};
 ghost use mathlib.Core.List.{IsPrefix};
 ghost use Rattle.ixp_test_board.specs.Desks.{all_of, EndsWith};
@@ -64,7 +64,8 @@ impl<N: BoardName, W: Publish<Note<Sum<u64>, N>>> Desk<N, W> {
         true
     }
 
-    /// Makes a turn for a seat, which then has seen it. Where memory runs out the turn wasn't made, is owed, or stands.
+    /// Makes a turn for a seat, which then has seen it. Where memory runs out the turn wasn't made, is owed,
+    /// or stands.
     fn submit<R: Wait>(
         &mut self,
         rt: &R,

@@ -11,7 +11,8 @@ use ixp_num_tables::{put, put_number};
 use ixp_rows::{Registry, read_dump};
 use std::alloc::{AllocError, Global};
 
-/// Four members and the router rs1. The interface 5, of the first member, has no session; the second member has no lists.
+/// Four members and the router rs1. The interface 5, of the first member, has no session; the second member
+/// has no lists.
 const LINES: &str = "site 1 0 DEMO
 member 1 65001 connected - A
 member 2 65002 connected - B

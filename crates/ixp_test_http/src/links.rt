@@ -42,7 +42,8 @@ fn put_statuses(out: &mut Vec<u8>, written: &[u8]) -> Result<(), AllocError> {
     Ok(())
 }
 
-// Serves a link that is read in pieces, and tells how it ended, how many requests were answered, how many calls there were, and the replies.
+// Serves a link that is read in pieces, and tells how it ended, how many requests were answered, how many
+// calls there were, and the replies.
 fn told(alloc: Global, text: &str, most: usize) -> Result<Vec<u8>, AllocError> {
     let bytes = Items::from_slice(alloc, text.as_bytes())?;
     let mut source = MemSource::new(bytes, Plan::smooth(alloc)).in_pieces(most.max(1));

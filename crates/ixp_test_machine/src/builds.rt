@@ -1,5 +1,5 @@
-//! Texts of route servers that follow edits: what each kind of edits touches, and that with it made anew they are those of full
-//! generation.
+//! Texts of route servers that follow edits: what each kind of edits touches, and that with it made anew they
+//! are those of full generation.
 ghost use Rattle.std.specs.Prelude.{◌<◌};
 ghost use Rattle.ixp_registry.specs.Valid.{Valid};
 ghost use Rattle.ixp_machine_steps.specs.States.{ValidState};
@@ -114,7 +114,8 @@ fn made_of(alloc: Global, bundle: &Bundle, state: &State, touch: &Touch) -> Resu
     make(alloc, taken)
 }
 
-/// Installs what was touched in a share of the bundle, twice, and compares its texts and those of the bundle with full generation.
+/// Installs what was touched in a share of the bundle, twice, and compares its texts and those of the bundle
+/// with full generation.
 fn put_rebuilt(
     bundle: &Bundle,
     state: &State,
@@ -246,7 +247,8 @@ fn texts_follow_edits(rt: HostRuntime) -> Result<(), Fail> {
     each_is_built(&rt, rt.alloc(), OF_ROUTERS)
 }
 
-/// Two edits of the staff, one after the other: what is pending after both, and after texts of the version between them are installed.
+/// Two edits of the staff, one after the other: what is pending after both, and after texts of the version
+/// between them are installed.
 #[derive(Clone, Copy)]
 struct Pended(Change, Change);
 

@@ -1,5 +1,5 @@
-//! What is decided of a request, as a text: `ok`, `again` and the number, or the code of the refusal and what it carries, if it is one that is told
-//! here.
+//! What is decided of a request, as a text: `ok`, `again` and the number, or the code of the refusal and what
+//! it carries, if it is one that is told here.
 use ixp_machine::Decision;
 use ixp_num_tables::{put, put_number};
 use ixp_registry::{Refusal, RowKey};

@@ -1,8 +1,9 @@
-//! Tests of the machine of edits that no command shows: what edits touch of the routers' texts, after which number a kept one stands, and edits
-//! that no request can be.
+//! Tests of the machine of edits that no command shows: what edits touch of the routers' texts, after which
+//! number a kept one stands, and edits that no request can be.
 //!
-//! The registry is read from the text of a dump (`samples.rt`), and what is told is compared with values worked out by hand from
-//! the rules' sentences. What each kind of edits does, and why each is refused, is told by the cases of `ixp_cases`.
+//! The registry is read from the text of a dump (`samples.rt`), and what is told is compared with values
+//! worked out by hand from the rules' sentences. What each kind of edits does, and why each is refused, is
+//! told by the cases of `ixp_cases`.
 #![tactic(auto)]
 
 #[cfg(test)]

@@ -18,7 +18,8 @@ fn change_at(turn: u64) -> Change {
     }
 }
 
-/// Sends so many requests of the staff, numbered from 1, then the first one again, and asks after which place some of them stand.
+/// Sends so many requests of the staff, numbered from 1, then the first one again, and asks after which place
+/// some of them stand.
 #[derive(Clone, Copy)]
 struct Many(u64);
 

@@ -1,4 +1,5 @@
-//! The rows of a small exchange, as the lines of a dump between its head and its end, and requests to change it.
+//! The rows of a small exchange, as the lines of a dump between its head and its end, and requests to change
+//! it.
 ghost use Rattle.std.specs.Prelude.{◌≡◌};
 ghost use Rattle.std.specs.List.{list_all};
 ghost use Rattle.ixp_num.specs.Families.{same_family};

@@ -1,6 +1,8 @@
-//! Tests of registries that no command shows: dumps that are to be of one version, a VLAN that isn't there, and the demo exchange.
+//! Tests of registries that no command shows: dumps that are to be of one version, a VLAN that isn't there,
+//! and the demo exchange.
 //!
-//! All else that the rules on rows, dumps, the address plan and members' statuses say is told by the cases of `ixp_cases`.
+//! All else that the rules on rows, dumps, the address plan and members' statuses say is told by the cases of
+//! `ixp_cases`.
 #![tactic(auto)]
 
 #[cfg(test)]

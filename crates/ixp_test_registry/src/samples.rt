@@ -37,8 +37,8 @@ fn read(alloc: Global, version: Version, dump: &[u8]) -> Result<Registry, DumpFa
     }
 }
 
-/// Adds what is told of the registry whose dump the text is, or the dump's fault. This is the one function that holds a
-/// registry: each costs the proofs much.
+/// Adds what is told of the registry whose dump the text is, or the dump's fault. This is the one function
+/// that holds a registry: each costs the proofs much.
 fn put_told<A: Asks>(
     alloc: Global,
     version: Version,

@@ -99,7 +99,8 @@ fn told_of_path(rt: &HostRuntime, count: usize, end: &[u8]) -> Result<Vec<u8>, F
     told(rt, text.as_slice())
 }
 
-/// What stands behind a thousand numbers, and what is told: 15 bytes stand before the path, and two for each number.
+/// What stands behind a thousand numbers, and what is told: 15 bytes stand before the path, and two for each
+/// number.
 const ENDS: &[(&[u8], &[u8])] = &[
     (b",1 10.1.0.1 - -", b"E4 2015"),
     (b",01", b"E4 2015"),

@@ -3,8 +3,8 @@ use ixp_num_tables::{put, put_number};
 use ixp_rows::{Registry, read_dump};
 use std::alloc::{AllocError, Global};
 
-/// The rows of an exchange with four members and the router rs1, as the lines of a dump between its head and its end. The
-/// interface 5, of the first member, has no session.
+/// The rows of an exchange with four members and the router rs1, as the lines of a dump between its head and
+/// its end. The interface 5, of the first member, has no session.
 const LINES: &str = "site 1 0 DEMO
 member 1 65001 connected - A
 member 2 65002 connected - B
@@ -59,8 +59,8 @@ pub trait Asks {
     fn put(&self, alloc: Global, registry: &Registry, out: &mut Vec<u8>) -> Result<(), AllocError>;
 }
 
-/// Adds what is told of the registry whose dump the text is. This is the one function that holds a registry: each costs
-/// the proofs much.
+/// Adds what is told of the registry whose dump the text is. This is the one function that holds a registry:
+/// each costs the proofs much.
 fn put_told<A: Asks>(
     alloc: Global,
     dump: &[u8],

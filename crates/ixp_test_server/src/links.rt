@@ -106,7 +106,8 @@ fn door<'a>(alloc: Global, first: &'a Hold, second: &'a Hold) -> Result<HoldDoor
     Ok(HoldDoor::new(links))
 }
 
-/// By links that wait for each other for so many turns: how many of them ended, whether there was a turn in the background, and whether the door failed.
+/// By links that wait for each other for so many turns: how many of them ended, whether there was a turn in
+/// the background, and whether the door failed.
 fn served<R: Threads + Wait + Sync>(
     rt: &R,
     alloc: Global,

@@ -1,5 +1,5 @@
-//! A machine that stops at a call of a disk has the rows of the batches that were told, or these and those of the one in
-//! work.
+//! A machine that stops at a call of a disk has the rows of the batches that were told, or these and those of
+//! the one in work.
 use crate::batches::{shown, step};
 use ixp_io::{KeepFault, Keeper, MemKeeper, Plan};
 use ixp_keeper_sql::SqlKeeper;

@@ -212,7 +212,8 @@ fn an_index_beside_the_table_does_no_harm(rt: HostRuntime) -> Result<(), Fail> {
     Ok(())
 }
 
-/// What a commit is answered, and what a second keeper over the file is, which is asked while the first one has it open.
+/// What a commit is answered, and what a second keeper over the file is, which is asked while the first one
+/// has it open.
 fn second(rt: &HostRuntime, path: &str) -> Result<(Option<KeepFault>, Answers), AllocError> {
     let mut first = FileKeeper::new(rt, path)?;
     let before = commit(rt.alloc(), &mut first, 1).err();

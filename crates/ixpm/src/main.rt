@@ -1,11 +1,11 @@
-//! The program `ixpm`: it makes the objects of the outside over the system, and runs the command that its words are.
+//! The program `ixpm`: it makes the objects of the outside over the system, and runs the command that its
+//! words are.
 #![tactic(auto)]
 
 use ixp_cli::run;
-use ixp_io::{FreeGate, MemDoor, Plan, ReadSource, WriteSink};
+use ixp_io::{ReadSource, WriteSink};
 use ixp_io_net::SystemClock;
 use ixp_keeper_sql::FileKeeper;
-use std::collections::VecDeque;
 use std::process::ExitCode;
 use std::{env, io};
 
@@ -69,9 +69,7 @@ fn command(rt: &HostRuntime, words: &[&str]) -> u8 {
         return 8;
     };
     let mut clock = SystemClock::new(rt);
-    let mut door = MemDoor::new(VecDeque::new(alloc), Plan::smooth(alloc));
     let status = run(
-        rt,
         alloc,
         words,
         &mut input,
@@ -79,8 +77,6 @@ fn command(rt: &HostRuntime, words: &[&str]) -> u8 {
         &mut errors,
         &mut keeper,
         &mut clock,
-        &mut door,
-        &FreeGate,
     );
     keeper.close();
     status

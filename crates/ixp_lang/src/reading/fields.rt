@@ -2,7 +2,23 @@
 ghost use Rattle.std.specs.Prelude.{◌≡◌, ◌==◌, position, take};
 ghost use Rattle.std.specs.List.{list_any};
 ghost use Rattle.ixp_num.specs.Reading.{number_at};
-ghost use Rattle.ixp_lang.specs.RouteReading.{Tells, before_blank, from_blank, after_blank, is_above, first_above, bits_in, halt_place, stop_at, in_path, path_at, route_end, FromHop, FromPath, ReadsRoute};
+ghost use Rattle.ixp_lang.specs.RouteReading.{
+  Tells,
+  before_blank,
+  from_blank,
+  after_blank,
+  is_above,
+  first_above,
+  bits_in,
+  halt_place,
+  stop_at,
+  in_path,
+  path_at,
+  route_end,
+  FromHop,
+  FromPath,
+  ReadsRoute,
+};
 
 use crate::Route;
 use crate::reading::fault::Stop;
@@ -26,8 +42,9 @@ fn at_blank(t: &[u8]) -> (&[u8], &[u8])
     t.split_at(first_blank(t).unwrap_or(t.len()))
 }
 
-/// Whether the number at the front, behind the byte `before`, is above its bound, whatever follows it. One beside a dot is a part
-/// of an IPv4 address and at most 255; one behind a slash is a length, and at most `bits`.
+/// Whether the number at the front, behind the byte `before`, is above its bound, whatever follows it. One
+/// beside a dot is a part of an IPv4 address and at most 255; one behind a slash is a length, and at most
+/// `bits`.
 fn is_above(bits: u8, before: u8, text: &[u8]) -> bool
     ensures { result ≡ is_above bits before (number_at text.now) }
 {
@@ -69,8 +86,8 @@ fn bits_in(front: &[u8]) -> u8
     if has_colon(front) { 128 } else { 32 }
 }
 
-/// The first fault of an address, with which the text begins and which no address goes on at this place: a number above its bound
-/// before it, or the place.
+/// The first fault of an address, with which the text begins and which no address goes on at this place: a
+/// number above its bound before it, or the place.
 fn halt_place(t: &[u8], at: usize) -> usize
     ensures { result ≡ halt_place (take at t.now) at }
 {
