@@ -10,8 +10,9 @@ use crate::fault::InstallFault;
 use crate::making::Made;
 use crate::rows::{PartText, RouterTexts};
 use ixp_compile_text::footer;
-use ixp_num::{Items, Name, Roa};
+use ixp_num::Name;
 use ixp_num_tables::{Held, Table};
+use ixp_roa::RoaTable;
 use std::alloc::{AllocError, Global};
 
 /// The texts of all routers of a registry, part by part, and its ROAs. Only [`Bundle::open`] and
@@ -23,7 +24,7 @@ pub struct Bundle {
     /// How many texts the last installation of a later version made; 0 before the first one.
     pub(crate) made: u64,
     pub(crate) texts: Table<RouterTexts>,
-    pub(crate) roas: Held<Items<Roa>>,
+    pub(crate) roas: Held<RoaTable>,
 }
 
 fn put_each(parts: &[PartText], out: &mut Vec<u8>) -> Result<(), AllocError>
@@ -64,14 +65,14 @@ impl Bundle {
     }
 
     /// The ROAs of the version.
-    pub fn roas(&self) -> &[Roa]
+    pub fn roas(&self) -> &RoaTable
         ensures { result.now ≡ roas_of self.now }
     {
-        self.roas.get().as_slice()
+        self.roas.get()
     }
 
     /// The ROAs of the version, with one more owner.
-    pub fn shared_roas(&self) -> Result<Held<Items<Roa>>, AllocError>
+    pub fn shared_roas(&self) -> Result<Held<RoaTable>, AllocError>
         ensures { IfOk result (λ r. r ≡ roas_of self.now) }
     {
         self.roas.shared()
@@ -103,9 +104,9 @@ impl Bundle {
 
 /// The ROAs that were made, else those that are there.
 fn roas_after(
-    made: &Option<Held<Items<Roa>>>,
-    there: &Held<Items<Roa>>,
-) -> Result<Held<Items<Roa>>, AllocError>
+    made: &Option<Held<RoaTable>>,
+    there: &Held<RoaTable>,
+) -> Result<Held<RoaTable>, AllocError>
     ensures { IfOk result (λ r. r ≡ if_there made.now there.now (λ xs. xs)) }
 {
     match made {

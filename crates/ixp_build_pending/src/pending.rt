@@ -1,5 +1,5 @@
 //! What is pending.
-ghost use Rattle.std.specs.Prelude.{◌≡◌, ◌<◌, ◌++◌, IfOk, OnOk, OnErr, map};
+ghost use Rattle.std.specs.Prelude.{◌≡◌, ◌<◌, ◌==◌, ◌++◌, not, IfOk, OnOk, OnErr, map};
 ghost use Rattle.ixp_build_pending.specs.Pendings.{IsLater, IsListed, IsNoted, IsNothing};
 ghost use Rattle.ixp_build_pending.specs.Rows.{rows_of};
 
@@ -74,6 +74,13 @@ impl Pending {
             self.roas = count;
         }
         Ok(())
+    }
+
+    /// Whether the ROAs are pending.
+    pub fn has_roas(&self) -> bool
+        ensures { result ≡ not (self.now.roas == 0) }
+    {
+        self.roas != 0
     }
 
     /// All that is pending, each text once, those of one router side by side.

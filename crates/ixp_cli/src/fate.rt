@@ -34,6 +34,7 @@ use ixp_eval::{EvalFault, walk};
 use ixp_eval_trial::{SessionRoute, read_session_route};
 use ixp_lang::{Config, Fate, numbered, print_fate};
 use ixp_num::{Cause, Code, Items, Name, Place};
+use ixp_num_tables::Held;
 use ixp_policy::session;
 use ixp_read::{ReadFault, read_config};
 use ixp_registry::Router;
@@ -102,27 +103,32 @@ fn config_of(alloc: Global, text: &[u8]) -> Result<Config, AllocError>
     }
 }
 
-/// A table of the registry's ROAs, with the name by which filters ask it.
+/// A table of ROAs, with the name by which filters ask it.
 fn roas_named(
     alloc: Global,
     name: &[u8],
-    registry: &Registry,
-) -> Result<(Name, RoaTable), AllocError>
+    roas: &Held<RoaTable>,
+) -> Result<(Name, Held<RoaTable>), AllocError>
     requires { is_name name.now ≡ true }
-    ensures { IfOk result (λ t. t ≡ (name.now, registry.now.public.roas)) }
+    ensures { IfOk result (λ t. t ≡ (name.now, roas.now)) }
 {
     let name = Name::new(alloc, name)?;
-    let table = RoaTable::new(alloc, registry.public.roas.as_slice())?;
+    let table = roas.shared()?;
     Ok((name, table))
 }
 
 /// The tables of ROAs that filters ask.
-fn tables_of(alloc: Global, registry: &Registry) -> Result<Items<(Name, RoaTable)>, AllocError>
+fn tables_of(
+    alloc: Global,
+    registry: &Registry,
+) -> Result<Items<(Name, Held<RoaTable>)>, AllocError>
     ensures { IfOk result (λ tables. tables ≡ roa_tables registry.now) }
 {
+    let table = RoaTable::new(alloc, registry.public.roas.as_slice())?;
+    let roas = Held::new(alloc, table)?;
     let mut tables = Items::new(alloc);
-    tables.push(roas_named(alloc, b"roas4", registry)?)?;
-    tables.push(roas_named(alloc, b"roas6", registry)?)?;
+    tables.push(roas_named(alloc, b"roas4", &roas)?)?;
+    tables.push(roas_named(alloc, b"roas6", &roas)?)?;
     Ok(tables)
 }
 

@@ -1,51 +1,13 @@
 -- An edit that is stored.
-use Rattle.std.proofs.Common.{arith, ◌≡◌, inl, inr, ◌<◌, ◌-◌, ◌^◌, ℕ, List, Option, Some, None, refl, sym, ap, subst, ◌∙◌}
-use Rattle.ixp_io.specs.declared.keeper.Change.{Change}
-use Rattle.ixp_io.specs.Tables.{Table, changed}
-use Rattle.ixp_io.specs.Told.{Told, WhereTold}
+use Rattle.std.proofs.Common.{arith, ◌≡◌, ◌<◌, ◌-◌, ◌^◌, ℕ, refl, sym, subst}
 use Rattle.ixp_registry.specs.declared.members.Owner.{Owner}
-use Rattle.ixp_machine_edits.specs.Edits.{IsLawful}
-use Rattle.ixp_machine_steps.specs.Openings.{first_state}
 use Rattle.ixp_machine_steps.specs.declared.state.Entry.{Entry}
 use Rattle.ixp_machine_steps.specs.declared.state.State.{State}
-use Rattle.ixp_machine_steps.specs.States.{ValidState}
 use Rattle.ixp_machine_steps.specs.Steps.{Accepted, step, verdict}
-use Rattle.ixp_machine_steps.proofs.Staying.{still_a_state}
 use Rattle.ixp_machine.specs.declared.decision.Decision.TheVariants as decision
-use Rattle.ixp_machine.specs.declared.preparing.Prepared.{Prepared}
 use Rattle.ixp_machine.specs.Decisions.{Says}
-use Rattle.ixp_machine.specs.Prepared.{prepared}
-use Rattle.ixp_store_rows.specs.States.{tables}
-use Rattle.ixp_store_words.specs.Answers.{IsStoreOf, empty_registry}
-use Rattle.ixp_store_words.specs.Storing.{IsStorable}
-use Rattle.ixp_store_words.proofs.KeepStorable.{still_storable}
 use Rattle.ixp_api_replies.specs.declared.outcome.Outcome.TheVariants.{Done}
 use Rattle.ixp_desk_plain.specs.Turns.{EditTurn, last_edit}
-
--- the state after it is valid
-pub next_valid : (s : State) (e : Entry) (p : Prepared) → ValidState s → IsLawful e.edit → prepared s p ≡ step s e → ValidState (prepared s p)
-next_valid s e p valid lawful is = subst ValidState (sym is) (still_a_state s e valid lawful)
-
--- and can be stored
-pub next_storable : (s : State) (e : Entry) (p : Prepared) → ValidState s → IsStorable s → IsLawful e.edit → s.accepted < 2 ^ 64 - 1 → prepared s p ≡ step s e → IsStorable (prepared s p)
-next_storable s e p valid stores lawful room is = subst IsStorable (sym is) (still_storable s e valid stores lawful room)
-
--- no edit of a registry without rows is accepted, since it has no API key
-refuses_all : (s : State) (e : Entry) → s ≡ first_state empty_registry → verdict s e ≡ Accepted → ⊥
-refuses_all s e is h = let said : verdict (first_state empty_registry) e ≡ Accepted = subst (λ (x : State). verdict x e ≡ Accepted) is h in cc
-
-rows_next : (s : State) (e : Entry) (p : Prepared) (batch : List Change) (rows now : Table) → verdict s e ≡ Accepted → IsStoreOf s rows → now ≡ changed rows batch → changed (tables s) batch ≡ tables (prepared s p) → IsStoreOf (prepared s p) now
-rows_next s e p batch rows now h (inl is) made makes = inl (made ∙ (ap (λ t. changed t batch) is ∙ makes))
-rows_next s e p batch rows now h (inr none) made makes = absurd (refuses_all s e none.1 h)
-
--- the store's rows are the next state's
-pub stored_next :
-    (s : State) (e : Entry) (p : Prepared) (batch : List Change) (t now : Option Table) → verdict s e ≡ Accepted → WhereTold t (IsStoreOf s) → Told t now (λ before after. after ≡ changed before batch)
-    → changed (tables s) batch ≡ tables (prepared s p) → WhereTold now (IsStoreOf (prepared s p))
-stored_next s e p batch None None h stored made makes = tt
-stored_next s e p batch None (Some now) h stored made makes = absurd made
-stored_next s e p batch (Some rows) None h stored made makes = tt
-stored_next s e p batch (Some rows) (Some now) h stored made makes = rows_next s e p batch rows now h stored made makes
 
 -- it is answered as made
 pub made :
@@ -55,5 +17,3 @@ made s e owner s' faults faults' h room is still =
     let greatest : 2 ^ 64 - 1 ≡ last_edit = refl in
     let fewer : s.accepted < last_edit = subst (λ n. s.accepted < n) greatest room in
     ((λ last. let bad : ⊥ = omega (arith, fewer, last) in bad), decision.Accepted owner, subst (λ v. Says e.number v (decision.Accepted owner)) (sym h) (owner, refl), refl, is, still)
-
-pub ruleset kept = (next_valid, next_storable, stored_next)

@@ -10,11 +10,11 @@ ghost use Rattle.ixp_desk_plain.specs.Texts.{FollowsIfAny, TextsFollow};
 ghost use Rattle.ixp_desk_plain.specs.Turns.{AskTurn, AsksClock, EditTurn, TimedTurn, at_second};
 
 use crate::explained::explained;
-use crate::keeping::keep;
 use crate::published::published;
 use crate::texts::{followed, reached_if_any};
 use ixp_api::{Call, Outcome};
 use ixp_build::Texts;
+use ixp_desk_commits::keep;
 use ixp_http_link::Desk;
 use ixp_io::{Clock, KeepFault, Keeper};
 use ixp_machine::{AskFault, Decision, Query, ask, decide, read_edit};

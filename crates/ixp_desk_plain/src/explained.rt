@@ -11,7 +11,9 @@ use ixp_explain_member::{Explanation, member_explanation, staff_explanation};
 use ixp_machine::place_of;
 use ixp_machine_steps::State;
 use ixp_members::rights;
+use ixp_num_tables::Held;
 use ixp_registry::{Owner, Refusal, Registry};
+use ixp_roa::RoaTable;
 use std::alloc::{AllocError, Global};
 
 /// How a request for an explanation ends.
@@ -28,6 +30,14 @@ fn outcome_of(explanation: Result<Explanation, AllocError>) -> Outcome
     }
 }
 
+/// A table of the registry's ROAs.
+fn roas_of(alloc: Global, registry: &Registry) -> Result<Held<RoaTable>, AllocError>
+    ensures { IfOk result (λ t. t ≡ registry.now.public.roas) }
+{
+    let table = RoaTable::new(alloc, registry.public.roas.as_slice())?;
+    Held::new(alloc, table)
+}
+
 /// The explanation of a route to the staff.
 fn told(alloc: Global, registry: &Registry, call: &ExplainCall) -> Outcome
     requires { Valid registry.now }
@@ -35,9 +45,13 @@ fn told(alloc: Global, registry: &Registry, call: &ExplainCall) -> Outcome
         (explanation_outcome
         (staff_explanation registry.now call.now.router call.now.interface call.now.asked.route)) result }
 {
+    let Ok(roas) = roas_of(alloc, registry) else {
+        return Outcome::NoMemory;
+    };
     outcome_of(staff_explanation(
         alloc,
         registry,
+        &roas,
         &call.router,
         call.interface,
         &call.asked.route,
@@ -70,9 +84,13 @@ fn own_told(alloc: Global, registry: &Registry, member: u32, call: &ExplainCall)
         (member_explanation registry.now member call.now.router call.now.interface call.now.asked.route
         call.now.asked.peers)) result }
 {
+    let Ok(roas) = roas_of(alloc, registry) else {
+        return Outcome::NoMemory;
+    };
     outcome_of(member_explanation(
         alloc,
         registry,
+        &roas,
         member,
         &call.router,
         call.interface,

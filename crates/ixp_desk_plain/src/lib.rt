@@ -8,7 +8,6 @@
 
 mod desk;
 mod explained;
-mod keeping;
 mod published;
 mod texts;
 

@@ -26,6 +26,7 @@ use crate::run::run_filter_by;
 use crate::search::{pipe_between, pipe_from};
 use ixp_lang::{Bgp, Config, Fate, Item, Route, Use, Verdict};
 use ixp_num::{Items, Name};
+use ixp_num_tables::Held;
 use ixp_roa::RoaTable;
 use std::alloc::Global;
 
@@ -152,7 +153,7 @@ pub fn walk(
     c: &Config,
     session: &Name,
     route: &Route,
-    roas: &[(Name, RoaTable)],
+    roas: &[(Name, Held<RoaTable>)],
 ) -> Result<Fate, EvalFault>
     ensures { Gives result (walk (config_view c.now) roas.now session.now route.now) }
 {

@@ -5,6 +5,7 @@ ghost use Rattle.ixp_eval_trial.specs.Tables.{AreTables, rows_named, with_table}
 
 use ixp_lang::Groups;
 use ixp_num::{Items, Name, Roa};
+use ixp_num_tables::Held;
 use ixp_roa::RoaTable;
 use std::alloc::{AllocError, Global};
 
@@ -24,7 +25,7 @@ fn grouped(alloc: Global, roas: &[(Name, Roa)]) -> Result<Groups<'_, Roa>, Alloc
 /// Adds a table of these ROAs, where there are any.
 fn add_table(
     alloc: Global,
-    tables: &mut Items<(Name, RoaTable)>,
+    tables: &mut Items<(Name, Held<RoaTable>)>,
     name: &Name,
     rows: &[Roa],
 ) -> Result<(), AllocError>
@@ -33,7 +34,7 @@ fn add_table(
     match rows {
         [] => Ok(()),
         [_, ..] => {
-            let table = RoaTable::new(alloc, rows)?;
+            let table = Held::new(alloc, RoaTable::new(alloc, rows)?)?;
             tables.push((name.copied(alloc)?, table))?;
             Ok(())
         }
@@ -41,7 +42,10 @@ fn add_table(
 }
 
 /// The tables of ROAs by their names, each with the ROAs of its lines. It fails only where memory runs out.
-pub fn tables_of(alloc: Global, roas: &[(Name, Roa)]) -> Result<Items<(Name, RoaTable)>, AllocError>
+pub fn tables_of(
+    alloc: Global,
+    roas: &[(Name, Roa)],
+) -> Result<Items<(Name, Held<RoaTable>)>, AllocError>
     ensures { IfOk result (AreTables roas.now) }
 {
     let mut groups = grouped(alloc, roas)?;

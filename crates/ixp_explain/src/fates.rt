@@ -7,6 +7,7 @@ use crate::report::{ExplainFault, Report};
 use crate::session::{config_of, fate_of, number_told, own_number};
 use ixp_lang::{Config, Route};
 use ixp_num::Name;
+use ixp_num_tables::Held;
 use ixp_roa::RoaTable;
 use std::alloc::Global;
 
@@ -14,7 +15,7 @@ use std::alloc::Global;
 fn explain_by(
     alloc: Global,
     config: &Config,
-    roas: &[(Name, RoaTable)],
+    roas: &[(Name, Held<RoaTable>)],
     interface: u32,
     route: &Route,
 ) -> Result<Report, ExplainFault>
@@ -33,7 +34,7 @@ fn explain_by(
 pub fn explain(
     alloc: Global,
     text: &[u8],
-    roas: &[(Name, RoaTable)],
+    roas: &[(Name, Held<RoaTable>)],
     interface: u32,
     route: &Route,
 ) -> Result<Report, ExplainFault>

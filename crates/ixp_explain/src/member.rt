@@ -21,6 +21,7 @@ use crate::shapes::test_shapes;
 use ixp_eval::{Env, run_filter, session_named};
 use ixp_lang::{Bgp, Config, Fate, Route, Verdict, numbered};
 use ixp_num::{Asn, Items, Name};
+use ixp_num_tables::Held;
 use ixp_roa::RoaTable;
 use std::alloc::{AllocError, Global};
 
@@ -70,7 +71,7 @@ fn passed(
 fn asks(
     alloc: Global,
     config: &Config,
-    roas: &[(Name, RoaTable)],
+    roas: &[(Name, Held<RoaTable>)],
     interface: u32,
     fate: &Fate,
     peers: &[Asn],
@@ -100,7 +101,7 @@ fn asks(
 fn explain_by(
     alloc: Global,
     config: &Config,
-    roas: &[(Name, RoaTable)],
+    roas: &[(Name, Held<RoaTable>)],
     interface: u32,
     route: &Route,
     peers: &[Asn],
@@ -128,7 +129,7 @@ fn explain_by(
 pub fn explain_member(
     alloc: Global,
     text: &[u8],
-    roas: &[(Name, RoaTable)],
+    roas: &[(Name, Held<RoaTable>)],
     interface: u32,
     route: &Route,
     peers: &[Asn],

@@ -21,6 +21,7 @@ use ixp_eval::{session_named, walk};
 use ixp_lang::communities::REFUSED;
 use ixp_lang::{Bgp, Config, Fate, Route, numbered};
 use ixp_num::{Asn, Family, Name};
+use ixp_num_tables::Held;
 use ixp_read::{ReadFault, read_config};
 use ixp_roa::RoaTable;
 use std::alloc::{AllocError, Global};
@@ -59,7 +60,7 @@ fn family_apart(session: Option<&Bgp>, route: &Route) -> Option<Family>
 pub(crate) fn fate_of(
     alloc: Global,
     config: &Config,
-    roas: &[(Name, RoaTable)],
+    roas: &[(Name, Held<RoaTable>)],
     interface: u32,
     route: &Route,
 ) -> Result<Fate, ExplainFault>

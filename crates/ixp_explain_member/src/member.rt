@@ -16,7 +16,9 @@ use ixp_compile_text::part;
 use ixp_explain::{OwnReport, explain_member, print_own, tables_of};
 use ixp_lang::Route;
 use ixp_num::{Asn, Items, Name};
+use ixp_num_tables::Held;
 use ixp_registry::{Handle, Kind, Refusal, Registry, Right, Router, RowKey};
+use ixp_roa::RoaTable;
 use std::alloc::{AllocError, Global};
 
 /// Whether the interface is there, and is the member's.
@@ -55,6 +57,7 @@ fn own_part(
 fn report_of(
     alloc: Global,
     registry: &Registry,
+    roas: &Held<RoaTable>,
     handle: &Name,
     router: &Router,
     interface: u32,
@@ -62,6 +65,7 @@ fn report_of(
     peers: &[Asn],
     text: &[u8],
 ) -> Result<OwnReport, AllocError>
+    requires roas { roas.now ≡ registry.now.public.roas }
     requires valid { Valid registry.now }
     requires there { find router_key handle.now registry.now.routers ≡ Some router.now }
     requires sender { is_some (session registry.now router.now interface) ≡ true }
@@ -72,7 +76,7 @@ fn report_of(
         (λ report. (s : Session) → session registry.now router.now interface ≡ Some s
         → report ≡ own_report_by_rows registry.now router.now s route.now peers.now) }
 {
-    let tables = tables_of(alloc, registry.public.roas.as_slice())?;
+    let tables = tables_of(alloc, roas)?;
     match explain_member(alloc, text, tables.as_slice(), interface, route, peers) {
         Ok(report) => Ok(report),
         Err(fault) => Err(unexplained(fault)),
@@ -83,12 +87,14 @@ fn report_of(
 fn told_by(
     alloc: Global,
     registry: &Registry,
+    roas: &Held<RoaTable>,
     handle: &Name,
     router: &Router,
     interface: u32,
     route: &Route,
     peers: &[Asn],
 ) -> Result<Vec<u8>, AllocError>
+    requires roas { roas.now ≡ registry.now.public.roas }
     requires valid { Valid registry.now }
     requires there { find router_key handle.now registry.now.routers ≡ Some router.now }
     requires sender { is_some (session registry.now router.now interface) ≡ true }
@@ -101,6 +107,7 @@ fn told_by(
     let report = report_of(
         alloc,
         registry,
+        roas,
         handle,
         router,
         interface,
@@ -117,12 +124,14 @@ fn told_by(
 fn told_at(
     alloc: Global,
     registry: &Registry,
+    roas: &Held<RoaTable>,
     handle: &Name,
     router: &Router,
     interface: u32,
     route: &Route,
     peers: &[Asn],
 ) -> Result<Explanation, AllocError>
+    requires roas { roas.now ≡ registry.now.public.roas }
     requires valid { Valid registry.now }
     requires there { find router_key handle.now registry.now.routers ≡ Some router.now }
     ensures { IfOk result
@@ -139,22 +148,27 @@ fn told_at(
             family: router.family,
         }));
     }
-    let text = told_by(alloc, registry, handle, router, interface, route, peers)?;
+    let text = told_by(
+        alloc, registry, roas, handle, router, interface, route, peers,
+    )?;
     Ok(Explanation::Text(Items::from_vec(text)))
 }
 
 /// What becomes of a route that a member announces on its interface to the router with the handle, and the
-/// member's wish for each peer.
+/// member's wish for each peer. The table is that of the registry's ROAs, and may be made once for many
+/// calls.
 pub fn member_explanation(
     alloc: Global,
     registry: &Registry,
+    roas: &Held<RoaTable>,
     member: u32,
     handle: &Name,
     interface: u32,
     route: &Route,
     peers: &[Asn],
 ) -> Result<Explanation, AllocError>
-    requires { Valid registry.now }
+    requires roas { roas.now ≡ registry.now.public.roas }
+    requires valid { Valid registry.now }
     ensures { IfOk result
         (λ e. e ≡ spec.member_explanation registry.now member handle.now interface route.now peers.now) }
 {
@@ -164,7 +178,9 @@ pub fn member_explanation(
         }));
     }
     match registry.routers.find(handle) {
-        Some(router) => told_at(alloc, registry, handle, router, interface, route, peers),
+        Some(router) => told_at(
+            alloc, registry, roas, handle, router, interface, route, peers,
+        ),
         None => Ok(Explanation::Refused(Refusal::Unknown {
             table: Kind::Routers,
             key: RowKey::Handle(Handle::of(handle)),

@@ -17,7 +17,9 @@ use ixp_compile_laws::text_of;
 use ixp_explain::{Report, explain, tables_of};
 use ixp_lang::{Route, print_fate};
 use ixp_num::{Items, Name};
+use ixp_num_tables::Held;
 use ixp_registry::{Refusal, Registry, Router};
+use ixp_roa::RoaTable;
 use std::alloc::{AllocError, Global};
 
 /// The router's text.
@@ -42,12 +44,14 @@ fn text_there(
 fn report_of(
     alloc: Global,
     registry: &Registry,
+    roas: &Held<RoaTable>,
     handle: &Name,
     router: &Router,
     interface: u32,
     route: &Route,
     text: &[u8],
 ) -> Result<Report, AllocError>
+    requires roas { roas.now ≡ registry.now.public.roas }
     requires valid { Valid registry.now }
     requires there { find router_key handle.now registry.now.routers ≡ Some router.now }
     requires sender { is_some (session registry.now router.now interface) ≡ true }
@@ -57,7 +61,7 @@ fn report_of(
         (λ report. (s : Session) → session registry.now router.now interface ≡ Some s
         → report ≡ report_by_rows registry.now router.now s route.now) }
 {
-    let tables = tables_of(alloc, registry.public.roas.as_slice())?;
+    let tables = tables_of(alloc, roas)?;
     match explain(alloc, text, tables.as_slice(), interface, route) {
         Ok(report) => Ok(report),
         Err(fault) => Err(unexplained(fault)),
@@ -68,11 +72,13 @@ fn report_of(
 fn fate_by(
     alloc: Global,
     registry: &Registry,
+    roas: &Held<RoaTable>,
     handle: &Name,
     router: &Router,
     interface: u32,
     route: &Route,
 ) -> Result<Vec<u8>, AllocError>
+    requires roas { roas.now ≡ registry.now.public.roas }
     requires valid { Valid registry.now }
     requires there { find router_key handle.now registry.now.routers ≡ Some router.now }
     requires sender { is_some (session registry.now router.now interface) ≡ true }
@@ -85,6 +91,7 @@ fn fate_by(
     let report = report_of(
         alloc,
         registry,
+        roas,
         handle,
         router,
         interface,
@@ -100,11 +107,13 @@ fn fate_by(
 fn told_at(
     alloc: Global,
     registry: &Registry,
+    roas: &Held<RoaTable>,
     handle: &Name,
     router: &Router,
     interface: u32,
     route: &Route,
 ) -> Result<Explanation, AllocError>
+    requires roas { roas.now ≡ registry.now.public.roas }
     requires valid { Valid registry.now }
     requires there { find router_key handle.now registry.now.routers ≡ Some router.now }
     ensures { IfOk result
@@ -121,23 +130,26 @@ fn told_at(
             family: router.family,
         }));
     }
-    let text = fate_by(alloc, registry, handle, router, interface, route)?;
+    let text = fate_by(alloc, registry, roas, handle, router, interface, route)?;
     Ok(Explanation::Text(Items::from_vec(text)))
 }
 
-/// What becomes of a route that the interface's session brings to the router with the handle.
+/// What becomes of a route that the interface's session brings to the router with the handle. The table is
+/// that of the registry's ROAs, and may be made once for many calls.
 pub fn staff_explanation(
     alloc: Global,
     registry: &Registry,
+    roas: &Held<RoaTable>,
     handle: &Name,
     interface: u32,
     route: &Route,
 ) -> Result<Explanation, AllocError>
-    requires { Valid registry.now }
+    requires roas { roas.now ≡ registry.now.public.roas }
+    requires valid { Valid registry.now }
     ensures { IfOk result (λ e. e ≡ spec.staff_explanation registry.now handle.now interface route.now) }
 {
     match registry.routers.find(handle) {
-        Some(router) => told_at(alloc, registry, handle, router, interface, route),
+        Some(router) => told_at(alloc, registry, roas, handle, router, interface, route),
         None => Ok(Explanation::NoRouter),
     }
 }

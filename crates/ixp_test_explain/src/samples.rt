@@ -7,7 +7,8 @@ use ixp_eval::{CallFault, EvalFault};
 use ixp_explain::{ExplainFault, Report, explain, explain_member, print_own, tables_of};
 use ixp_lang::{Route, print_fate, read_route};
 use ixp_num::{Asn, Family, Name};
-use ixp_num_tables::{put, put_number};
+use ixp_num_tables::{Held, put, put_number};
+use ixp_roa::RoaTable;
 use ixp_rows::{Registry, read_dump};
 use std::alloc::{AllocError, Global};
 
@@ -132,7 +133,8 @@ fn put_told(
     route: &Route,
     out: &mut Vec<u8>,
 ) -> Result<(), AllocError> {
-    let tables = tables_of(alloc, &[])?;
+    let none = Held::new(alloc, RoaTable::new(alloc, &[])?)?;
+    let tables = tables_of(alloc, &none)?;
     let tables = tables.as_slice();
     let Question {
         interface,

@@ -12,9 +12,10 @@ use ixp_build::{Bundle, InstallFault, Made, Pending, make, orders_have_bounds};
 use ixp_build_touches::{Touch, reached_by, touched};
 use ixp_compile_laws::text_of;
 use ixp_machine_steps::State;
-use ixp_num::{Family, Name};
+use ixp_num::{Asn, Family, Name, Prefix, Roa};
 use ixp_num_tables::{Copied, put, put_number};
 use ixp_registry::{Action, Registry, Status, Way};
+use ixp_roa::{RoaTable, validity};
 use std::alloc::{AllocError, Global};
 use std::process::Abort;
 use std::test::Fail;
@@ -64,6 +65,16 @@ fn is_router_full(
     Ok(made.as_slice() == full.as_slice())
 }
 
+/// The table says of the routes to 203.0.113.0/24, from the origin of the sample's ROA and from another one,
+/// what the ROAs say.
+fn asks_all(table: &RoaTable, roas: &[Roa]) -> bool {
+    let Some(net) = Prefix::new(Family::V4, 3_405_803_776, 24) else {
+        return false;
+    };
+    [Asn(65001), Asn(65002)].iter().all(|asn| table.validity(&net, *asn)
+        == validity(roas, &net, *asn))
+}
+
 fn is_full(alloc: Global, bundle: &Bundle, registry: &Registry) -> Result<bool, AllocError>
     requires { Valid registry.now }
 {
@@ -72,7 +83,7 @@ fn is_full(alloc: Global, bundle: &Bundle, registry: &Registry) -> Result<bool, 
             return Ok(false);
         }
     }
-    Ok(bundle.roas() == registry.public.roas.as_slice())
+    Ok(asks_all(bundle.roas(), registry.public.roas.as_slice()))
 }
 
 fn put_full(bundle: &Bundle, registry: &Registry, out: &mut Vec<u8>) -> Result<(), AllocError>

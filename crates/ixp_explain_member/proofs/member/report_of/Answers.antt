@@ -12,7 +12,7 @@ returns-in-Ok c = λ s its.
     own_report c.args.registry.now c.args.handle.now c.args.router.now c.args.interface s c.args.route.now c.requires.valid c.requires.there its c.requires.family c.args.text.now c.args.peers.now c.in-Ok.report
     (c.requires.text s its)
     (subst (λ t. Answers c.args.text.now (λ items. own_explained items t c.args.interface c.args.route.now c.args.peers.now) (Ok c.in-Ok.report))
-    (c.as_slice-2.ensures ∙ (c.in_ok-tables.ensures ∙ ap (λ (x : List Roa). (roas V4, x) ∷ (roas V6, x) ∷ []) c.as_slice.ensures.items))
+    (c.as_slice.ensures ∙ (c.in_ok-tables.ensures ∙ ap (λ (x : List Roa). (roas V4, x) ∷ (roas V6, x) ∷ []) c.requires.roas))
     c.in-Ok.ensures)
 
 pub unexplained-requires : goal.unexplained-requires
@@ -21,5 +21,5 @@ unexplained-requires c =
     own_fault c.args.registry.now c.args.handle.now c.args.router.now c.args.interface its.0 c.args.route.now c.requires.valid c.requires.there its.1 c.requires.family c.args.text.now c.args.peers.now c.in-Err.fault
     (c.requires.text its.0 its.1)
     (subst (λ t. Answers c.args.text.now (λ items. own_explained items t c.args.interface c.args.route.now c.args.peers.now) (Err c.in-Err.fault))
-    (c.as_slice-2.ensures ∙ (c.in_ok-tables.ensures ∙ ap (λ (x : List Roa). (roas V4, x) ∷ (roas V6, x) ∷ []) c.as_slice.ensures.items))
+    (c.as_slice.ensures ∙ (c.in_ok-tables.ensures ∙ ap (λ (x : List Roa). (roas V4, x) ∷ (roas V6, x) ∷ []) c.requires.roas))
     c.in-Err.ensures)

@@ -19,7 +19,7 @@ use std::alloc::Global;
 
 /// Makes an owner's edit that is accepted and stores it, or does neither.
 #[tactic(auto, using(crate::proofs::StoredEdits::kept))]
-pub(crate) fn keep<P: Keeper>(
+pub fn keep<P: Keeper>(
     alloc: Global,
     state: &mut State,
     keeper: &mut P,

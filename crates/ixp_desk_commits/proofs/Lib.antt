@@ -1,0 +1,2 @@
+pub mod StoredEdits
+pub mod KeysAfter
