@@ -12,3 +12,5 @@ pub mod Growing
 pub mod Nearest
 pub mod Keys
 pub mod Marking
+pub mod LongNames
+pub mod Numbers

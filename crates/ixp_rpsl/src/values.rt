@@ -15,8 +15,11 @@ ghost use Rattle.std.specs.Prelude.{
   reverse,
   length,
   IfOk,
+  IfErr,
   OnOk,
   IfSome,
+  MatchOption,
+  true,
   IsTrue,
 };
 ghost use Rattle.std.specs.Option.{option_map};
@@ -29,6 +32,7 @@ ghost use Rattle.ixp_rpsl.specs.Puts.{Puts, parts_of};
 
 use crate::lines::parted;
 use crate::objects::Item;
+use arrayvec::ArrayVec;
 use ixp_num::{Asn, Family, Items, Name, Prefix, read_prefix};
 use ixp_num_tables::number_upto;
 use std::alloc::{AllocError, Global};
@@ -190,23 +194,36 @@ fn is_set_name(t: &[u8]) -> bool
     Name::is_name(t) && are_name_parts(t)
 }
 
-/// A text in upper case.
-fn upper(alloc: Global, t: &[u8]) -> Result<Vec<u8>, AllocError>
-    ensures { IfOk result (λ u. u.items ≡ map to_ascii_uppercase t.now) }
+/// The most bytes of a set name.
+const MOST: usize = 64;
+
+/// A text in upper case, if it isn't longer than a name.
+fn upper(t: &[u8]) -> Option<ArrayVec<u8, MOST>>
+    ensures { MatchOption result (64 < length t.now) (λ u. u.items ≡ map to_ascii_uppercase t.now) }
 {
-    let mut upper = Vec::with_capacity(alloc, t.len())?;
-    for byte in t {
-        upper.push(byte.to_ascii_uppercase())?;
+    if MOST < t.len() {
+        return None;
     }
-    Ok(upper)
+    let mut upper = ArrayVec::new();
+    let mut left = t;
+    'bytes: while let Some((byte, rest)) = left.split_first() {
+        upper.push(byte.to_ascii_uppercase());
+        left = rest;
+    }
+    Some(upper)
 }
 
 /// The set name that a text is in any case: names of sets, each `AS-` and letters, digits, `-` or `_`, and AS
-/// numbers with colons between them, at least one of them a set's. It is kept in upper case.
+/// numbers with colons between them, at least one of them a set's. It is kept in upper case. Memory runs out
+/// only where the text is a set name.
+#[tactic(auto, using(crate::proofs::LongNames::no_long_name))]
 pub fn read_set_name(alloc: Global, t: &[u8]) -> Result<Option<Name>, AllocError>
-    ensures { IfOk result (λ name. name ≡ spec.set_name t.now) }
+    ensures ok { IfOk result (λ name. name ≡ spec.set_name t.now) }
+    ensures err { IfErr result (λ e. spec.is_set_name (map to_ascii_uppercase t.now) ≡ true) }
 {
-    let upper = upper(alloc, t)?;
+    let Some(upper) = upper(t) else {
+        return Ok(None);
+    };
     if is_set_name(upper.as_slice()) {
         let name = Name::new(alloc, upper.as_slice())?;
         Ok(Some(name))
