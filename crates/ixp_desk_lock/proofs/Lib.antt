@@ -1,0 +1,10 @@
+pub mod Owing
+pub mod OwnTurns
+pub mod Settled
+pub mod Installs
+pub mod Pubs
+pub mod OwnAnswers
+pub mod PresentRoas
+pub mod Beginning
+pub mod PublishLaws
+pub mod Catching

@@ -1,0 +1,8 @@
+use Rattle.ixp_desk_lock.proofs.Catching.{installs_own, ordered_before}
+use Rattle.ixp_desk_lock.proofs.locked.Locked.put_made.Goals as goal
+
+pub install_made-requires-clause-ordered : goal.install_made-requires-clause-ordered
+install_made-requires-clause-ordered g c = ordered_before c.args.made c.args.seat.now c.level.new.seat c.level.new.self c.level.ensures.looks c.in_ok-level.ensures.ok c.requires
+
+pub returns-clause-put : goal.returns-clause-put
+returns-clause-put g c = installs_own c.in_ok-upto.upto c.args.seat.now c.level.new.seat c.install_made.new.seat c.install_made.new.self c.level.ensures.looks c.in_ok-upto.ensures.ok c.in_ok-upto.ensures.level
