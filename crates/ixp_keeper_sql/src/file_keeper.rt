@@ -4,10 +4,14 @@ ghost use Rattle.std.specs.Prelude.{◌≡◌, ◌≤◌, None, IfOk};
 use crate::SqlKeeper;
 use crate::refusals::counted;
 use ixp_io::{Change, KeepFault, Keeper, Row, RowName};
-use sqlite::{Alter, Connection, Error, ErrorCode, File, FileStore};
+use sqlite::{Alter, Error, ErrorCode, File, FileStore, Unknown};
+use sqlite_disk::Files;
+use sqlite_pager::Options;
+use sqlite_std_file::OpenError;
 use sqlite_trees::store::Store;
 use std::alloc::{AllocError, Global};
 use std::fs::OpenOptions;
+use std::hash::{BuildHasher, RandomState};
 use std::os::unix::fs::OpenOptionsExt;
 use std::{fs, io};
 
@@ -43,11 +47,50 @@ impl<S: Alter + Drop> Drop for PathKeeper<S> {
 
 type Opened = SqlKeeper<FileStore<File>>;
 
-// Opens the file, where it isn't open.
-fn opened(rt: &HostRuntime, path: &str, open: Option<Opened>) -> Result<Opened, Error> {
-    match open {
-        Some(keeper) => Ok(keeper),
-        None => Ok(SqlKeeper::adopt(Connection::open(rt, path)?)),
+// The file and its log, locked.
+fn files_at(rt: &HostRuntime, path: &str) -> Result<Files<File>, Error> {
+    match sqlite_std_file::open(rt, path, Unknown) {
+        Ok(files) => Ok(files),
+        Err(OpenError::OutOfMemory) => Err(Error::SqliteFailure(ErrorCode::OutOfMemory)),
+        Err(OpenError::Busy) => Err(Error::SqliteFailure(ErrorCode::DatabaseBusy)),
+        Err(OpenError::Io(error)) => Err(refusal_of(&error)),
+        Err(OpenError::HotJournal) => Err(Error::SqliteFailure(ErrorCode::CannotOpen)),
+    }
+}
+
+/// How many pages that were read are kept in memory at most: 128 MB.
+const MOST_PAGES: u64 = 32768;
+
+/// The size of a page, in most files.
+const PAGE: u64 = 4096;
+
+// How many pages are kept in memory: those of the file.
+fn pages_of(rt: &HostRuntime, path: &str) -> u64 {
+    match fs::metadata(rt, path) {
+        Ok(found) => (found.len() / PAGE).min(MOST_PAGES),
+        Err(_) => 0,
+    }
+}
+
+// With a random number, which a new log gets.
+fn options(rt: &HostRuntime, path: &str) -> Result<Options, Error> {
+    let mut options = match RandomState::new(rt) {
+        Ok(state) => Options::new(state.hash_one(&0u8)),
+        Err(error) => return Err(refusal_of(&error)),
+    };
+    options.cache_pages = options.cache_pages.max(pages_of(rt, path) as usize);
+    Ok(options)
+}
+
+fn open_at(rt: &HostRuntime, path: &str) -> Result<Opened, Error> {
+    let options = options(rt, path)?;
+    let files = files_at(rt, path)?;
+    if !files.may_be_used() {
+        return Err(Error::SqliteFailure(ErrorCode::CannotOpen));
+    }
+    match SqlKeeper::open_files(rt.alloc(), files, options) {
+        Ok(keeper) => Ok(keeper),
+        Err((error, _)) => Err(error),
     }
 }
 
@@ -101,6 +144,16 @@ impl PathKeeper<FileStore<File>> {
         })
     }
 
+    // Opens the file, where it isn't open.
+    fn begin(&mut self) -> Result<(), Error>
+        ensures { self.new.faults ≡ self.old.faults }
+    {
+        if self.open.is_none() {
+            self.open = Some(open_at(&self.rt, self.path.as_str())?);
+        }
+        Ok(())
+    }
+
     /// Copies the log into the file, and lets both go. Where the log can't be copied, the rows stay in the
     /// two of them.
     pub fn close(self) {
@@ -134,17 +187,17 @@ impl Keeper for PathKeeper<FileStore<File>> {
             }
             self.is_absent = false;
         }
-        match opened(&self.rt, self.path.as_str(), self.open.take()) {
-            Ok(mut keeper) => {
-                let done = keeper.commit(alloc, batch);
-                self.open = Some(keeper);
-                if let Err(KeepFault::Failed) = &done {
-                    self.faults += 1;
-                }
-                done
-            }
-            Err(refusal) => Err(counted(&mut self.faults, &refusal)),
+        if let Err(refusal) = self.begin() {
+            return Err(counted(&mut self.faults, &refusal));
         }
+        let done = match &mut self.open {
+            Some(keeper) => keeper.commit(alloc, batch),
+            None => Err(KeepFault::Failed),
+        };
+        if let Err(KeepFault::Failed) = &done {
+            self.faults += 1;
+        }
+        done
     }
 
     fn next_row(
@@ -159,17 +212,17 @@ impl Keeper for PathKeeper<FileStore<File>> {
             self.is_absent = true;
             return Ok(None);
         }
-        match opened(&self.rt, self.path.as_str(), self.open.take()) {
-            Ok(mut keeper) => {
-                let found = keeper.next_row(alloc, after);
-                self.open = Some(keeper);
-                if let Err(KeepFault::Failed) = &found {
-                    self.faults += 1;
-                }
-                found
-            }
-            Err(refusal) => Err(counted(&mut self.faults, &refusal)),
+        if let Err(refusal) = self.begin() {
+            return Err(counted(&mut self.faults, &refusal));
         }
+        let found = match &mut self.open {
+            Some(keeper) => keeper.next_row(alloc, after),
+            None => Err(KeepFault::Failed),
+        };
+        if let Err(KeepFault::Failed) = &found {
+            self.faults += 1;
+        }
+        found
     }
 
     fn faults(&self) -> u64 {

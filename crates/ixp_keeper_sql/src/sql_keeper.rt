@@ -1,11 +1,16 @@
 //! A keeper over an open connection.
-ghost use Rattle.std.specs.Prelude.{◌≡◌, ◌≤◌, None};
+ghost use Rattle.std.specs.Prelude.{◌≡◌, ◌≤◌, None, IfOk, IsTrue};
 
+use crate::opening::{OWN, open_own};
 use crate::refusals::{counted, named};
 use crate::statements::{Statements, ensure_table, prepare_all, read_next, write_batch};
-use crate::trees::{Trees, change_rows, places_in, row_after};
+use crate::trees::{Trees, places_in};
+use crate::walking::row_after;
+use crate::writing::change_rows;
 use ixp_io::{Change, KeepFault, Keeper, Row, RowName};
-use sqlite::{Alter, Connection, Error, ErrorCode};
+use sqlite::{Alter, Connection, Error, ErrorCode, FileStore};
+use sqlite_disk::{Disk, Files};
+use sqlite_pager::Options;
 use sqlite_trees::error::StoreError;
 use std::alloc::Global;
 
@@ -96,7 +101,7 @@ impl<S: Alter + Drop> SqlKeeper<S> {
             return ready;
         }
         if let Some(places) = places_in(&conn) {
-            self.trees = Some(Trees::over(alloc, conn.into_store(), places));
+            self.trees = Some(Trees::over(alloc, conn.into_store(), places, true));
             return Ok(());
         }
         let prepared = prepare_all(&mut conn);
@@ -126,7 +131,7 @@ impl<S: Alter + Drop> SqlKeeper<S> {
     {
         self.begin(alloc)?;
         if let Some(trees) = &mut self.trees {
-            return given(row_after(alloc, trees, after));
+            return given(row_after(trees, after));
         }
         let Some(conn) = &mut self.conn else {
             return Err(CLOSED);
@@ -134,6 +139,56 @@ impl<S: Alter + Drop> SqlKeeper<S> {
         match &self.statements {
             Some(statements) => read_next(conn, statements, after),
             None => Err(CLOSED),
+        }
+    }
+}
+
+/// A keeper over a store that has the table alone.
+fn over_own<S: Alter + Drop>(alloc: Global, store: S) -> SqlKeeper<S>
+    ensures { result.faults ≡ 0 }
+{
+    SqlKeeper {
+        conn: None,
+        statements: None,
+        trees: Some(Trees::over(alloc, store, OWN, false)),
+        faults: 0,
+    }
+}
+
+/// A keeper over files that a connection opens, or makes where there is no database.
+fn over_any<D: Disk + Drop>(
+    alloc: Global,
+    files: Files<D>,
+    options: Options,
+) -> Result<SqlKeeper<FileStore<D>>, (Error, Files<D>)>
+    ensures { IfOk result (λ keeper. keeper.faults ≡ 0) }
+{
+    if !files.may_be_used() {
+        return Err((CLOSED, files));
+    }
+    match Connection::open_files(alloc, files, options) {
+        Ok(conn) => Ok(SqlKeeper::adopt(conn)),
+        Err((error, left)) => Err((error, left.into_files())),
+    }
+}
+
+impl<D: Disk + Drop> SqlKeeper<FileStore<D>> {
+    /// A keeper over these files, whose pages are checked, and which are made a database where they are none.
+    /// That the table and its index agree is tested until the last row is read or the first one is changed.
+    /// An error comes with the files: that of the disk, of memory, or that they hold no sound database.
+    pub fn open_files(
+        alloc: Global,
+        files: Files<D>,
+        options: Options,
+    ) -> Result<SqlKeeper<FileStore<D>>, (Error, Files<D>)>
+        requires log { IsTrue (D.Disk.is_usable files.log) }
+        requires db { IsTrue (D.Disk.is_usable files.db) }
+        ensures { IfOk result
+            (λ keeper. ⟦<SqlKeeper<FileStore<D>> as Keeper>⟧.faults keeper ≡ 0) }
+    {
+        match open_own(alloc, files, options) {
+            Ok(store) => Ok(over_own(alloc, store)),
+            Err(files) => over_any(alloc, files, options),
         }
     }
 }

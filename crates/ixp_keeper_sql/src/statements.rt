@@ -8,7 +8,7 @@ use ixp_num_tables::Items;
 use sqlite::{Alter, Connection, Error, ErrorCode, Statement, Transaction, params};
 
 /// The table. The schema of a database holds this very text.
-const TABLE: &str =
+pub const TABLE: &str =
     "CREATE TABLE entry (kind INTEGER NOT NULL, name BLOB NOT NULL, body BLOB NOT NULL, PRIMARY KEY (kind, name))";
 
 /// How many tables were made by this text.

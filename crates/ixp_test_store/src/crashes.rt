@@ -3,7 +3,7 @@
 use crate::batches::{shown, step};
 use ixp_io::{KeepFault, Keeper, MemKeeper, Plan};
 use ixp_keeper_sql::SqlKeeper;
-use sqlite::{Connection, FileStore, Files, Options};
+use sqlite::{FileStore, Files, Options};
 use sqlite_disk::{Crash, Fuse, Memory};
 use std::alloc::Global;
 use std::test::Fail;
@@ -17,13 +17,13 @@ const BATCHES: u8 = 4;
 /// How many calls of a disk all that is done here makes at most.
 const MOST_CALLS: u64 = 400;
 
-fn open(alloc: Global, files: Files<Stopping>) -> Result<Connection<Store>, Files<Stopping>> {
+fn open(alloc: Global, files: Files<Stopping>) -> Result<SqlKeeper<Store>, Files<Stopping>> {
     if !files.may_be_used() {
         return Err(files);
     }
-    match Connection::open_files(alloc, files, Options::new(1)) {
-        Ok(conn) => Ok(conn),
-        Err((_, left)) => Err(left.into_files()),
+    match SqlKeeper::open_files(alloc, files, Options::new(1)) {
+        Ok(keeper) => Ok(keeper),
+        Err((_, left)) => Err(left),
     }
 }
 
@@ -54,8 +54,8 @@ struct Stopped {
 }
 
 fn run(alloc: Global, files: Files<Stopping>) -> Result<Stopped, KeepFault> {
-    let conn = match open(alloc, files) {
-        Ok(conn) => conn,
+    let mut keeper = match open(alloc, files) {
+        Ok(keeper) => keeper,
         Err(files) => {
             return Ok(Stopped {
                 told: 0,
@@ -64,7 +64,6 @@ fn run(alloc: Global, files: Files<Stopping>) -> Result<Stopped, KeepFault> {
             });
         }
     };
-    let mut keeper = SqlKeeper::adopt(conn);
     let told = commit_all(alloc, &mut keeper, BATCHES);
     let Some(store) = keeper.into_store() else {
         return Err(KeepFault::Failed);
@@ -83,8 +82,7 @@ fn come_back(files: &mut Files<Stopping>) {
 }
 
 // The rows of a database.
-fn rows_in(alloc: Global, conn: Connection<Store>) -> Result<Vec<u8>, KeepFault> {
-    let mut keeper = SqlKeeper::adopt(conn);
+fn rows_in(alloc: Global, mut keeper: SqlKeeper<Store>) -> Result<Vec<u8>, KeepFault> {
     let rows = shown(alloc, &mut keeper);
     if let Some(store) = keeper.into_store() {
         let _files = store.close();
@@ -96,7 +94,7 @@ fn rows_in(alloc: Global, conn: Connection<Store>) -> Result<Vec<u8>, KeepFault>
 fn rows_after(alloc: Global, mut files: Files<Stopping>) -> Result<Vec<u8>, KeepFault> {
     come_back(&mut files);
     match open(alloc, files) {
-        Ok(conn) => rows_in(alloc, conn),
+        Ok(keeper) => rows_in(alloc, keeper),
         Err(_files) => Err(KeepFault::Failed),
     }
 }

@@ -3,6 +3,8 @@ use crate::batches::{change, count, shown, step};
 use ixp_io::{Change, KeepFault, Keeper};
 use ixp_keeper_sql::FileKeeper;
 use sqlite::{Connection, Error, File, FileStore};
+use sqlite_trees::error::StoreError;
+use sqlite_trees::store::{Shape, Store};
 use std::alloc::{AllocError, Global};
 use std::fs;
 use std::os::unix::fs::PermissionsExt;
@@ -64,6 +66,63 @@ fn twenty_thousand_rows_are_loaded(rt: HostRuntime) {
     assert!(rt; filled(&rt, "many.db") == Ok(0));
     assert!(rt; counted(&rt, "many.db") == Ok(20_000));
     clear(&rt, MANY);
+}
+
+// A batch that drops these rows and sets them again, one of them with another body.
+fn again(alloc: Global) -> Result<Vec<Change>, AllocError> {
+    let mut batch = Vec::new(alloc);
+    for number in 0..ROWS {
+        batch.push(change(alloc, 2, number.to_be_bytes().as_slice(), None)?)?;
+    }
+    for number in 0..ROWS {
+        let body = if number == 500 { b"other" } else { b"xxxxx" };
+        let key = number.to_be_bytes();
+        batch.push(change(alloc, 2, key.as_slice(), Some(body.as_slice()))?)?;
+    }
+    Ok(batch)
+}
+
+// The length of the body of the row with the number, and that of the row after it.
+fn lengths<P: Keeper>(alloc: Global, keeper: &mut P, number: u32) -> Result<[usize; 2], KeepFault> {
+    let mut found = [0, 0];
+    let mut last = change(alloc, 2, number.to_be_bytes().as_slice(), None)?.name;
+    for at in 0..2 {
+        if let Some(row) = keeper.next_row(alloc, Some(&last))? {
+            found[at] = row.body.as_slice().len();
+            last = row.name;
+        }
+    }
+    Ok(found)
+}
+
+/// How long two rows are before and after a batch that sets all again, and how many rows there are then.
+type Lengths = ([usize; 2], [usize; 2], u32);
+
+fn put_twice<P: Keeper>(alloc: Global, keeper: &mut P) -> Result<Lengths, KeepFault> {
+    let first = numbered(alloc, 0)?;
+    keeper.commit(alloc, first.as_slice())?;
+    let before = lengths(alloc, keeper, 498)?;
+    let second = again(alloc)?;
+    keeper.commit(alloc, second.as_slice())?;
+    let after = lengths(alloc, keeper, 498)?;
+    Ok((before, after, count(alloc, keeper, 100_000)?))
+}
+
+fn put_again(rt: &HostRuntime, path: &str) -> Result<Lengths, KeepFault> {
+    let mut keeper = FileKeeper::new(rt, path)?;
+    let found = put_twice(rt.alloc(), &mut keeper);
+    keeper.close();
+    found
+}
+
+const AGAIN: Names = ["again.db", "again.db-wal"];
+
+#[test]
+fn rows_that_are_put_again_are_read_anew(rt: HostRuntime) {
+    clear(&rt, AGAIN);
+    let have = put_again(&rt, "again.db");
+    assert!(rt; have == Ok(([80, 80], [5, 5], 1000)), "{have:?}");
+    clear(&rt, AGAIN);
 }
 
 fn commit<P: Keeper>(alloc: Global, keeper: &mut P, number: u8) -> Result<(), KeepFault> {
@@ -186,6 +245,35 @@ fn add_index(rt: &HostRuntime, path: &str) -> Result<(), Error> {
     let made = make_index(&mut conn);
     conn.close()?;
     made
+}
+
+// Takes the row with the rowid 1 out of the table, and leaves its entry in the index.
+fn cut<S: Store>(store: &mut S) -> Result<bool, StoreError> {
+    let Shape::Table = store.shape(0) else {
+        return Ok(false);
+    };
+    store.delete(0, 1)?;
+    store.commit()?;
+    Ok(true)
+}
+
+fn cut_row(rt: &HostRuntime, path: &str) -> Option<bool> {
+    let mut store = Connection::open(rt, path).ok()?.into_store();
+    let done = cut(&mut store);
+    let _files = store.close();
+    done.ok()
+}
+
+const TORN: Names = ["torn.db", "torn.db-wal"];
+
+#[test]
+fn an_index_that_has_no_row_for_an_entry_is_a_fault(rt: HostRuntime) -> Result<(), Fail> {
+    clear(&rt, TORN);
+    assert!(rt; made(&rt, "torn.db", 1).is_ok());
+    assert!(rt; cut_row(&rt, "torn.db") == Some(true));
+    assert!(rt; asked(&rt, "torn.db")? == REFUSED);
+    clear(&rt, TORN);
+    Ok(())
 }
 
 // The rows after two batches, between which someone adds an index.
