@@ -6,11 +6,11 @@ use Rattle.ixp_cli.specs.declared.command.Command.TheVariants.{Ask, Ixf, Restore
 use Rattle.ixp_cli.specs.declared.command.Question.TheVariants.{Export}
 use Rattle.ixp_cli.specs.declared.command.Question.{Question}
 use Rattle.ixp_cli.specs.declared.end.End.{End}
-use Rattle.ixp_cli.specs.declared.end.End.TheVariants.{Done, Usage, BadInput, ReadFault, WriteFault, KeeperFault, NoMemory, UnknownRouter, NotEmpty, Damaged, OldVersion, BadLink}
+use Rattle.ixp_cli.specs.declared.end.End.TheVariants.{Done, Usage, BadInput, BadObjects, ReadFault, WriteFault, KeeperFault, NoMemory, UnknownRouter, NotEmpty, Damaged, OldVersion, BadLink}
 use Rattle.ixp_cli.specs.Checks.{IsNoDump}
 use Rattle.ixp_cli.specs.Restores.{Fills, IsDumpOf, Restores}
-use Rattle.ixp_cli.specs.Runs.{Flow, Outside, Answers, ExportEnds, QuestionEnds, IsAnswered, AsksInVain, IsRefused, IsTold, IsRestored, ReadsAll, ReadsDump, RestoreEnds, Runs, input_limit}
-use Rattle.ixp_cli.proofs.OneAnswer.{one_written, not_refused, not_in_vain, same_registry, is_dump}
+use Rattle.ixp_cli.specs.Runs.{Flow, Outside, Answers, ExportEnds, QuestionEnds, IsAnswered, AsksInVain, HasBadObjects, IsRefused, IsTold, IsRestored, ReadsAll, ReadsDump, RestoreEnds, Runs, input_limit}
+use Rattle.ixp_cli.proofs.OneAnswer.{one_written, not_refused, not_in_vain, not_bad, same_registry, is_dump}
 use Rattle.ixp_registry.specs.declared.registry.Registry.{Registry}
 use Rattle.std.specs.FinMap.{empty}
 use Rattle.ixp_io.specs.Tables.{Table}
@@ -48,6 +48,7 @@ module _ (question : Question) (left answer : List ℕ) (input input' output out
     by_case : IsRefused (λ read why. Answers question read (Err why)) input input' cause → ⊥
     by_case (inl (e, (long, some))) = too_long left input.bytes input'.bytes is long short
     by_case (inr (text, all, told)) = not_refused question left answer cause answers (subst (λ t. Answers question t (Err cause)) (whole text all) told)
+  answered (BadObjects cause) (text, all, bad, same) = not_bad question left answer cause answers (subst (λ t. HasBadObjects question t cause) (whole text all) bad)
   answered ReadFault (rose, some, same) = rose
   answered WriteFault (text, out, all, told, took, rose) = rose
   answered KeeperFault e = absurd e
@@ -99,6 +100,7 @@ module _ (r : Registry) (left : List ℕ) (before after : Outside) (is : before.
     by_case (inl (e, (long, some))) = too_long left before.input.bytes after.input.bytes is long short
     by_case (inr (text, (moves, done, fits), none)) =
         is_dump left r cause dump (subst (λ t. IsNoDump t cause) (read_whole left text before.input.bytes after.input.bytes is moves done) none)
+  restored (BadObjects cause) short e = absurd e
   restored ReadFault short (rose, some, out, kept) = rose
   restored WriteFault short (s, reads, fills, took, rose) = rose
   restored KeeperFault short (s, reads, rose, out, kept) = rose

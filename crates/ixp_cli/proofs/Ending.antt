@@ -8,7 +8,7 @@ use Rattle.ixp_cli.specs.Sessions.{Unloaded, end_by}
 use Rattle.ixp_cli.specs.declared.command.Command.{Command}
 use Rattle.ixp_cli.specs.declared.command.Command.TheVariants.{Ask, Ixf, Restore, Dump, Session, Demo}
 use Rattle.ixp_cli.specs.declared.end.End.{End}
-use Rattle.ixp_cli.specs.declared.end.End.TheVariants.{Done, Usage, BadInput, ReadFault, WriteFault, KeeperFault, NoMemory, UnknownRouter, NotEmpty, Damaged, OldVersion, BadLink}
+use Rattle.ixp_cli.specs.declared.end.End.TheVariants.{Done, Usage, BadInput, BadObjects, ReadFault, WriteFault, KeeperFault, NoMemory, UnknownRouter, NotEmpty, Damaged, OldVersion, BadLink}
 use Rattle.ixp_cli.specs.Restores.{Store}
 use Rattle.ixp_cli.specs.Runs.{Flow, Outside, Ends, NotLoaded, SessionEnds, PlainEnds, PlainRuns, waits, IsStatus, Runs, Tells, status_of, error_text}
 
@@ -58,6 +58,7 @@ of_end None i j k l s u g h end (is, input, output, store, clock) = ((λ _. refl
 of_end (Some c) i j k l s u g h Done e = other_status 0 c (λ h. cc)
 of_end (Some c) i j k l s u g h Usage e = absurd (not_usage c i j k l s u g h e)
 of_end (Some c) i j k l s u g h (BadInput cause) e = other_status 2 c (λ h. cc)
+of_end (Some c) i j k l s u g h (BadObjects cause) e = other_status 2 c (λ h. cc)
 of_end (Some c) i j k l s u g h ReadFault e = other_status 3 c (λ h. cc)
 of_end (Some c) i j k l s u g h WriteFault e = other_status 4 c (λ h. cc)
 of_end (Some c) i j k l s u g h KeeperFault e = other_status 5 c (λ h. cc)
@@ -76,6 +77,7 @@ lawful : (end : End) → IsStatus (Some (status_of end))
 lawful Done = refl
 lawful Usage = refl
 lawful (BadInput cause) = refl
+lawful (BadObjects cause) = refl
 lawful ReadFault = refl
 lawful WriteFault = refl
 lawful KeeperFault = refl

@@ -9,7 +9,7 @@ use Rattle.ixp_eval_trial.specs.declared.fault.TrialFault.{TrialFault}
 use Rattle.ixp_eval_trial.specs.Causes.{cause_of}
 use Rattle.ixp_eval_trial.specs.Trials.{TrialAnswer}
 use Rattle.ixp_cli.specs.declared.end.NoAnswer.{NoAnswer}
-use Rattle.ixp_cli.specs.declared.end.NoAnswer.TheVariants.{Bad, Unknown, NoMemory}
+use Rattle.ixp_cli.specs.declared.end.NoAnswer.TheVariants.{Bad, Unknown, BadObjects, NoMemory}
 use Rattle.ixp_cli.specs.Evals.{IsConfiguration, IsOfOtherFamily, IsNoText, IsNoTrial, IsNoEval, IsRefused}
 use Rattle.ixp_cli.specs.Runs.{Refused, no_answer}
 
@@ -41,9 +41,11 @@ not_taken items input t fault why is refused e = subst (Refused (IsNoTrial items
 pub bad_text : (input : List ℕ) (why : NoAnswer) → Refused (IsNoText input) why → Refused (IsNoEval input) why
 bad_text input (Bad cause) e = inl e
 bad_text input (Unknown router) e = absurd e
+bad_text input (BadObjects cause) e = absurd e
 bad_text input NoMemory e = tt
 
 pub bad_trial : (input : List ℕ) (items : List ItemTree) (why : NoAnswer) → IsConfiguration input items → Refused (IsNoTrial items input) why → Refused (IsNoEval input) why
 bad_trial input items (Bad cause) is e = inr (items, is, e)
 bad_trial input items (Unknown router) is e = absurd e
+bad_trial input items (BadObjects cause) is e = absurd e
 bad_trial input items NoMemory is e = tt

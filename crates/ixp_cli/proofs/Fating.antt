@@ -29,7 +29,7 @@ use Rattle.ixp_eval_trial.specs.Causes.{cause_of}
 use Rattle.ixp_eval_trial.specs.Lines.{lines}
 use Rattle.ixp_eval_trial.specs.SessionRoutes.{SessionRouteAnswer}
 use Rattle.ixp_cli.specs.declared.end.NoAnswer.{NoAnswer}
-use Rattle.ixp_cli.specs.declared.end.NoAnswer.TheVariants.{Bad, Unknown, NoMemory}
+use Rattle.ixp_cli.specs.declared.end.NoAnswer.TheVariants.{Bad, Unknown, BadObjects, NoMemory}
 use Rattle.ixp_cli.specs.Checks.{IsNoDump}
 use Rattle.ixp_cli.specs.Fates.{Fates, HasNoRouter, HasRegistry, HasRoute, IsAstray, IsFate, IsNoFate, IsNoRoute, IsOfSession, HasFate}
 use Rattle.ixp_compile_laws.specs.Texts.{IsTextOf}
@@ -52,11 +52,13 @@ no_route input fault why is e = subst (Refused (IsNoRoute input)) (sym e) (told 
 pub bad_dump : (input : List ℕ) (why : NoAnswer) → Refused (IsNoDump (dump_part input)) why → RefusedOr (IsNoFate input) (HasNoRouter input) why
 bad_dump input (Bad cause) is = inl is
 bad_dump input (Unknown router) is = absurd is
+bad_dump input (BadObjects cause) is = absurd is
 bad_dump input NoMemory is = tt
 
 pub bad_route : (input : List ℕ) (r : Registry) (why : NoAnswer) → HasRegistry input r → Refused (IsNoRoute input) why → RefusedOr (IsNoFate input) (HasNoRouter input) why
 bad_route input r (Bad cause) has is = inr (inl (r, has, is))
 bad_route input r (Unknown router) has is = absurd is
+bad_route input r (BadObjects cause) has is = absurd is
 bad_route input r NoMemory has is = tt
 
 pub not_fated :
@@ -64,6 +66,7 @@ pub not_fated :
     → RefusedOr (IsAstray r route) (λ handle. (handle ≡ route.router) × (find router_key route.router r.routers ≡ None)) why → RefusedOr (IsNoFate input) (HasNoRouter input) why
 not_fated input r route (Bad cause) has said is = inr (inr (r, has, route, said, is))
 not_fated input r route (Unknown router) has said is = (r, has, route, said, is.0, is.1)
+not_fated input r route (BadObjects cause) has said is = absurd is
 not_fated input r route NoMemory has said is = tt
 
 pub fate_is : (input output : List ℕ) (r : Registry) (route : SessionRoute) → HasRegistry input r → HasRoute input (Ok route) → IsFate r route output → Fates input output

@@ -1,6 +1,8 @@
 pub mod Complete
 pub mod Ending
 pub mod Evaluating
+pub mod Expanding
+pub mod Words
 pub mod Fating
 pub mod Generating
 pub mod Inputs

@@ -11,7 +11,7 @@ use Rattle.ixp_machine_steps.specs.declared.state.State.{State}
 use Rattle.ixp_cli.specs.declared.command.Command.{Command}
 use Rattle.ixp_cli.specs.declared.command.Command.TheVariants.{Ask, Ixf, Restore, Dump, Session, Demo}
 use Rattle.ixp_cli.specs.declared.end.End.{End}
-use Rattle.ixp_cli.specs.declared.end.End.TheVariants.{Done, Usage, BadInput, ReadFault, WriteFault, KeeperFault, NoMemory, UnknownRouter, NotEmpty, Damaged, OldVersion, BadLink}
+use Rattle.ixp_cli.specs.declared.end.End.TheVariants.{Done, Usage, BadInput, BadObjects, ReadFault, WriteFault, KeeperFault, NoMemory, UnknownRouter, NotEmpty, Damaged, OldVersion, BadLink}
 use Rattle.ixp_cli.specs.Restores.{Store}
 use Rattle.ixp_cli.specs.Runs.{CanBeLoaded, Flow, Outside, Ends, NotLoaded, SessionEnds, Runs, status_of}
 use Rattle.ixp_cli.specs.Sessions.{Unloaded, end_by}
@@ -94,6 +94,7 @@ is_damage : (end : End) → status_of end ≡ 6 → (x : List ℕ) × (end ≡ D
 is_damage Done e = let bad : 0 ≡ 6 = e in absurd (omega (arith, bad))
 is_damage Usage e = let bad : 1 ≡ 6 = e in absurd (omega (arith, bad))
 is_damage (BadInput cause) e = let bad : 2 ≡ 6 = e in absurd (omega (arith, bad))
+is_damage (BadObjects cause) e = let bad : 2 ≡ 6 = e in absurd (omega (arith, bad))
 is_damage ReadFault e = let bad : 3 ≡ 6 = e in absurd (omega (arith, bad))
 is_damage WriteFault e = let bad : 4 ≡ 6 = e in absurd (omega (arith, bad))
 is_damage KeeperFault e = let bad : 5 ≡ 6 = e in absurd (omega (arith, bad))
@@ -108,6 +109,7 @@ is_version : (end : End) → status_of end ≡ 10 → (x : ℕ) × (end ≡ OldV
 is_version Done e = let bad : 0 ≡ 10 = e in absurd (omega (arith, bad))
 is_version Usage e = let bad : 1 ≡ 10 = e in absurd (omega (arith, bad))
 is_version (BadInput cause) e = let bad : 2 ≡ 10 = e in absurd (omega (arith, bad))
+is_version (BadObjects cause) e = let bad : 2 ≡ 10 = e in absurd (omega (arith, bad))
 is_version ReadFault e = let bad : 3 ≡ 10 = e in absurd (omega (arith, bad))
 is_version WriteFault e = let bad : 4 ≡ 10 = e in absurd (omega (arith, bad))
 is_version KeeperFault e = let bad : 5 ≡ 10 = e in absurd (omega (arith, bad))

@@ -8,7 +8,7 @@ use Rattle.ixp_store_words.specs.declared.fault.LoadFault.{LoadFault}
 use Rattle.ixp_store_words.specs.declared.fault.LoadFault.TheVariants as load
 use Rattle.ixp_machine_steps.specs.declared.state.State.{State}
 use Rattle.ixp_cli.specs.declared.end.End.{End}
-use Rattle.ixp_cli.specs.declared.end.End.TheVariants.{Done, Usage, BadInput, ReadFault, WriteFault, KeeperFault, NoMemory, UnknownRouter, NotEmpty, Damaged, OldVersion, BadLink}
+use Rattle.ixp_cli.specs.declared.end.End.TheVariants.{Done, Usage, BadInput, BadObjects, ReadFault, WriteFault, KeeperFault, NoMemory, UnknownRouter, NotEmpty, Damaged, OldVersion, BadLink}
 use Rattle.ixp_cli.specs.Restores.{Store}
 use Rattle.ixp_cli.specs.Runs.{Flow, NotLoaded, DumpEnds}
 use Rattle.ixp_cli.specs.Sessions.{Unloaded}
@@ -38,6 +38,7 @@ dump_unloaded i j k l s u WriteFault (input, output, rows, (fault, is, cause, ve
 dump_unloaded i j k l s u NoMemory (input, output, rows, (fault, is, cause, version, loads, row)) = (input, output, rows)
 dump_unloaded i j k l s u Usage n = n
 dump_unloaded i j k l s u (BadInput c) n = n
+dump_unloaded i j k l s u (BadObjects c) n = n
 dump_unloaded i j k l s u ReadFault n = n
 dump_unloaded i j k l s u KeeperFault n = n
 dump_unloaded i j k l s u (UnknownRouter r) n = n

@@ -5,7 +5,7 @@ use Rattle.ixp_cli.specs.declared.command.Command.TheVariants.{Ask, Ixf, Restore
 use Rattle.ixp_cli.specs.declared.command.Question.{Question}
 use Rattle.ixp_cli.specs.declared.command.Question.TheVariants.{Export}
 use Rattle.ixp_cli.specs.declared.end.End.{End}
-use Rattle.ixp_cli.specs.declared.end.End.TheVariants.{Done, Usage, BadInput, ReadFault, WriteFault, KeeperFault, NoMemory, UnknownRouter, NotEmpty, Damaged, OldVersion, BadLink}
+use Rattle.ixp_cli.specs.declared.end.End.TheVariants.{Done, Usage, BadInput, BadObjects, ReadFault, WriteFault, KeeperFault, NoMemory, UnknownRouter, NotEmpty, Damaged, OldVersion, BadLink}
 use Rattle.ixp_cli.specs.Checks.{IsNoDump}
 use Rattle.ixp_cli.specs.Restores.{Store}
 use Rattle.ixp_cli.specs.Runs.{Flow, Outside, Answers, Ends, QuestionEnds, RestoreEnds, IsLongEnd, IsRefused, IsTold, ReadsAll, ReadsDump, Runs, input_limit, reads_whole, too_long}
@@ -32,6 +32,7 @@ module _ (question : Question) (left : List ℕ) (input input' output output' : 
     by_case : IsRefused (λ read why. Answers question read (Err why)) input input' cause → cause ≡ too_long
     by_case (inl (is, more)) = is
     by_case (inr (read, all, answer)) = absurd (never read all)
+  long_end (BadObjects cause) (read, all, bad, same) = absurd (never read all)
   long_end ReadFault e = tt
   long_end WriteFault (read, written, all, answer, took, rose) = absurd (never read all)
   long_end KeeperFault e = absurd e
@@ -53,6 +54,7 @@ module _ (left : List ℕ) (input input' output output' : Flow) (store store' : 
     by_case : IsRefused IsNoDump input input' cause → cause ≡ too_long
     by_case (inl (is_long, more)) = is_long
     by_case (inr (read, (moves, done, short), answer)) = absurd (never_all left read input.bytes input'.bytes is long moves done short)
+  long_restore (BadObjects cause) e = absurd e
   long_restore ReadFault e = tt
   long_restore WriteFault (r, reads, fills, took, rose) = absurd (never_dump r reads)
   long_restore KeeperFault (r, reads, rose, out, kept) = absurd (never_dump r reads)

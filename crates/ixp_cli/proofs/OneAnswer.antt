@@ -31,15 +31,17 @@ use Rattle.ixp_eval_trial.specs.Causes as trial
 use Rattle.ixp_eval_trial.specs.Trials.{TrialAnswer}
 use Rattle.ixp_eval_trial.proofs.OneSessionRoute.{one_session_route}
 use Rattle.ixp_eval_trial.proofs.OneTrial.{one_text, one_trial}
+use Rattle.ixp_rpsl_text.specs.declared.fault.ExpandCause.{ExpandCause}
+use Rattle.ixp_rpsl_text.proofs.OneListing as listing
 use Rattle.ixp_cli.specs.declared.command.Question.{Question}
-use Rattle.ixp_cli.specs.declared.command.Question.TheVariants.{Check, Eval, Fate, Generate, Export}
+use Rattle.ixp_cli.specs.declared.command.Question.TheVariants.{Check, Eval, Fate, Generate, Export, Expand}
 use Rattle.ixp_cli.specs.Checks.{Checks, IsNoDump, ok_text}
 use Rattle.ixp_cli.specs.Evals.{Evaluates, IsConfiguration, IsNoEval, IsNoTrial, IsRefused, IsTaken}
 use Rattle.ixp_cli.specs.Exports.{Exports}
 use Rattle.ixp_cli.specs.Fates.{Fates, HasNoRouter, HasRoute, IsFate, IsNoFate, IsStray}
 use Rattle.ixp_cli.specs.Generates.{Generates, IsUnknown}
 use Rattle.ixp_cli.specs.Inputs.{dump_part}
-use Rattle.ixp_cli.specs.Runs.{Answers, AsksInVain}
+use Rattle.ixp_cli.specs.Runs.{Answers, AsksInVain, HasBadObjects}
 use Rattle.ixp_cli.proofs.OneOutput.{one_configuration, one_output, one_route}
 
 -- a fault with a cause isn't running out of memory
@@ -181,6 +183,7 @@ one_written Eval input x y a b = one_output input x y a b
 one_written Fate input x y a b = one_told input x y a b
 one_written (Generate handle) input x y a b = one_generated handle input x y a b
 one_written (Export second) input x y a b = one_export second input x y a b
+one_written (Expand set family which) input x y a b = listing.one_text input set family which x y a b
 
 pub not_refused : (question : Question) (input x : List ℕ) (c : Cause) → Answers question input (Ok x) → ¬ (Answers question input (Err c))
 not_refused Check input x c a none = is_dump input a.registry c a.is_dump none
@@ -188,6 +191,7 @@ not_refused Eval input x c a none = is_evaluated input x c a none
 not_refused Fate input x c a none = is_fated input x c a none
 not_refused (Generate handle) input x c a none = is_dump input a.registry c a.is_dump none
 not_refused (Export second) input x c a none = is_dump input a.registry c a.is_dump none
+not_refused (Expand set family which) input x c a none = none
 
 pub not_in_vain : (question : Question) (input x handle : List ℕ) → Answers question input (Ok x) → ¬ (AsksInVain question input handle)
 not_in_vain Check input x handle a vain = vain
@@ -195,3 +199,12 @@ not_in_vain Eval input x handle a vain = vain
 not_in_vain Fate input x handle a vain = has_router input x handle a vain
 not_in_vain (Generate router) input x handle a vain = is_generated router input x a vain.1
 not_in_vain (Export second) input x handle a vain = vain
+not_in_vain (Expand set family which) input x handle a vain = vain
+
+pub not_bad : (question : Question) (input x : List ℕ) (c : ExpandCause) → Answers question input (Ok x) → ¬ (HasBadObjects question input c)
+not_bad Check input x c a bad = bad
+not_bad Eval input x c a bad = bad
+not_bad Fate input x c a bad = bad
+not_bad (Generate handle) input x c a bad = bad
+not_bad (Export second) input x c a bad = bad
+not_bad (Expand set family which) input x c a bad = listing.text_or_cause input set family which x c a bad

@@ -1,6 +1,7 @@
 pub mod Checks
 pub mod Demos
 pub mod Evals
+pub mod Expansions
 pub mod Exports
 pub mod Fates
 pub mod Generates

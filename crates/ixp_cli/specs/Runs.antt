@@ -15,19 +15,22 @@ use Rattle.ixp_cli.specs.declared.command.Command.TheVariants.{Ask, Ixf, Restore
 use Rattle.ixp_cli.specs.declared.restore.NoDump.{NoDump}
 use Rattle.ixp_cli.specs.declared.restore.NoDump.TheVariants as no
 use Rattle.ixp_cli.specs.declared.command.Question.{Question}
-use Rattle.ixp_cli.specs.declared.command.Question.TheVariants.{Check, Eval, Fate, Generate, Export}
+use Rattle.ixp_cli.specs.declared.command.Question.TheVariants.{Check, Eval, Fate, Generate, Export, Expand}
 use Rattle.ixp_cli.specs.declared.end.End.{End}
-use Rattle.ixp_cli.specs.declared.end.End.TheVariants.{Done, Usage, BadInput, ReadFault, WriteFault, KeeperFault, NoMemory, UnknownRouter, NotEmpty, Damaged, OldVersion, BadLink}
+use Rattle.ixp_cli.specs.declared.end.End.TheVariants.{Done, Usage, BadInput, BadObjects, ReadFault, WriteFault, KeeperFault, NoMemory, UnknownRouter, NotEmpty, Damaged, OldVersion, BadLink}
 use Rattle.ixp_cli.specs.declared.end.NoAnswer.{NoAnswer}
 use Rattle.ixp_cli.specs.declared.end.NoAnswer.TheVariants as answer
 use Rattle.ixp_cli.specs.Checks.{Checks, IsNoDump}
 use Rattle.ixp_cli.specs.Demos.{demo_text, members_in}
 use Rattle.ixp_cli.specs.Evals.{Evaluates, IsNoEval}
+use Rattle.ixp_cli.specs.Expansions.{cause_text_of, expand_with}
 use Rattle.ixp_cli.specs.Exports.{Exports}
 use Rattle.ixp_cli.specs.Fates.{Fates, HasNoRouter, IsNoFate}
 use Rattle.ixp_cli.specs.Generates.{Generates, IsUnknown}
 use Rattle.ixp_api.specs.declared.call.Call.{Call}
 use Rattle.ixp_api_replies.specs.declared.outcome.Outcome.{Outcome}
+use Rattle.ixp_rpsl_text.specs.Listings.{Expands, ExpandsNot}
+use Rattle.ixp_rpsl_text.specs.declared.fault.ExpandCause.{ExpandCause}
 use Rattle.ixp_rows_lines.specs.declared.version.Version.TheVariants.{Two}
 use Rattle.ixp_http_link.specs.declared.ends.Served.{Served}
 use Rattle.ixp_http_link.specs.Links.{Serves}
@@ -63,12 +66,18 @@ abbrev pub IsSized : Option Command → Type 0
 IsSized (Some (Demo members)) = members ≤ 4000
 IsSized command = Unit {0}
 
+-- the command that a word, a set name, a family and a listing are
+abbrev pub command_of : List ℕ → List ℕ → List ℕ → List ℕ → Option Command
+command_of word set family listing = if same word (codes "expand") then option_map Ask (expand_with set family listing) else None
+
 -- the command that words are
 abbrev pub command_in : List (List ℕ) → Option Command
 command_in [] = None
 command_in (word ∷ []) = command_by word
 command_in (word ∷ other ∷ []) = command_with word other
-command_in (word ∷ other ∷ third ∷ words) = None
+command_in (word ∷ other ∷ third ∷ []) = None
+command_in (word ∷ other ∷ third ∷ fourth ∷ []) = command_of word other third fourth
+command_in (word ∷ other ∷ third ∷ fourth ∷ fifth ∷ words) = None
 
 -- the command asks a question
 abbrev pub IsQuestion : Option Command → Type 0
@@ -87,6 +96,8 @@ Answers (Generate handle) input (Ok output) = Generates handle input output
 Answers (Generate handle) input (Err cause) = IsNoDump input cause
 Answers (Export second) input (Ok output) = Exports second input output
 Answers (Export second) input (Err cause) = IsNoDump input cause
+Answers (Expand set family listing) input (Ok output) = Expands input set family listing output
+Answers (Expand set family listing) input (Err cause) = ⊥
 
 -- a question asks for the router with this handle, and the input's registry has none
 abbrev pub AsksInVain : Question → List ℕ → List ℕ → Type 0
@@ -95,17 +106,36 @@ AsksInVain Check input router = ⊥
 AsksInVain Eval input router = ⊥
 AsksInVain Fate input router = HasNoRouter input router
 AsksInVain (Export second) input router = ⊥
+AsksInVain (Expand set family listing) input router = ⊥
+
+-- a question about whois data gets no answer of the input, for this cause
+abbrev pub HasBadObjects : Question → List ℕ → ExpandCause → Type 0
+HasBadObjects (Expand set family listing) input cause = ExpandsNot input set family listing cause
+HasBadObjects Check input cause = ⊥
+HasBadObjects Eval input cause = ⊥
+HasBadObjects Fate input cause = ⊥
+HasBadObjects (Generate handle) input cause = ⊥
+HasBadObjects (Export second) input cause = ⊥
+
+-- why a question gets no answer of an input, or that memory ran out
+abbrev pub IsNoAnswer : Question → List ℕ → NoAnswer → Type 0
+IsNoAnswer question input (answer.Bad cause) = Answers question input (Err cause)
+IsNoAnswer question input (answer.Unknown router) = AsksInVain question input router
+IsNoAnswer question input (answer.BadObjects cause) = HasBadObjects question input cause
+IsNoAnswer question input answer.NoMemory = Unit {0}
 
 -- there is such a cause, or memory ran out
 abbrev pub Refused : (Cause → Type 0) → NoAnswer → Type 0
 Refused why (answer.Bad cause) = why cause
 Refused why (answer.Unknown router) = ⊥
+Refused why (answer.BadObjects cause) = ⊥
 Refused why answer.NoMemory = Unit {0}
 
 -- there is such a cause, or such a router isn't there, or memory ran out
 abbrev pub RefusedOr : (Cause → Type 0) → (List ℕ → Type 0) → NoAnswer → Type 0
 RefusedOr why away (answer.Bad cause) = why cause
 RefusedOr why away (answer.Unknown router) = away router
+RefusedOr why away (answer.BadObjects cause) = ⊥
 RefusedOr why away answer.NoMemory = Unit {0}
 
 -- the cause, or running out of memory where there is none
@@ -118,6 +148,7 @@ abbrev pub status_of : End → ℕ
 status_of Done = 0
 status_of Usage = 1
 status_of (BadInput cause) = 2
+status_of (BadObjects cause) = 2
 status_of ReadFault = 3
 status_of WriteFault = 4
 status_of KeeperFault = 5
@@ -133,6 +164,7 @@ abbrev pub error_text : End → List ℕ
 error_text Done = []
 error_text Usage = codes "ixpm: usage\n"
 error_text (BadInput cause) = codes "ixpm: bad input " ++ (cause_text cause ++ 10 ∷ [])
+error_text (BadObjects cause) = cause_text_of cause
 error_text ReadFault = codes "ixpm: read fault\n"
 error_text WriteFault = codes "ixpm: write fault\n"
 error_text KeeperFault = codes "ixpm: keeper fault\n"
@@ -196,6 +228,8 @@ QuestionEnds question input input' output output' Done =
 QuestionEnds question input input' output output' Usage = ⊥
 QuestionEnds question input input' output output' (BadInput cause) =
     IsRefused (λ read why. Answers question read (Err why)) input input' cause × (output' ≡ output)
+QuestionEnds question input input' output output' (BadObjects cause) =
+    (read : List ℕ) × ReadsAll input input' read × HasBadObjects question read cause × (output' ≡ output)
 QuestionEnds question input input' output output' ReadFault = Rose input.faults input'.faults × ReadsSome input input' × (output' ≡ output)
 QuestionEnds question input input' output output' WriteFault =
     (read written : List ℕ) × ReadsAll input input' read × Answers question read (Ok written) × TakesPart output.bytes output'.bytes written
@@ -224,6 +258,7 @@ RestoreEnds input input' output output' store store' Done =
 RestoreEnds input input' output output' store store' Usage = ⊥
 RestoreEnds input input' output output' store store' (BadInput cause) =
     IsRefused IsNoDump input input' cause × (output' ≡ output) × (store' ≡ store)
+RestoreEnds input input' output output' store store' (BadObjects cause) = ⊥
 RestoreEnds input input' output output' store store' ReadFault =
     Rose input.faults input'.faults × ReadsSome input input' × (output' ≡ output) × (store' ≡ store)
 RestoreEnds input input' output output' store store' WriteFault =

@@ -21,11 +21,12 @@ ghost use Rattle.std.specs.Prelude.{
 ghost use Rattle.ixp_cli.specs.declared.command.Command.TheVariants.{Ask, Demo};
 ghost use Rattle.ixp_cli.specs.declared.command.Question.TheVariants.{Generate as AskFor};
 ghost use Rattle.ixp_cli.specs.Demos.{members_in};
+ghost use Rattle.ixp_cli.specs.Expansions.{IsAsked, expand_with, family_in, listing_in};
 ghost use Rattle.ixp_cli.specs.Restores.{Store};
 ghost use Rattle.ixp_cli.specs.Runs.{
   Answers,
-  AsksInVain,
   Flow,
+  IsNoAnswer,
   IsQuestion,
   IsSized,
   IsStatus,
@@ -33,10 +34,10 @@ ghost use Rattle.ixp_cli.specs.Runs.{
   PlainEnds,
   PlainRuns,
   QuestionEnds,
-  RefusedOr,
   Runs,
   command_by,
   command_in,
+  command_of,
   command_with,
   too_long,
 };
@@ -46,15 +47,18 @@ use crate::demo::run_demo;
 use crate::dump::run_dump;
 use crate::end::{End, NoAnswer, report};
 use crate::eval::eval;
+use crate::expansion::expansion;
 use crate::export::export;
 use crate::fate::fate;
 use crate::generation::router_text;
 use crate::restore::run_restore;
 use crate::session::run_session;
 use ixp_io::{Clock, Keeper, Sink, Source, WholeFault, read_whole, write_all};
-use ixp_num::{Cause, Code, Name, Place};
+use ixp_num::{Cause, Code, Family, Name, Place};
 use ixp_num_tables::number_upto;
 use ixp_registry::is_handle;
+use ixp_rpsl::read_set_name;
+use ixp_rpsl_text::Listing;
 use std::alloc::{AllocError, Global};
 
 /// The greatest number of bytes of an input that is read whole.
@@ -70,9 +74,19 @@ pub enum Question {
     Eval,
     Fate,
     /// The text of the router with the handle.
-    Generate { router: Name },
+    Generate {
+        router: Name,
+    },
     /// The member export, at a second since 1970.
-    Export { second: u64 },
+    Export {
+        second: u64,
+    },
+    /// A listing of the expansion of a set, whose name is in upper case.
+    Expand {
+        set: Name,
+        family: Family,
+        listing: Listing,
+    },
 }
 
 /// A command of the program.
@@ -161,6 +175,83 @@ fn command_with(alloc: Global, word: &[u8], other: &[u8]) -> Result<Option<Comma
     Ok(None)
 }
 
+/// The family whose number a word is.
+fn family_in(word: &[u8]) -> Option<Family>
+    ensures { result ≡ family_in word.now }
+{
+    if word == b"4".as_slice() {
+        Some(Family::V4)
+    } else if word == b"6".as_slice() {
+        Some(Family::V6)
+    } else {
+        None
+    }
+}
+
+/// The listing that a word is.
+fn listing_in(word: &[u8]) -> Option<Listing>
+    ensures { result ≡ listing_in word.now }
+{
+    if word == b"sets".as_slice() {
+        Some(Listing::Sets)
+    } else if word == b"origins".as_slice() {
+        Some(Listing::Origins)
+    } else if word == b"prefixes".as_slice() {
+        Some(Listing::Prefixes)
+    } else {
+        None
+    }
+}
+
+/// The question that a set name in any case, a family and a listing are.
+#[tactic(auto, using(crate::proofs::Expanding::expanding))]
+fn expand_with(
+    alloc: Global,
+    set: &[u8],
+    family: &[u8],
+    listing: &[u8],
+) -> Result<Option<Question>, AllocError>
+    ensures ok { IfOk result (λ q. q ≡ expand_with set.now family.now listing.now) }
+    ensures err { IfErr result (λ e. IsAsked (expand_with set.now family.now listing.now)) }
+{
+    let Some(family) = family_in(family) else {
+        return Ok(None);
+    };
+    let Some(listing) = listing_in(listing) else {
+        return Ok(None);
+    };
+    match read_set_name(alloc, set)? {
+        Some(set) => Ok(Some(Question::Expand {
+            set,
+            family,
+            listing,
+        })),
+        None => Ok(None),
+    }
+}
+
+/// The command that a word, a set name, a family and a listing are.
+#[tactic(auto, using(crate::proofs::Expanding::asked))]
+fn command_of(
+    alloc: Global,
+    word: &[u8],
+    set: &[u8],
+    family: &[u8],
+    listing: &[u8],
+) -> Result<Option<Command>, AllocError>
+    ensures ok { IfOk result (λ c. c ≡ command_of word.now set.now family.now listing.now) }
+    ensures err { IfErr result (λ e. IsQuestion (command_of word.now set.now family.now listing.now)) }
+    ensures sized { IfOk result IsSized }
+{
+    if word != b"expand".as_slice() {
+        return Ok(None);
+    }
+    match expand_with(alloc, set, family, listing)? {
+        Some(question) => Ok(Some(ask(question))),
+        None => Ok(None),
+    }
+}
+
 /// The command that words are.
 fn command_in(alloc: Global, words: &[&str]) -> Result<Option<Command>, AllocError>
     ensures ok { IfOk result (λ c. c ≡ command_in (map (λ w. w.now) words.now)) }
@@ -170,16 +261,22 @@ fn command_in(alloc: Global, words: &[&str]) -> Result<Option<Command>, AllocErr
     match words {
         [word] => Ok(command_by(word.as_bytes())),
         [word, other] => command_with(alloc, word.as_bytes(), other.as_bytes()),
+        [word, set, family, listing] => command_of(
+            alloc,
+            word.as_bytes(),
+            set.as_bytes(),
+            family.as_bytes(),
+            listing.as_bytes(),
+        ),
         _ => Ok(None),
     }
 }
 
 /// What a question answers of an input.
-#[tactic(auto, using(crate::proofs::Refusals::no_router_asked))]
+#[tactic(auto, using(crate::proofs::Refusals::refusals))]
 fn answer(alloc: Global, question: Question, input: &[u8]) -> Result<Vec<u8>, NoAnswer>
     ensures output { IfOk result (λ out. Answers question input.now (Ok out.items)) }
-    ensures refusal { IfErr result
-        (RefusedOr (λ cause. Answers question input.now (Err cause)) (AsksInVain question input.now)) }
+    ensures refusal { IfErr result (IsNoAnswer question input.now) }
 {
     match question {
         Question::Check => check(alloc, input),
@@ -187,6 +284,11 @@ fn answer(alloc: Global, question: Question, input: &[u8]) -> Result<Vec<u8>, No
         Question::Fate => fate(alloc, input),
         Question::Generate { router } => router_text(alloc, router, input),
         Question::Export { second } => export(alloc, second, input),
+        Question::Expand {
+            set,
+            family,
+            listing,
+        } => expansion(alloc, set, family, listing, input),
     }
 }
 
@@ -224,6 +326,7 @@ fn run_question<S: Source, K: Sink>(
         Ok(text) => text,
         Err(NoAnswer::Bad { cause }) => return End::BadInput { cause },
         Err(NoAnswer::Unknown { router }) => return End::UnknownRouter { router },
+        Err(NoAnswer::BadObjects { cause }) => return End::BadObjects { cause },
         Err(NoAnswer::NoMemory) => return End::NoMemory,
     };
     match write_all(output, text.as_slice()) {
@@ -268,7 +371,8 @@ fn run_words<S: Source, K: Sink, P: Keeper, C: Clock>(
 }
 
 /// Runs the command that the words are, and tells its exit status: 0 where the work is done, 1 where the
-/// words are no command, 2 where the input isn't of the command's form or is longer than 268,435,456 bytes, 3
+/// words are no command, 2 where the input isn't of the command's form or is longer than 268,435,456 bytes,
+/// or where whois data have no object of the set's name or more items than a list may have, 3
 /// and 4 where a read or a write failed, 5 where the keeper failed, 8 where memory ran out, 9 where no router
 /// has the handle, 11 where the store that is to be filled has a row, 6 where the store's rows are no
 /// registry's, 10 where the store has the form of an older version. A status other than 0 has a line on

@@ -3,11 +3,13 @@ ghost use Rattle.std.specs.Prelude.{◌≡◌, ◌≤◌, ◌++◌, ◌∷◌, [
 ghost use Rattle.ixp_num.specs.Causes.{place_text, cause_text};
 ghost use Rattle.ixp_io.specs.Faults.{Rose};
 ghost use Rattle.ixp_io.specs.Told.{Takes, TakesPart};
+ghost use Rattle.ixp_cli.specs.Expansions.{cause_text_of};
 ghost use Rattle.ixp_cli.specs.Runs.{Flow, Tells, error_text};
 
 use itoa::Buffer;
 use ixp_io::{Failed, Sink, write_all};
 use ixp_num::{Cause, Items, Name, Place, code_text};
+use ixp_rpsl_text::ExpandCause;
 use std::alloc::{AllocError, AllocFailed};
 
 /// How a run ends: what was asked for is done, or the first cause that it met.
@@ -18,6 +20,8 @@ pub enum End {
     Usage,
     /// The input isn't of the command's form, or is longer than a command reads.
     BadInput { cause: Cause },
+    /// The input isn't whois data, no object in it has the set's name, or a listing would be too long.
+    BadObjects { cause: ExpandCause },
     ReadFault,
     WriteFault,
     KeeperFault,
@@ -77,6 +81,8 @@ pub(crate) enum NoAnswer {
     Bad { cause: Cause },
     /// No router of the input's registry has the handle.
     Unknown { router: Name },
+    /// The input isn't whois data, no object in it has the set's name, or a listing would be too long.
+    BadObjects { cause: ExpandCause },
     NoMemory,
 }
 
@@ -114,6 +120,7 @@ impl End {
             End::Done => 0,
             End::Usage => 1,
             End::BadInput { .. } => 2,
+            End::BadObjects { .. } => 2,
             End::ReadFault => 3,
             End::WriteFault => 4,
             End::KeeperFault => 5,
@@ -328,6 +335,22 @@ fn write_link<E: Sink>(
     Ok(())
 }
 
+/// Writes the line that tells why whois data give no listing.
+fn write_objects_cause<E: Sink>(errors: &mut E, cause: ExpandCause) -> Result<(), Failed>
+    ensures ok { OnOk result (Takes (E.written errors.old) (E.written errors.new) (cause_text_of cause)) }
+    ensures err { OnErr result
+        (TakesPart (E.written errors.old) (E.written errors.new) (cause_text_of cause)) }
+    ensures cause { OnErr result (Rose (E.write_faults errors.old) (E.write_faults errors.new)) }
+{
+    match cause {
+        ExpandCause::Line { n } => write_counted(errors, b"ixpm: bad input J1 ", n as u64),
+        ExpandCause::NoSet { set } => write_named(errors, b"ixpm: bad input J2 ", set.as_bytes()),
+        ExpandCause::TooMany { have } => {
+            write_counted(errors, b"ixpm: bad input J3 ", have as u64)
+        }
+    }
+}
+
 /// Writes the line that tells how a run ended, if there is one to write.
 fn write_end<E: Sink>(errors: &mut E, end: End) -> Result<(), Failed>
     ensures ok { OnOk result (Takes (E.written errors.old) (E.written errors.new) (error_text end)) }
@@ -338,6 +361,7 @@ fn write_end<E: Sink>(errors: &mut E, end: End) -> Result<(), Failed>
         End::Done => write_all(errors, b""),
         End::Usage => write_all(errors, b"ixpm: usage\n"),
         End::BadInput { cause } => write_refusal(errors, b"ixpm: bad input ", cause),
+        End::BadObjects { cause } => write_objects_cause(errors, cause),
         End::ReadFault => write_all(errors, b"ixpm: read fault\n"),
         End::WriteFault => write_all(errors, b"ixpm: write fault\n"),
         End::KeeperFault => write_all(errors, b"ixpm: keeper fault\n"),

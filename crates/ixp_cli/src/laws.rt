@@ -5,6 +5,7 @@ ghost use Rattle.std.specs.FinMap.{empty};
 ghost use Rattle.ixp_io.specs.Told.{Told};
 ghost use Rattle.ixp_ixf.specs.Views.{ixf_text_of};
 ghost use Rattle.ixp_registry.specs.declared.registry.Registry.{Registry};
+ghost use Rattle.ixp_rpsl_text.specs.declared.fault.ExpandCause.{ExpandCause};
 ghost use Rattle.ixp_cli.specs.declared.command.Command.{Command};
 ghost use Rattle.ixp_cli.specs.declared.command.Command.TheVariants.{Ask, Ixf, Restore, Session};
 ghost use Rattle.ixp_cli.specs.declared.command.Question.{Question};
@@ -15,6 +16,7 @@ ghost use Rattle.ixp_cli.specs.Runs.{
   Answers,
   AsksInVain,
   CanBeLoaded,
+  HasBadObjects,
   IsAnswered,
   IsLongEnd,
   IsRestored,
@@ -40,7 +42,8 @@ pub fn long_inputs_are_refused()
         (end : End) × IsLongEnd end × IsTold end before.errors after.errors status }
 {}
 
-/// An input of a question has one answer: one output, or one refusal of it, or one router that isn't there.
+/// An input of a question has one answer: one output, or one refusal of it, or one router that isn't there,
+/// or a cause that lies in whois data.
 /// So an input that a question answers is answered, but that a read or a write may fail or memory run out.
 pub fn inputs_are_answered()
     ensures output { (question : Question) (input x y : List ℕ) → Answers question input (Ok x)
@@ -49,6 +52,8 @@ pub fn inputs_are_answered()
         → ¬ (Answers question input (Err cause)) }
     ensures away { (question : Question) (input x router : List ℕ) → Answers question input (Ok x)
         → ¬ (AsksInVain question input router) }
+    ensures objects { (question : Question) (input x : List ℕ) (cause : ExpandCause)
+        → Answers question input (Ok x) → ¬ (HasBadObjects question input cause) }
     ensures run { (question : Question) (before after : Outside) (status : Option ℕ) (input output : List ℕ)
         → before.input.bytes ≡ Some input →
         length input ≤ input_limit → Answers question input (Ok output)

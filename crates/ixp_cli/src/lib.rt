@@ -7,6 +7,7 @@ mod demo;
 mod dump;
 mod end;
 mod eval;
+mod expansion;
 mod export;
 mod fate;
 mod generation;

@@ -51,6 +51,7 @@ fn dumped(alloc: Global, text: &[u8]) -> Result<Registry, NoDump>
         Ok(registry) => Ok(registry),
         Err(NoAnswer::Bad { cause }) => Err(NoDump::Bad { cause }),
         Err(NoAnswer::Unknown { .. }) => Err(NoDump::NoMemory),
+        Err(NoAnswer::BadObjects { .. }) => Err(NoDump::NoMemory),
         Err(NoAnswer::NoMemory) => Err(NoDump::NoMemory),
     }
 }

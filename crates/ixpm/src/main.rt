@@ -21,6 +21,10 @@ const HELP: &str = "ixpm: the registry of an internet exchange, and its route se
                    session brings
   ixpm ixf         reads the dump of a registry on standard input, and writes the exchange's member export (IX-F Member
                    Export 1.0) at the present second
+  ixpm expand S F L
+                   reads whois data on standard input (objects route, route6 and as-set), and writes of the set S and all sets
+                   that its members lead to: with L = sets each set and the place of a set that names it; with origins their AS
+                   numbers; with prefixes the prefixes of family F, 4 or 6, of the routes that these originate
   ixpm restore     reads the dump of a registry on standard input, and puts it into the store, the file ixpm.db of the
                    current folder, which has to be empty
   ixpm dump        writes the dump of the registry in the store

@@ -8,6 +8,14 @@ pub returns-in-Usage-clause-err : goal.returns-in-Usage-clause-err
 returns-in-Usage-clause-err g c =
     subst (λ (e : End). OnErr c.write_all-in-Usage.result (TakesPart (g.E.Stream.written c.args.errors.now) (g.E.Stream.written c.write_all-in-Usage.new.sink) (error_text e))) (sym c.in-Usage.is) c.write_all-in-Usage.ensures.err
 
+pub returns-in-BadObjects-clause-ok : goal.returns-in-BadObjects-clause-ok
+returns-in-BadObjects-clause-ok g c =
+    subst (λ (e : End). OnOk c.write_objects_cause.result (Takes (g.E.Stream.written c.args.errors.now) (g.E.Stream.written c.write_objects_cause.new.errors) (error_text e))) (sym c.in-BadObjects.is) c.write_objects_cause.ensures.ok
+
+pub returns-in-BadObjects-clause-err : goal.returns-in-BadObjects-clause-err
+returns-in-BadObjects-clause-err g c =
+    subst (λ (e : End). OnErr c.write_objects_cause.result (TakesPart (g.E.Stream.written c.args.errors.now) (g.E.Stream.written c.write_objects_cause.new.errors) (error_text e))) (sym c.in-BadObjects.is) c.write_objects_cause.ensures.err
+
 pub returns-in-WriteFault-clause-ok : goal.returns-in-WriteFault-clause-ok
 returns-in-WriteFault-clause-ok g c =
     subst (λ (e : End). OnOk c.write_all-in-WriteFault.result (Takes (g.E.Stream.written c.args.errors.now) (g.E.Stream.written c.write_all-in-WriteFault.new.sink) (error_text e))) (sym c.in-WriteFault.is) c.write_all-in-WriteFault.ensures.ok

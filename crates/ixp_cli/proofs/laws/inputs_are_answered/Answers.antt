@@ -1,5 +1,5 @@
 use Rattle.ixp_cli.proofs.Complete.{answered_run}
-use Rattle.ixp_cli.proofs.OneAnswer.{one_written, not_refused, not_in_vain}
+use Rattle.ixp_cli.proofs.OneAnswer.{one_written, not_refused, not_in_vain, not_bad}
 use Rattle.ixp_cli.proofs.laws.inputs_are_answered.Goals as goal
 
 pub returns-clause-output : goal.returns-clause-output
@@ -10,6 +10,9 @@ returns-clause-refusal c = not_refused
 
 pub returns-clause-away : goal.returns-clause-away
 returns-clause-away c = not_in_vain
+
+pub returns-clause-objects : goal.returns-clause-objects
+returns-clause-objects c = not_bad
 
 pub returns-clause-run : goal.returns-clause-run
 returns-clause-run c = answered_run
