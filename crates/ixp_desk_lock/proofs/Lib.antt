@@ -8,3 +8,5 @@ pub mod PresentRoas
 pub mod Beginning
 pub mod PublishLaws
 pub mod Catching
+pub mod Closing
+pub mod Sends

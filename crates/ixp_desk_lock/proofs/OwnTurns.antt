@@ -6,6 +6,7 @@ use Rattle.ixp_board.specs.Histories.{turns_of, with_turn, IsLegal, IsViewOf}
 use Rattle.ixp_board.proofs.Beginnings as beginnings
 use Rattle.ixp_board.proofs.Entries.{turns_of-with_turn}
 use Rattle.ixp_desk_history.specs.declared.turn.Event.{Event}
+use Rattle.ixp_desk_history.specs.declared.turn.Event.TheVariants.{Install}
 use Rattle.ixp_desk_history.specs.declared.turn.Shown.{Shown}
 use Rattle.ixp_desk_history.specs.declared.turn.Turn.{Turn}
 use Rattle.ixp_desk_history.specs.Legal.{Legal}
@@ -26,7 +27,7 @@ use Rattle.ixp_desk_lock.specs.declared.fault.TurnFault.{TurnFault}
 use Rattle.ixp_desk_lock.specs.declared.fault.TurnFault.TheVariants as turn
 use Rattle.ixp_desk_lock.specs.declared.editing.Ending.{Ending}
 use Rattle.ixp_desk_lock.specs.declared.editing.Ending.TheVariants as ending
-use Rattle.ixp_desk_lock.specs.Calls.{Asks, Came, FaultSays, Fits, Mine, One, OtherCount, Own, OwnTexts, SeatEnded, Submits, reply_of, turned}
+use Rattle.ixp_desk_lock.specs.Calls.{Asks, Came, FaultSays, Fits, InstallsOver, MakesNone, Mine, One, OtherCount, Own, OwnTexts, SeatEnded, Submits, reply_of, turned}
 use Rattle.ixp_desk_lock.specs.Given.{answer_given, text_given}
 use Rattle.ixp_desk_lock.specs.Publishing.{Adds, Level}
 use Rattle.ixp_desk_lock.specs.Facts.{Log, IsQuestion, all_of, Owes}
@@ -108,7 +109,8 @@ edit_submits e o r s t log v seat count is seat_is count_is p at owes number rai
     (submits_as e o s t (own_one s t log v (Came o e) p at
     (subst (λ n. Owes log v s.0 n (Came o e)) count_is (subst (λ n. Owes log v n count (Came o e)) seat_is owes)) number raised shows))
 
-own_from : (Does : List Event → Type 0) (s u t : Sight) → Looks s u → Own Does u t → Own Does s t
+-- what a call did after the seat saw more is what it did
+pub own_from : (Does : List Event → Type 0) (s u t : Sight) → Looks s u → Own Does u t → Own Does s t
 own_from Does s u t l own = record {
   before = own.before;
   turns = own.turns;
@@ -140,7 +142,7 @@ fits_now s log now a kept same its at one room p = record {
 }
 
 -- the fault of a call before its first turn
-fault_from : (x : TurnFault) (s u t : Sight) → Looks s u → FaultSays x u t → FaultSays x s t
+pub fault_from : (x : TurnFault) (s u t : Sight) → Looks s u → FaultSays x u t → FaultSays x s t
 fault_from (turn.SeatCount a b) s u t l x = record { stays = x.stays ∙ l.1; its = x.its ∙ l.1; turns = x.turns; differ = x.differ }
 fault_from (turn.Ended n) s u t l x = record { stays = x.stays ∙ l.1; all = x.all; its = x.its ∙ l.1; last = x.last }
 fault_from turn.NoMemory s u t l x = x ∙ l.1
@@ -159,6 +161,19 @@ own_added Does s u t w l a level = own_from Does s u t l (record {
   all = level.count ∙ ap (λ (x : Log). turns_by t.0 (turns_of x)) (sym level.whole);
   does = a.does;
 })
+
+-- the same, and which history stood before it
+pub own_at : (Does : List Event → Type 0) (s u t : Sight) (w : Log × Option Turn) → Looks s u → Adds Does u t → Level w t → (own : Own Does s t) × (own.before ≡ u.2)
+unfolding own_added own_from
+own_at Does s u t w l a level = (own_added Does s u t w l a level, refl)
+
+pub over_from : (from n : ℕ) (s u t : Sight) → Looks s u → InstallsOver from n u t → InstallsOver from n s t
+unfolding own_from
+over_from from n s u t l over = (own_from (One (λ (x : Event). x ≡ Install n)) s u t l over.0, over.1)
+
+-- no turn was made
+pub makes_none : (s t : Sight) (w : Log × Option Turn) → Looks s t → Level w t → MakesNone s t
+makes_none s t w l level = (l.1, level.count ∙ ap (λ (x : Log). turns_by t.0 (turns_of x)) (sym level.whole))
 
 asked_so : (st : State) (secret : List ℕ) (q : machine.Query) (a : Answered) (s t : Sight) → IsAnswered st (Query secret q) a → Own (One (IsQuestion (Query secret q) a)) s t
     → Asks secret q (answer_given a) s t

@@ -214,7 +214,7 @@ low_later old new n low goes = (low.0, goes low.0 low.1, low.2)
 -- What the whole call did.
 
 -- the edits that were seen are among those of the history
-must_low : (seen log : Log) (must m : ℕ) → IsLegal Legal seen → IsLegal Legal log → IsPrefix seen log → HasAccepted seen must → HasAccepted log m → must ≤ m
+pub must_low : (seen log : Log) (must m : ℕ) → IsLegal Legal seen → IsLegal Legal log → IsPrefix seen log → HasAccepted seen must → HasAccepted log m → must ≤ m
 must_low seen log must m one two p has its =
     let parts = prefix_turns one.first two.first one.turns two.turns (subst (λ l. IsPrefix l (entries two.first two.turns)) one.entries_are (subst (λ l. IsPrefix seen l) two.entries_are p)) in
     let first = has one.first one.turns one.entries_are in
@@ -226,11 +226,12 @@ must_low seen log must m one two p has its =
     let same : (state_of one.first one.turns).accepted ≡ (state_of two.first one.turns).accepted = ap (λ (f : First). (state_of f one.turns).accepted) parts.0 in
     omega (arith, first, last, rises, same)
 
-pub need_low : (seen log : Log) (must place : ℕ) → IsLegal Legal seen → IsLegal Legal log → IsPrefix seen log → HasAccepted seen must → IsLow log place → IsLow log (greater must place)
+pub need_low : (seen log : Log) (must place : ℕ) → IsLegal Legal seen → IsLegal Legal log → IsPrefix seen log → IsLow seen must → IsLow log place → IsLow log (greater must place)
 need_low seen log must place one two p has low =
-    let few = must_low seen log must low.0 one two p has low.1 in
+    let few = must_low seen log has.0 low.0 one two p has.1 low.1 in
+    let least = has.2 in
     let more = low.2 in
-    by_less (nat_lt must place) few more where
+    by_less (nat_lt must place) (omega (arith, few, least)) more where
       by_less : (b : Bool) → must ≤ low.0 → place ≤ low.0 → IsLow log (if b then place else must)
       by_less true few more = (low.0, low.1, more)
       by_less false few more = (low.0, low.1, few)
@@ -268,7 +269,7 @@ room_after owner seen place u w room a =
     omega (arith, room, count, few, long)
 
 -- what must be contained is no more than what was accepted
-pub need_now : (owner : Owner) (seen : Option ℕ) (must place : ℕ) (s u w : Sight) (at : Log × Option Turn) → IsLegal Legal s.2 → HasAccepted s.2 must → Looks s u → Adds (Places owner seen place) u w → Level at w
+pub need_now : (owner : Owner) (seen : Option ℕ) (must place : ℕ) (s u w : Sight) (at : Log × Option Turn) → IsLegal Legal s.2 → IsLow s.2 must → Looks s u → Adds (Places owner seen place) u w → Level at w
     → IsLegal Legal w.2 → IsLow at.0 place → IsLow at.0 (greater must place)
 need_now owner seen must place s u w at legal has l a level now low =
     let begins : IsPrefix s.2 w.2 = begins_through s.2 u.2 w.2 l.2 (turned a.turns, sym a.now) in

@@ -25,6 +25,7 @@ use Rattle.ixp_desk_lock.specs.declared.fault.TurnFault.{TurnFault}
 use Rattle.ixp_desk_lock.specs.declared.fault.TurnFault.TheVariants as turn
 use Rattle.ixp_desk_lock.specs.declared.editing.Ending.{Ending}
 use Rattle.ixp_desk_lock.specs.declared.editing.Ending.TheVariants as ending
+use Rattle.ixp_build.specs.declared.making.Made.{Made}
 use Rattle.ixp_build.specs.Orders.{HasBounds, made_from}
 use Rattle.ixp_desk_lock.specs.declared.installing.Put.{Put}
 use Rattle.ixp_desk_lock.specs.declared.installing.Put.TheVariants as put
@@ -162,15 +163,24 @@ Catches (Err (turn.SeatCount a b)) s t = OtherCount a b s t
 Catches (Err (turn.Ended n)) s t = SeatEnded n s t
 Catches (Err turn.NoMemory) s t = t.1 ≡ s.1
 
--- what a worker is given to do: an order that was taken of what the seat has seen, or nothing, with one turn
-abbrev pub Takes : Taken → Sight → Sight → Type 0
-Takes (taken.Ordered o) s t = (t.1 ≡ s.1) × HasBounds o × IsOrdered t.2 (made_from o)
-Takes (taken.Nothing built) s t = Own (One (λ v. v ≡ Install built)) s t × HasAccepted t.2 built
+-- one turn installs the version `upto`, where the texts of the version `from` were shown just before
+abbrev pub InstallsOver : ℕ → ℕ → Sight → Sight → Type 0
+InstallsOver from upto s t = (own : Own (One (λ v. v ≡ Install upto)) s t) × HasBuilt own.before from
 
--- what a worker's installation does: one turn, or none where others were installed since
-abbrev pub Installs : Put → Sight → Sight → Type 0
-Installs (put.Built upto) s t = Own (One (λ v. v ≡ Install upto)) s t
-Installs (put.Late current asked) s t = (t.1 ≡ s.1) × (current ≢ asked) × HasBuilt t.2 current
+-- The seat made no turn, and its turns in the history are as many as its count.
+abbrev pub MakesNone : Sight → Sight → Type 0
+MakesNone s t = (t.1 ≡ s.1) × (t.1 ≡ turns_by t.0 (turns_of t.2))
+
+-- What a worker is given to do: an order that was taken of what the seat has seen, of a later version than the
+-- one that is shown; or nothing where that is the present one, which is installed once more.
+abbrev pub Takes : Taken → Sight → Sight → Type 0
+Takes (taken.Ordered o) s t = MakesNone s t × HasBounds o × (o.from ≢ o.upto) × IsOrdered t.2 (made_from o)
+Takes (taken.Nothing built) s t = InstallsOver built built s t × HasAccepted t.2 built
+
+-- What a worker's installation does: one turn, or none where others were installed since the order was taken.
+abbrev pub Installs : Made → Put → Sight → Sight → Type 0
+Installs m (put.Built upto) s t = (upto ≡ m.upto) × InstallsOver m.from upto s t
+Installs m (put.Late current asked) s t = MakesNone s t × (asked ≡ m.from) × (current ≢ asked) × HasBuilt t.2 current
 
 -- the history begins with what the seat has seen, its counts agree, and there is room for two turns more
 pub record Fits (log : Log) (s : Sight) : Type 0 where

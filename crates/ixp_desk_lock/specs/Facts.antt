@@ -120,6 +120,16 @@ abbrev pub NotesReach : State → Option Reached → Pending → Pending → Typ
 NotesReach s None p q = q ≡ p
 NotesReach s (Some x) p q = IsNoted s.accepted (with_after x s.registry) p q
 
+-- A store has the rows of the state after the history and the turn that is owed, and its count of faults is
+-- that of the history.
+pub record KeepsStore (v : Log × Option Turn) (rows : Option Table) (faults : ℕ) : Type 0 where
+  pub first : First
+  pub turns : List Turn
+  pub is : v.0 ≡ entries first turns
+  pub legal : Legal first (with_owed turns v.1)
+  pub stored : Stored rows (state_of first (with_owed turns v.1))
+  pub faults_are : faults ≡ faults_of first (with_owed turns v.1)
+
 -- Of a history, whichever first state and turns it has.
 
 -- the edit is accepted after this history, for this owner

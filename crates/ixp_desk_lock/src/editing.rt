@@ -66,7 +66,7 @@ fn replied(ending: Ending, number: u64) -> Result<Reply, SubmitFault>
 
 impl<P: Keeper + Drop, N: BoardName, W: Publish<Note<DeskStory, N>>> Locked<P, N, W> {
     /// How many edits were accepted.
-    fn accepted(&self) -> u64
+    pub(crate) fn accepted(&self) -> u64
         requires none { self.now.1 ≡ None }
         ensures { HasAccepted self.now.0 result }
     {

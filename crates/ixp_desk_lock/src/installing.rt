@@ -155,6 +155,7 @@ impl<P: Keeper + Drop, N: BoardName, W: Publish<Note<DeskStory, N>>> Locked<P, N
         requires room { seat.old.1 < 2 ^ 64 - 1 }
         ensures ok { IfOk result (λ n. Adds (One (λ v. v ≡ Install n)) seat.old seat.new) }
         ensures upto { IfOk result (HasAccepted self.new.0) }
+        ensures accepted { OnOk result ((n : ℕ) → HasAccepted self.old.0 n → HasAccepted self.new.0 n) }
         ensures level { OnOk result (Level self.new seat.new) }
         ensures seat { OnErr result (seat.new ≡ seat.old) }
         ensures err { OnErr result (self.new ≡ self.old) }
@@ -204,8 +205,10 @@ impl<P: Keeper + Drop, N: BoardName, W: Publish<Note<DeskStory, N>>> Locked<P, N
         ensures fault { IfErr result (λ x. FaultSays x seat.old seat.new) }
     {
         self.level(rt, seat)?;
-        if self.built() == self.state.accepted {
+        let accepted = self.accepted();
+        if self.built() == accepted {
             let built = self.install_now(rt, seat)?;
+            seat.is_legal();
             return Ok(Taken::Nothing { built });
         }
         let order = self.order()?;
@@ -223,7 +226,7 @@ impl<P: Keeper + Drop, N: BoardName, W: Publish<Note<DeskStory, N>>> Locked<P, N
         requires { IsOrdered seat.old.2 made }
         ensures number { seat.new.0 ≡ seat.old.0 }
         ensures seen { IsPrefix seat.old.2 seat.new.2 }
-        ensures put { IfOk result (λ x. Installs x seat.old seat.new) }
+        ensures put { IfOk result (λ x. Installs made x seat.old seat.new) }
         ensures fault { IfErr result (λ x. FaultSays x seat.old seat.new) }
     {
         self.level(rt, seat)?;

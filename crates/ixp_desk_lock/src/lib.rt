@@ -11,6 +11,7 @@
 #![tactic(auto)]
 
 mod answering;
+mod crossing;
 mod editing;
 mod fault;
 mod installing;
@@ -21,6 +22,7 @@ mod preparing;
 mod publishing;
 mod seat;
 
+pub use crossing::locks_cross_threads;
 pub use fault::{AskFault, PubFault, SubmitFault, TurnFault};
 pub use installing::{Put, Taken};
 pub use locked::Locked;

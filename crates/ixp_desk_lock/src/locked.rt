@@ -1,9 +1,9 @@
 //! The locked value.
-ghost use Rattle.std.specs.Prelude.{◌≡◌, ◌<◌, ◌≤◌, None, OnOk, OnErr, IfErr};
+ghost use Rattle.std.specs.Prelude.{◌≡◌, ◌<◌, ◌≤◌, None, OnOk, OnErr, IfErr, IsTrue};
 ghost use mathlib.Core.List.{IsPrefix};
 ghost use Rattle.ixp_machine_steps.specs.States.{ValidState};
 ghost use Rattle.ixp_desk_lock.specs.Calls.{FaultSays, Fits};
-ghost use Rattle.ixp_desk_lock.specs.Facts.{IsStateAt, all_of};
+ghost use Rattle.ixp_desk_lock.specs.Facts.{IsStateAt, KeepsStore, all_of};
 ghost use Rattle.ixp_desk_lock.specs.Sights.{Looks};
 
 use crate::fault::TurnFault;
@@ -106,5 +106,29 @@ impl<P: Keeper + Drop, N: BoardName, W: Publish<Note<DeskStory, N>>> Locked<P, N
         ensures err { OnErr result (seat.new ≡ seat.old) }
     {
         seat.taught(&self.pen)
+    }
+
+    /// Whether the history begins with what the seat has seen. As the pen alone makes turns, it does; but what
+    /// is known of a board says nothing of who writes, so that no clause can exclude the answer `false`.
+    pub fn covers(&self, seat: &DeskSeat<N>) -> bool
+        ensures { IsTrue result → IsPrefix seat.now.2 self.now.0 }
+    {
+        seat.is_covered(&self.pen)
+    }
+
+    /// Takes the desk apart, and gives the store.
+    pub fn into_store(self) -> P
+        ensures { KeepsStore self (P.table result) (P.faults result) }
+    {
+        let Locked {
+            alloc: _alloc,
+            state: _state,
+            pending: _pending,
+            counts: _counts,
+            owed: _owed,
+            pen: _pen,
+            keeper,
+        } = self;
+        keeper
     }
 }

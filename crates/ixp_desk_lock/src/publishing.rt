@@ -4,7 +4,6 @@ ghost use mathlib.Core.List.{IsPrefix};
 ghost use Rattle.ixp_board.specs.Histories.{IsLegal};
 ghost use Rattle.ixp_desk_history.specs.Legal.{Legal};
 ghost use Rattle.ixp_desk_lock.specs.Calls.{One};
-ghost use Rattle.ixp_desk_lock.specs.Facts.{HasAccepted};
 ghost use Rattle.ixp_desk_lock.specs.Published.{
   Brings,
   IsBuilt,
@@ -142,8 +141,8 @@ impl<P: Keeper + Drop, N: BoardName, W: Publish<Note<DeskStory, N>>> Locked<P, N
     }
 
     /// The text of the router with the handle, of a version that has `must` accepted edits and the owner's
-    /// edit that was seen; None where that version has no such router. What the seat has seen has `must`
-    /// accepted edits.
+    /// edit that was seen; None where that version has no such router. What the seat has seen has at least
+    /// `must` accepted edits.
     pub fn publish<R: Wait>(
         &mut self,
         rt: &R,
@@ -153,7 +152,7 @@ impl<P: Keeper + Drop, N: BoardName, W: Publish<Note<DeskStory, N>>> Locked<P, N
         must: u64,
         seen: Option<u64>,
     ) -> Result<Option<Text>, PubFault>
-        requires must { HasAccepted seat.old.2 must }
+        requires must { IsLow seat.old.2 must }
         requires legal { IsLegal Legal seat.old.2 }
         ensures number { seat.new.0 ≡ seat.old.0 }
         ensures seen { IsPrefix seat.old.2 seat.new.2 }
