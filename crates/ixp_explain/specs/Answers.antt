@@ -1,5 +1,6 @@
 -- What is answered of a text: what is said of it is exactly this, unless memory runs out.
-use Rattle.std.specs.Prelude.{◌≡◌, List, ℕ, Option, Some, None, Result, Ok, Err}
+use Rattle.std.specs.Prelude.{◌≡◌, List, ℕ, Option, Some, None, Result, Ok, Err, Vec}
+use Rattle.std.specs.declared.alloc.Global.{Global}
 use Rattle.ixp_lang.specs.Faults.{pair_range, no_return, no_verdict, no_filter, CallFault, failed, ended}
 use Rattle.ixp_lang.specs.Trees.{ItemTree}
 use Rattle.ixp_eval.specs.declared.fault.CallFault.{CallFault as NoValue}
@@ -55,3 +56,8 @@ Answers text outcome (Err (told.Family family)) = Spelt text outcome (Err (told.
 Answers text outcome (Err (told.Fault f)) = Spelt text outcome (Err (told.Fault f))
 Answers text outcome (Err (told.Shape name)) = Spelt text outcome (Err (told.Shape name))
 Answers text outcome (Ok x) = Spelt text outcome (Ok x)
+
+-- an answer that is a text, by its bytes
+abbrev pub in_bytes : Result (Vec ℕ Global) ExplainFault → Result (List ℕ) ExplainFault
+in_bytes (Ok text) = Ok text.items
+in_bytes (Err f) = Err f

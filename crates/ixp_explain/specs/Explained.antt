@@ -14,7 +14,7 @@ use Rattle.ixp_lang.specs.declared.value.Value.TheVariants as value
 use Rattle.ixp_lang.specs.Attributes.{truth}
 use Rattle.ixp_lang.specs.Faults.{Fault, CallFault, failed}
 use Rattle.ixp_lang.specs.Meaning.{Environment, find_named, filter_end, function_end}
-use Rattle.ixp_lang.specs.Texts.{known_reason}
+use Rattle.ixp_lang.specs.Texts.{fate_text, known_reason}
 use Rattle.ixp_lang.specs.Trees.{ItemTree}
 use Rattle.ixp_lang.specs.Walks.{bgp_sessions, session_named, walk}
 use Rattle.ixp_explain.specs.declared.kinds.Kind.TheVariants.{Number, Truth}
@@ -93,6 +93,10 @@ report_of own fate = record { fate = fate; number = number_told own fate.table f
 
 abbrev pub explained : List ItemTree → Tables → ℕ → Route → Result Report Trouble
 explained items roas interface route = and_then (fate_told items roas interface route) (λ fate. Ok (report_of (own_number items interface) fate))
+
+-- the fate's text, which says by the route server's own number why a route is stopped
+abbrev pub fate_text_told : List ItemTree → Tables → ℕ → Route → Result (List ℕ) Trouble
+fate_text_told items roas interface route = and_then (fate_told items roas interface route) (λ fate. Ok (fate_text fate (own_number items interface)))
 
 -- Members are told to whom their own route is to be sent.
 

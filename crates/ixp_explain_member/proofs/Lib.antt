@@ -1,4 +1,5 @@
 pub mod Answering
+pub mod ByText
 pub mod Explaining
 mod Numbers
 pub mod Reports

@@ -1,2 +1,3 @@
+pub mod ByText
 pub mod Explanations
 pub mod Rows

@@ -1,6 +1,5 @@
 //! What a member is told.
 ghost use Rattle.std.specs.Prelude.{◌≡◌, true, is_some, Some, Ok, IfOk};
-ghost use Rattle.ixp_num.specs.Families.{same_family};
 ghost use Rattle.ixp_num_tables.specs.Tables.{find};
 ghost use Rattle.ixp_registry.specs.Keys.{router_key};
 ghost use Rattle.ixp_registry.specs.Sessions.{Session, session};
@@ -10,12 +9,12 @@ ghost use Rattle.ixp_explain.specs.Texts.{own_text};
 ghost use Rattle.ixp_explain_member.specs.Rows.{own_report_by_rows};
 ghost use Rattle.ixp_explain_member.specs.Explanations as spec;
 
+use crate::by_text::member_by_text;
 use crate::explanation::Explanation;
 use crate::sessions::{has_session, is_of_family, unexplained};
 use ixp_compile_text::part;
-use ixp_explain::{OwnReport, explain_member, print_own, tables_of};
 use ixp_lang::Route;
-use ixp_num::{Asn, Items, Name};
+use ixp_num::{Asn, Name};
 use ixp_num_tables::Held;
 use ixp_registry::{Handle, Kind, Refusal, Registry, Right, Router, RowKey};
 use ixp_roa::RoaTable;
@@ -53,73 +52,6 @@ fn own_part(
     }
 }
 
-/// The report on the member's own route by a text of its session.
-fn report_of(
-    alloc: Global,
-    registry: &Registry,
-    roas: &Held<RoaTable>,
-    handle: &Name,
-    router: &Router,
-    interface: u32,
-    route: &Route,
-    peers: &[Asn],
-    text: &[u8],
-) -> Result<OwnReport, AllocError>
-    requires roas { roas.now ≡ registry.now.public.roas }
-    requires valid { Valid registry.now }
-    requires there { find router_key handle.now registry.now.routers ≡ Some router.now }
-    requires sender { is_some (session registry.now router.now interface) ≡ true }
-    requires family { same_family router.now.family route.now.net.family ≡ true }
-    requires text { (s : Session) → session registry.now router.now interface ≡ Some s
-        → text.now ≡ Part registry.now router.now s }
-    ensures { IfOk result
-        (λ report. (s : Session) → session registry.now router.now interface ≡ Some s
-        → report ≡ own_report_by_rows registry.now router.now s route.now peers.now) }
-{
-    let tables = tables_of(alloc, roas)?;
-    match explain_member(alloc, text, tables.as_slice(), interface, route, peers) {
-        Ok(report) => Ok(report),
-        Err(fault) => Err(unexplained(fault)),
-    }
-}
-
-/// What becomes of the member's own route, as a text.
-fn told_by(
-    alloc: Global,
-    registry: &Registry,
-    roas: &Held<RoaTable>,
-    handle: &Name,
-    router: &Router,
-    interface: u32,
-    route: &Route,
-    peers: &[Asn],
-) -> Result<Vec<u8>, AllocError>
-    requires roas { roas.now ≡ registry.now.public.roas }
-    requires valid { Valid registry.now }
-    requires there { find router_key handle.now registry.now.routers ≡ Some router.now }
-    requires sender { is_some (session registry.now router.now interface) ≡ true }
-    requires family { same_family router.now.family route.now.net.family ≡ true }
-    ensures { IfOk result
-        (λ text. (s : Session) → session registry.now router.now interface ≡ Some s
-        → text.items ≡ own_text (own_report_by_rows registry.now router.now s route.now peers.now)) }
-{
-    let text = own_part(alloc, registry, handle, router, interface)?;
-    let report = report_of(
-        alloc,
-        registry,
-        roas,
-        handle,
-        router,
-        interface,
-        route,
-        peers,
-        text.as_slice(),
-    )?;
-    let mut out = Vec::new(alloc);
-    print_own(&report, &mut out)?;
-    Ok(out)
-}
-
 /// What the member is told of the router with the handle.
 fn told_at(
     alloc: Global,
@@ -148,10 +80,11 @@ fn told_at(
             family: router.family,
         }));
     }
-    let text = told_by(
-        alloc, registry, roas, handle, router, interface, route, peers,
-    )?;
-    Ok(Explanation::Text(Items::from_vec(text)))
+    let text = own_part(alloc, registry, handle, router, interface)?;
+    match member_by_text(alloc, text.as_slice(), roas, interface, route, peers) {
+        Ok(told) => Ok(told),
+        Err(fault) => Err(unexplained(fault)),
+    }
 }
 
 /// What becomes of a route that a member announces on its interface to the router with the handle, and the

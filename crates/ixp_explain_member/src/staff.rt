@@ -1,22 +1,20 @@
 //! What the staff is told.
-ghost use Rattle.std.specs.Prelude.{◌≡◌, true, is_some, Some, Ok, IfOk};
-ghost use Rattle.ixp_num.specs.Families.{same_family};
+ghost use Rattle.std.specs.Prelude.{◌≡◌, Some, Ok, IfOk};
 ghost use Rattle.ixp_num_tables.specs.Tables.{find};
 ghost use Rattle.ixp_registry.specs.Keys.{router_key};
-ghost use Rattle.ixp_registry.specs.Sessions.{Session, session};
+ghost use Rattle.ixp_registry.specs.Sessions.{session};
 ghost use Rattle.ixp_registry.specs.Valid.{Valid};
 ghost use Rattle.ixp_lang.specs.Texts.{fate_text};
 ghost use Rattle.ixp_policy.specs.Fates.{fate_of};
 ghost use Rattle.ixp_compile_laws.specs.Right.{Gen};
-ghost use Rattle.ixp_explain_member.specs.Rows.{report_by_rows};
 ghost use Rattle.ixp_explain_member.specs.Explanations as spec;
 
+use crate::by_text::staff_by_text;
 use crate::explanation::Explanation;
 use crate::sessions::{has_session, is_of_family, unexplained};
 use ixp_compile_laws::text_of;
-use ixp_explain::{Report, explain, tables_of};
-use ixp_lang::{Route, print_fate};
-use ixp_num::{Items, Name};
+use ixp_lang::Route;
+use ixp_num::Name;
 use ixp_num_tables::Held;
 use ixp_registry::{Refusal, Registry, Router};
 use ixp_roa::RoaTable;
@@ -38,69 +36,6 @@ fn text_there(
         Ok(None) => unreachable!(),
         Err(_) => Err(AllocError),
     }
-}
-
-/// The report on the route by the router's text.
-fn report_of(
-    alloc: Global,
-    registry: &Registry,
-    roas: &Held<RoaTable>,
-    handle: &Name,
-    router: &Router,
-    interface: u32,
-    route: &Route,
-    text: &[u8],
-) -> Result<Report, AllocError>
-    requires roas { roas.now ≡ registry.now.public.roas }
-    requires valid { Valid registry.now }
-    requires there { find router_key handle.now registry.now.routers ≡ Some router.now }
-    requires sender { is_some (session registry.now router.now interface) ≡ true }
-    requires family { same_family router.now.family route.now.net.family ≡ true }
-    requires text { text.now ≡ Gen registry.now router.now }
-    ensures { IfOk result
-        (λ report. (s : Session) → session registry.now router.now interface ≡ Some s
-        → report ≡ report_by_rows registry.now router.now s route.now) }
-{
-    let tables = tables_of(alloc, roas)?;
-    match explain(alloc, text, tables.as_slice(), interface, route) {
-        Ok(report) => Ok(report),
-        Err(fault) => Err(unexplained(fault)),
-    }
-}
-
-/// The fate of the route as a text.
-fn fate_by(
-    alloc: Global,
-    registry: &Registry,
-    roas: &Held<RoaTable>,
-    handle: &Name,
-    router: &Router,
-    interface: u32,
-    route: &Route,
-) -> Result<Vec<u8>, AllocError>
-    requires roas { roas.now ≡ registry.now.public.roas }
-    requires valid { Valid registry.now }
-    requires there { find router_key handle.now registry.now.routers ≡ Some router.now }
-    requires sender { is_some (session registry.now router.now interface) ≡ true }
-    requires family { same_family router.now.family route.now.net.family ≡ true }
-    ensures { IfOk result
-        (λ text. (s : Session) → session registry.now router.now interface ≡ Some s
-        → text.items ≡ fate_text (fate_of registry.now router.now route.now s) (Some router.now.asn)) }
-{
-    let text = text_there(alloc, registry, handle, router)?;
-    let report = report_of(
-        alloc,
-        registry,
-        roas,
-        handle,
-        router,
-        interface,
-        route,
-        text.as_slice(),
-    )?;
-    let mut out = Vec::new(alloc);
-    print_fate(&report.fate, Some(router.asn), &mut out)?;
-    Ok(out)
 }
 
 /// What the staff is told of the router with the handle.
@@ -130,8 +65,11 @@ fn told_at(
             family: router.family,
         }));
     }
-    let text = fate_by(alloc, registry, roas, handle, router, interface, route)?;
-    Ok(Explanation::Text(Items::from_vec(text)))
+    let text = text_there(alloc, registry, handle, router)?;
+    match staff_by_text(alloc, text.as_slice(), roas, interface, route) {
+        Ok(told) => Ok(told),
+        Err(fault) => Err(unexplained(fault)),
+    }
 }
 
 /// What becomes of a route that the interface's session brings to the router with the handle. The table is
