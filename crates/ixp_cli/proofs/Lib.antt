@@ -14,4 +14,3 @@ pub mod ServedWhole
 pub mod Telling
 pub mod Loadable
 pub mod Loading
-pub mod Mapped

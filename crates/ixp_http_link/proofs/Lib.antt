@@ -4,3 +4,4 @@ pub mod Settled
 pub mod Wholes
 pub mod Completes
 pub mod Keeps
+pub mod Mapped

@@ -6,7 +6,7 @@ use Rattle.ixp_machine_steps.specs.declared.state.State.{State}
 use Rattle.ixp_machine_steps.specs.States.{ValidState}
 use Rattle.ixp_cli.specs.Runs.{TurnOf}
 use Rattle.ixp_cli.proofs.Loading.{not_loaded}
-use Rattle.ixp_cli.proofs.Mapped.{serves}
+use Rattle.ixp_http_link.proofs.Mapped.{serves}
 use Rattle.ixp_cli.proofs.session.run_session.Goals as goal
 
 pub returns-in-Err : goal.returns-in-Err
