@@ -1,0 +1,4 @@
+pub mod Views
+pub mod HandedOut
+pub mod WorkTurns
+pub mod Beginning

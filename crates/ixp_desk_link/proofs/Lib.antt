@@ -1,0 +1,4 @@
+pub mod NeverHead
+pub mod Explained
+pub mod Seconds
+pub mod LinkTurns
