@@ -1,6 +1,6 @@
 -- What is told of refusals.
 use Rattle.std.specs.Prelude.{ℕ, List, [], ◌++◌, Option, Some, None, decimal, codes}
-use Rattle.ixp_registry.specs.Codes.{edit_word, field_word, limited_word}
+use Rattle.ixp_registry.specs.Codes.{edit_word, field_word, limited_word, public_word}
 use Rattle.ixp_registry.specs.Kinds.{word_of}
 use Rattle.ixp_registry.specs.declared.kind.Kind.{Kind}
 use Rattle.ixp_registry.specs.declared.refusal.Refusal.{Refusal}
@@ -19,12 +19,12 @@ abbrev pub right_text : Right → List ℕ
 right_text right.Staff = codes "staff"
 right_text (right.Member m) = pair (codes "member") (decimal m)
 
--- the numbers of a key with a blank between them, a handle, or a word
+-- the numbers of a key with a blank between them, a handle, or the word of a public list
 abbrev pub key_text : RowKey → List ℕ
 key_text (key.Number n) = decimal n
 key_text (key.Pair a b) = pair (decimal a) (decimal b)
 key_text (key.Handle handle) = handle
-key_text (key.Word word) = word.now
+key_text (key.Public kind) = public_word kind
 
 -- the kind of a row and its key
 abbrev pub row_text : Kind → RowKey → List ℕ

@@ -45,7 +45,7 @@ fn put_key(out: &mut Vec<u8>, key: &RowKey) -> Result<(), AllocError>
         RowKey::Number(number) => put_number(out, u64::from(*number)),
         RowKey::Pair(first, second) => put_numbers(out, u64::from(*first), u64::from(*second)),
         RowKey::Handle(handle) => put(out, handle.as_bytes()),
-        RowKey::Word(word) => put(out, word.as_bytes()),
+        RowKey::Public(kind) => put(out, kind.word().as_bytes()),
     }
 }
 

@@ -3,8 +3,8 @@
 //!
 //! [`explain`] and [`explain_member`] read the text and run it. What they answer is the outcome by the
 //! configuration that the text spells (`specs/Explained.antt`), so a text that was altered by hand is
-//! explained as it stands. [`explain_text`] gives the fate as a text, [`print_own`] writes what a member is
-//! told. What the texts of a valid registry explain is said in `ixp_explain_member`.
+//! explained as it stands. [`explain_text`] gives the fate as a text, [`print_own`] writes what a member
+//! gets to read. What the texts of a valid registry explain is said in `ixp_explain_member`.
 #![tactic(auto)]
 
 mod fates;

@@ -1,5 +1,5 @@
 //! Lists that are supplied: the prefixes that a member has registered (IRR) and the AS numbers that may
-//! originate them, and the public lists of bogons and of networks that buy no transit.
+//! originate them, and the public lists of bogons and of transit-free networks.
 //!
 //! A list has one item on each line. `specs/Lists.antt` says which items a text lists, and which line of one
 //! that isn't a list is reported. What is read is in the order of its items' keys, as a registry keeps it.

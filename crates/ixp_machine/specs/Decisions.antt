@@ -10,7 +10,6 @@ use Rattle.ixp_machine_steps.specs.declared.subject.Subject.{Subject}
 use Rattle.ixp_machine_steps.specs.declared.subject.Subject.TheVariants.{Number, Pair, Handle, Public}
 use Rattle.ixp_machine_steps.specs.Kept.{kept_key, kept_of}
 use Rattle.ixp_machine_steps.specs.Steps.{Verdict, Accepted, Repeated, Reused, Refused}
-use Rattle.ixp_machine_steps.specs.Subjects.{public_word}
 use Rattle.ixp_machine.specs.declared.decision.Decision.{Decision}
 use Rattle.ixp_machine.specs.declared.decision.Decision.TheVariants as decision
 
@@ -19,7 +18,7 @@ abbrev pub Names : RowKey → Subject → Type 0
 Names (key.Number n) (Number m) = n ≡ m
 Names (key.Pair a b) (Pair c d) = (a ≡ c) × (b ≡ d)
 Names (key.Handle h) (Handle g) = h ≡ g
-Names (key.Word w) (Public p) = w.now ≡ public_word p
+Names (key.Public p) (Public q) = p ≡ q
 Names k subject = ⊥
 
 -- what is answered to a request with the number

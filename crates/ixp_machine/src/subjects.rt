@@ -7,9 +7,9 @@ ghost use Rattle.ixp_machine_steps.specs.Subjects.{subject_of, same_subject, pub
 ghost use Rattle.ixp_machine.specs.Decisions.{Names};
 
 use ixp_machine_edits::{Edit, PublicList};
-use ixp_machine_steps::{PublicKind, Subject};
+use ixp_machine_steps::Subject;
 use ixp_num::{Family, Name};
-use ixp_registry::{Handle, RowKey};
+use ixp_registry::{Handle, PublicKind, RowKey};
 use std::alloc::{AllocError, Global};
 
 fn version_of(family: Family) -> u32
@@ -125,7 +125,7 @@ pub(crate) fn key_of(subject: &Subject) -> RowKey
         Subject::Number(number) => RowKey::Number(*number),
         Subject::Pair(first, second) => RowKey::Pair(*first, *second),
         Subject::Handle(name) => RowKey::Handle(Handle::of(name)),
-        Subject::Public(kind) => RowKey::Word(kind.word()),
+        Subject::Public(kind) => RowKey::Public(*kind),
     }
 }
 

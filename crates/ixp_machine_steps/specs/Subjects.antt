@@ -1,5 +1,5 @@
 -- What a request is: the kind of its edit, and what the edit is about.
-use Rattle.std.specs.Prelude.{ℕ, Bool, List, [], ◌∷◌, ◌==◌, codes}
+use Rattle.std.specs.Prelude.{ℕ, Bool, List, [], ◌∷◌, ◌==◌}
 use Rattle.ixp_num.specs.AddressForms.{version_of}
 use Rattle.ixp_num_tables.specs.Tables.{same}
 use Rattle.ixp_registry.specs.declared.edit_kind.EditKind.{EditKind}
@@ -8,8 +8,8 @@ use Rattle.ixp_machine_edits.specs.declared.edit.Edit.{Edit}
 use Rattle.ixp_machine_edits.specs.declared.edit.Edit.TheVariants.{AddMember, RenameMember, MoveStatus, SetMacro, PutContact, DropContact, AddKey, DropKey, AddSwitch, DropSwitch, AddPort, AssignPort, FreePort, DropPort, AddVlan, DropVlan, AddInterface, SetAddress, DropInterface, AddRouter, SetRouter, DropRouter, PutIrr, PutOrigins, SetRules, PutPublic}
 use Rattle.ixp_machine_edits.specs.declared.edit.PublicList.{PublicList}
 use Rattle.ixp_machine_edits.specs.declared.edit.PublicList.TheVariants as list
-use Rattle.ixp_machine_steps.specs.declared.subject.PublicKind.{PublicKind}
-use Rattle.ixp_machine_steps.specs.declared.subject.PublicKind.TheVariants.{Bogons, BogonAs, Transit, Roas}
+use Rattle.ixp_registry.specs.declared.public_kind.PublicKind.{PublicKind}
+use Rattle.ixp_registry.specs.declared.public_kind.PublicKind.TheVariants.{Bogons, BogonAs, Transit, Roas}
 use Rattle.ixp_machine_steps.specs.declared.subject.Subject.{Subject}
 use Rattle.ixp_machine_steps.specs.declared.subject.Subject.TheVariants.{Number, Pair, Handle, Public}
 
@@ -123,10 +123,3 @@ same_kind a b = kind_place a == kind_place b
 
 abbrev pub same_subject : Subject → Subject → Bool
 same_subject a b = same (subject_numbers a) (subject_numbers b)
-
--- the word of a public list
-abbrev pub public_word : PublicKind → List ℕ
-public_word Bogons = codes "bogons"
-public_word BogonAs = codes "bogon_as"
-public_word Transit = codes "transit"
-public_word Roas = codes "roas"

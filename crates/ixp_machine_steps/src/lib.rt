@@ -21,4 +21,4 @@ pub use laws::{
 };
 pub use opening::first_state;
 pub use state::{Entry, State};
-pub use subject::{PublicKind, Subject};
+pub use subject::Subject;

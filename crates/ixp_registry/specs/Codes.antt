@@ -1,7 +1,9 @@
--- The words that are printed of refusals.
+-- The words that are printed of refusals, and of the lists that all route servers share.
 use Rattle.std.specs.Prelude.{ℕ, List, codes}
 use Rattle.ixp_registry.specs.declared.edit_kind.EditKind.{EditKind}
 use Rattle.ixp_registry.specs.declared.edit_kind.EditKind.TheVariants as edit
+use Rattle.ixp_registry.specs.declared.public_kind.PublicKind.{PublicKind}
+use Rattle.ixp_registry.specs.declared.public_kind.PublicKind.TheVariants as public
 use Rattle.ixp_registry.specs.declared.refusal.Limited.{Limited}
 use Rattle.ixp_registry.specs.declared.refusal.Limited.TheVariants.{Rows, Weight}
 use Rattle.ixp_registry.specs.declared.refusal.Refusal.{Refusal}
@@ -47,6 +49,13 @@ field_word field.Mail = codes "mail"
 field_word field.Role = codes "role"
 field_word field.Secret = codes "secret"
 field_word field.Handle = codes "handle"
+
+-- a list that all route servers share
+abbrev pub public_word : PublicKind → List ℕ
+public_word public.Bogons = codes "bogons"
+public_word public.BogonAs = codes "bogon_as"
+public_word public.Transit = codes "transit"
+public_word public.Roas = codes "roas"
 
 -- of what there are too many
 abbrev pub limited_word : Limited → List ℕ

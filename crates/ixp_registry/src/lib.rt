@@ -26,6 +26,7 @@ mod lookups;
 mod members;
 mod network;
 mod places;
+mod public_kind;
 mod refusal;
 mod registry;
 mod router;
@@ -56,6 +57,7 @@ pub use lookups::{
 pub use members::{ApiKey, Contact, Member, Owner, Status};
 pub use network::{AddressRow, IfAddr, Interface, InterfaceRow, Port, Switch, Vlan};
 pub use places::{earliest, first};
+pub use public_kind::PublicKind;
 pub use refusal::{Limited, Refusal, Right, RowKey, TextField};
 pub use registry::Registry;
 pub use router::Router;

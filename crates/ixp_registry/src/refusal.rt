@@ -2,7 +2,7 @@
 ghost use Rattle.std.specs.Prelude.{◌≡◌};
 ghost use Rattle.ixp_registry.specs.Codes.{field_word, limited_word, refusal_code};
 
-use crate::{EditKind, Handle, Kind, Status};
+use crate::{EditKind, Handle, Kind, PublicKind, Status};
 use ixp_num::{Asn, Family};
 
 /// The right that a call asks for.
@@ -22,8 +22,7 @@ pub enum RowKey {
     Pair(u32, u32),
     /// A router's.
     Handle(Handle),
-    /// The word of a public list: `bogons`, `bogon_as`, `transit` or `roas`.
-    Word(&'static str),
+    Public(PublicKind),
 }
 
 /// A text of an edit.

@@ -8,7 +8,7 @@ use Rattle.ixp_registry.specs.declared.kind.Kind.TheVariants.{Prefixes, Origins}
 use Rattle.ixp_registry.specs.declared.lists.IrrList.{IrrList}
 use Rattle.ixp_registry.specs.declared.lists.OriginList.{OriginList}
 use Rattle.ixp_registry.specs.declared.members.Owner.{Owner}
-use Rattle.ixp_registry.specs.Codes.{edit_word}
+use Rattle.ixp_registry.specs.Codes.{edit_word, public_word}
 use Rattle.ixp_registry.specs.Kinds.{word_of}
 use Rattle.ixp_registry.specs.Registries.{prefixes_of, origins_of}
 use Rattle.ixp_registry.specs.Widths.{owner_number}
@@ -18,7 +18,6 @@ use Rattle.ixp_machine_steps.specs.declared.kept.KeptNumber.{KeptNumber}
 use Rattle.ixp_machine_steps.specs.declared.kept.KeptOwner.{KeptOwner}
 use Rattle.ixp_machine_steps.specs.declared.subject.Subject.{Subject}
 use Rattle.ixp_machine_steps.specs.declared.subject.Subject.TheVariants as about
-use Rattle.ixp_machine_steps.specs.Subjects.{public_word}
 
 -- a row: its name and its body
 abbrev pub Entry : Type 0

@@ -15,9 +15,9 @@ use Rattle.ixp_rows_lines.specs.Fields.{is_break, Number, ANumber, Handle, AHand
 use Rattle.ixp_rows_lines.specs.Lines.{owner_word}
 use Rattle.ixp_rows_lines.specs.Reading.{parted_at}
 use Rattle.ixp_rows_lines.proofs.Unbroken.{Unbroken, word_unbroken, field_unbroken}
-use Rattle.ixp_machine_steps.specs.declared.subject.PublicKind.{PublicKind}
-use Rattle.ixp_machine_steps.specs.declared.subject.PublicKind.TheVariants.{Bogons, BogonAs, Transit, Roas}
-use Rattle.ixp_machine_steps.specs.Subjects.{public_word}
+use Rattle.ixp_registry.specs.declared.public_kind.PublicKind.{PublicKind}
+use Rattle.ixp_registry.specs.declared.public_kind.PublicKind.TheVariants.{Bogons, BogonAs, Transit, Roas}
+use Rattle.ixp_registry.specs.Codes.{public_word}
 use Rattle.ixp_store_rows.specs.Names.{key_text, owner_fields}
 
 first_at : (front more : List ℕ) → Unbroken front → position_or_len is_break (front ++ 32 ∷ more) ≡ length front

@@ -22,26 +22,25 @@ ghost use Rattle.ixp_rows_lines.specs.Reading.{parted_at};
 ghost use Rattle.ixp_registry.specs.declared.edit_kind.EditKind.{EditKind as Told};
 ghost use Rattle.ixp_registry.specs.declared.members.Owner.{Owner as By};
 ghost use Rattle.ixp_registry.specs.Alphabets.{is_handle};
-ghost use Rattle.ixp_registry.specs.Codes.{edit_word};
+ghost use Rattle.ixp_registry.specs.Codes.{edit_word, public_word};
 ghost use Rattle.ixp_registry.specs.Widths.{IsNumber, owner_number};
 ghost use Rattle.ixp_machine_steps.specs.declared.kept.KeptNumber.{KeptNumber as Number};
-ghost use Rattle.ixp_machine_steps.specs.declared.subject.PublicKind.{PublicKind as Shared};
+ghost use Rattle.ixp_registry.specs.declared.public_kind.PublicKind.{PublicKind as Shared};
 ghost use Rattle.ixp_machine_steps.specs.declared.subject.Subject.{Subject as About};
 ghost use Rattle.ixp_machine_steps.specs.declared.subject.Subject.TheVariants.{
   Number as Single,
   Handle,
   Public,
 };
-ghost use Rattle.ixp_machine_steps.specs.Subjects.{public_word};
 ghost use Rattle.ixp_store_rows.specs.Names.{key_text, owner_fields, subject_text, kept_body};
 ghost use Rattle.ixp_num_tables.specs.Tables.{same};
 ghost use Rattle.ixp_store_words.specs.Storing.{form_of, HasForm, HasSubject};
 ghost use Rattle.ixp_store_words.specs.declared.words.Form.TheVariants.{OneNumber, RouterHandle, SharedList};
 
-use ixp_machine_steps::{PublicKind, Subject};
+use ixp_machine_steps::Subject;
 use ixp_num::Name;
 use ixp_num_tables::number_upto;
-use ixp_registry::{EditKind, Owner, is_handle};
+use ixp_registry::{EditKind, Owner, PublicKind, is_handle};
 use std::alloc::{AllocError, Global};
 
 fn is_break(byte: u8) -> bool

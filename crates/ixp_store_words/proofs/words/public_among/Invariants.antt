@@ -1,5 +1,5 @@
 use Rattle.std.proofs.Common.{◌≡◌, length, find as first_with}
-use Rattle.ixp_machine_steps.specs.Subjects.{public_word}
+use Rattle.ixp_registry.specs.Codes.{public_word}
 use Rattle.ixp_num_tables.specs.Tables.{same}
 use Rattle.ixp_store_words.proofs.words.public_among.Given as goal
 
