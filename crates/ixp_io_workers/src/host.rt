@@ -4,8 +4,11 @@ use std::sync::Wait;
 
 /// Work in the background. Threads share it.
 pub trait Background {
+    /// What each thread has of its own.
+    type Seat;
+
     /// Does what is to be done, once. It doesn't wait for work.
-    fn turn<R: Wait>(&self, rt: &R);
+    fn turn<R: Wait>(&self, rt: &R, seat: &mut Self::Seat);
 
     /// Waits until there is work, or until no more comes. False ends the background.
     fn has_work<R: Wait>(&self, rt: &R) -> bool;
@@ -17,5 +20,5 @@ pub trait Background {
 /// What is done with links. Threads share it.
 pub trait Host<L>: Background {
     /// Serves a link to its end.
-    fn host<R: Wait, C: Clock>(&self, rt: &R, link: L, clock: &mut C);
+    fn host<R: Wait, C: Clock>(&self, rt: &R, seat: &mut Self::Seat, link: L, clock: &mut C);
 }

@@ -1,4 +1,6 @@
 //! Links that workers serve side by side.
+ghost use Rattle.std.specs.Prelude.{◌≤◌, length};
+
 use ixp_io::{Clock, Failed, MemLink, MemSink, MemSource, Plan, SetClock, Sink, Source};
 use ixp_io_holds::{Hold, HoldDoor, HoldLink, TURNS};
 use ixp_io_workers::{Background, Host, serve};
@@ -17,10 +19,12 @@ struct Bell {
     ended: bool,
 }
 
-/// Answers each byte with the byte itself. What it does in the background is to count.
+/// Answers each byte with the byte itself. What it does in the background is to count. A seat counts what is
+/// done on it, from a number of its own on.
 #[derive(Drop)]
 struct Echo {
     ended: AtomicU64,
+    seats: AtomicU64,
     turns: AtomicU64,
     bell: Mutex<Bell>,
     heard: Condvar,
@@ -30,6 +34,7 @@ impl Echo {
     fn new() -> Echo {
         Echo {
             ended: AtomicU64::new(0),
+            seats: AtomicU64::new(0),
             turns: AtomicU64::new(0),
             bell: Mutex::new(Bell {
                 rung: false,
@@ -41,8 +46,11 @@ impl Echo {
 }
 
 impl Background for Echo {
-    fn turn<R: Wait>(&self, _rt: &R) {
-        self.turns.fetch_add(1, Ordering::SeqCst);
+    type Seat = u64;
+
+    fn turn<R: Wait>(&self, _rt: &R, seat: &mut u64) {
+        *seat = seat.saturating_add(1);
+        self.turns.store(*seat, Ordering::SeqCst);
     }
 
     fn has_work<R: Wait>(&self, rt: &R) -> bool {
@@ -80,7 +88,9 @@ fn answer_all<L: Source + Sink>(link: &mut L) -> Result<(), Failed> {
 }
 
 impl<L: Source + Sink + Drop> Host<L> for Echo {
-    fn host<R: Wait, C: Clock>(&self, rt: &R, mut link: L, clock: &mut C) {
+    fn host<R: Wait, C: Clock>(&self, rt: &R, seat: &mut u64, mut link: L, clock: &mut C) {
+        *seat = seat.saturating_add(1);
+        self.seats.fetch_add(*seat, Ordering::SeqCst);
         if answer_all(&mut link).is_ok() && clock.now() == 7 {
             self.ended.fetch_add(1, Ordering::SeqCst);
         }
@@ -106,50 +116,92 @@ fn door<'a>(alloc: Global, first: &'a Hold, second: &'a Hold) -> Result<HoldDoor
     Ok(HoldDoor::new(links))
 }
 
-/// By links that wait for each other for so many turns: how many of them ended, whether there was a turn in
-/// the background, and whether the door failed.
+/// What came of links.
+#[derive(PartialEq, Drop)]
+struct Outcome {
+    /// How many ended as they should.
+    ended: u64,
+    /// The sum of what the seats stood at, each time that one served a link.
+    seats: u64,
+    /// There was a turn in the background.
+    turned: bool,
+    /// The door failed.
+    failed: bool,
+}
+
+// Serves so many links of the door, and tells whether the door failed.
+fn fails<R: Threads + Wait + Sync>(
+    rt: &R,
+    alloc: Global,
+    door: &mut HoldDoor<'_>,
+    host: &Echo,
+    seats: &[u64],
+    links: u32,
+) -> Result<bool, AllocError>
+    requires { 1 ≤ length seats.now }
+{
+    let seats = Vec::from_slice(alloc, seats)?;
+    let mut clock = SetClock::new(7);
+    let done = serve(rt, alloc, door, &mut clock, host, seats, links)?;
+    Ok(done.is_err())
+}
+
+/// By links that wait for each other for so many turns.
 fn served<R: Threads + Wait + Sync>(
     rt: &R,
     alloc: Global,
     turns: u32,
-    workers: u32,
+    seats: &[u64],
     links: u32,
-) -> Result<(u64, bool, bool), AllocError> {
+) -> Result<Outcome, AllocError>
+    requires { 1 ≤ length seats.now }
+{
     let first = Hold::for_turns(turns);
     let second = Hold::for_turns(turns);
     let mut door = door(alloc, &first, &second)?;
     let host = Echo::new();
-    let done = serve(
-        rt,
-        alloc,
-        &mut door,
-        &mut SetClock::new(7),
-        &host,
-        workers,
-        links,
-    )?;
-    Ok((
-        host.ended.load(Ordering::SeqCst),
-        host.turns.load(Ordering::SeqCst) > 0,
-        done.is_err(),
-    ))
+    let failed = fails(rt, alloc, &mut door, &host, seats, links)?;
+    Ok(Outcome {
+        ended: host.ended.load(Ordering::SeqCst),
+        seats: host.seats.load(Ordering::SeqCst),
+        turned: host.turns.load(Ordering::SeqCst) > 0,
+        failed,
+    })
 }
 
+// Two links that wait for each other are served side by side, so each of two seats serves one of them.
 #[test]
-fn links_that_wait_for_each_other_end(rt: HostRuntime) -> Result<(), Fail> {
-    assert!(rt; served(&rt, rt.alloc(), TURNS, 2, 2)? == (2, true, false));
+fn links_that_wait_for_each_other_have_a_seat_each(rt: HostRuntime) -> Result<(), Fail> {
+    let have = served(&rt, rt.alloc(), TURNS, &[0, 200, 300], 2)?;
+    let want = Outcome {
+        ended: 2,
+        seats: 201 + 301,
+        turned: true,
+        failed: false,
+    };
+    assert!(rt; have == want);
     Ok(())
 }
 
+// One seat serves both links: beside the background's, or with its work.
 #[test]
-fn one_worker_leaves_a_link_waiting(rt: HostRuntime) -> Result<(), Fail> {
-    assert!(rt; served(&rt, rt.alloc(), 100, 1, 2)? == (1, true, false));
-    assert!(rt; served(&rt, rt.alloc(), 100, 0, 2)? == (1, true, false));
+fn one_seat_leaves_a_link_waiting(rt: HostRuntime) -> Result<(), Fail> {
+    let worker = served(&rt, rt.alloc(), 100, &[0, 200], 2)?;
+    let alone = served(&rt, rt.alloc(), 100, &[0], 2)?;
+    let want = |seats| Outcome {
+        ended: 1,
+        seats,
+        turned: true,
+        failed: false,
+    };
+    assert!(rt; worker == want(201 + 202));
+    assert!(rt; alone == want(1 + 3));
     Ok(())
 }
 
 #[test]
 fn a_door_without_a_further_link_fails(rt: HostRuntime) -> Result<(), Fail> {
-    assert!(rt; served(&rt, rt.alloc(), TURNS, 2, 3)? == (2, true, true));
+    let have = served(&rt, rt.alloc(), TURNS, &[0, 200, 300], 3)?;
+    assert!(rt; have.ended == 2 && have.failed);
     Ok(())
 }
