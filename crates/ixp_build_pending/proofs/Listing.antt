@@ -16,7 +16,7 @@ use Rattle.ixp_build_pending.specs.declared.pending.Pending.{Pending}
 use Rattle.ixp_build_pending.specs.declared.rows.PendingText.{PendingText}
 use Rattle.ixp_build_pending.specs.declared.touch.Touch.{Touch}
 use Rattle.ixp_build_pending.specs.Names.{header_of, part_of, row_key, text_key}
-use Rattle.ixp_build_pending.specs.Pendings.{IsLater, IsListed, is_key, later_count, lists_header, lists_session, text_count}
+use Rattle.ixp_build_pending.specs.Pendings.{IsLater, IsListed, IsNothing, is_key, later_count, lists_header, lists_session, text_count}
 use Rattle.ixp_build_pending.specs.Rows.{header_in, header_named, is_later, is_pending, part_in, part_named}
 use Rattle.ixp_build_pending.proofs.Filters.{find_kept, kept_or_none}
 use Rattle.ixp_build_pending.proofs.Keys.{is_header, is_part, never, no_header, no_part, order_is}
@@ -183,3 +183,11 @@ later_by upto p q up texts roas = record {
       ap (λ (rs : List PendingText). text_count rs k) texts
       ∙ (ap (λ (o : Option PendingText). if_there o 0 (λ r. r.count)) (find_kept (is_later upto) (text_key k) p.texts up)
       ∙ later_by_row upto (find row_key (text_key k) p.texts))
+
+-- no text and no ROAs are pending
+pub nothing_pending : (p : Pending) → p.texts ≡ [] → p.roas ≡ 0 → IsNothing p
+nothing_pending p none zero = record {
+  headers = λ h. ap (λ (rows : List PendingText). text_count rows (header_of h)) none;
+  sessions = λ h n. ap (λ (rows : List PendingText). text_count rows (part_of h n)) none;
+  roas = zero;
+}

@@ -1,5 +1,5 @@
 //! What is pending.
-ghost use Rattle.std.specs.Prelude.{◌≡◌, ◌<◌, ◌==◌, ◌++◌, not, IfOk, OnOk, OnErr, map};
+ghost use Rattle.std.specs.Prelude.{◌≡◌, ◌<◌, ◌==◌, ◌++◌, not, IfOk, OnOk, OnErr, IsTrue, map};
 ghost use Rattle.ixp_build_pending.specs.Pendings.{IsLater, IsListed, IsNoted, IsNothing};
 ghost use Rattle.ixp_build_pending.specs.Rows.{rows_of};
 
@@ -74,6 +74,14 @@ impl Pending {
             self.roas = count;
         }
         Ok(())
+    }
+
+    /// Whether nothing is pending.
+    #[tactic(auto, using(crate::proofs::Listing::nothing_pending))]
+    pub fn is_nothing(&self) -> bool
+        ensures { IsTrue result → IsNothing self.now }
+    {
+        self.texts.is_empty() && self.roas == 0
     }
 
     /// Whether the ROAs are pending.

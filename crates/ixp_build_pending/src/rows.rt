@@ -1,5 +1,16 @@
 //! Texts that were touched, each with a count.
-ghost use Rattle.std.specs.Prelude.{◌≡◌, true, [], IfOk, OnOk, OnErr, filter, filter_map};
+ghost use Rattle.std.specs.Prelude.{
+  ◌≡◌,
+  ◌≢◌,
+  true,
+  [],
+  IfOk,
+  OnOk,
+  OnErr,
+  MatchBool,
+  filter,
+  filter_map,
+};
 ghost use Rattle.std.specs.List.{AllByRecursion};
 ghost use Rattle.ixp_num_tables.specs.Tables.{Ascends};
 ghost use Rattle.ixp_build_pending.specs.Names.{row_key};
@@ -147,6 +158,20 @@ impl PendingTexts {
         ensures some { AllByRecursion (λ r. is_pending r ≡ true) self.now }
     {
         let _rows = self.rows.as_slice();
+    }
+
+    /// Whether no text is pending.
+    pub(crate) fn is_empty(&self) -> bool
+        ensures { MatchBool result (self.now ≡ []) (self.now ≢ []) }
+    {
+        let mut left = self.rows.as_slice();
+        'each: while let Some((row, others)) = left.split_first() {
+            if row.count != 0 {
+                return false;
+            }
+            left = others;
+        }
+        true
     }
 
     /// The routers whose headers are pending.

@@ -1,5 +1,5 @@
 -- A desk that is opened over a store.
-use Rattle.std.specs.Prelude.{◌≡◌, ℕ, [], Option, Result, Ok, Err, IfOk}
+use Rattle.std.specs.Prelude.{◌≡◌, ◌+◌, ℕ, List, [], ◌∷◌, Option, Result, Ok, Err, IfOk}
 use Rattle.ixp_io.specs.Faults.{Rose}
 use Rattle.ixp_io.specs.Tables.{Table}
 use Rattle.ixp_io.specs.Told.{WhereTold}
@@ -13,6 +13,7 @@ use Rattle.ixp_store_words.specs.Storing.{IsStorable}
 use Rattle.ixp_store_damage.specs.Damages.{TellsRow}
 use Rattle.ixp_desk_history.specs.declared.turn.First.{First}
 use Rattle.ixp_desk_lock.specs.Facts.{Log}
+use Rattle.ixp_desk_lock.specs.Sights.{Sight}
 
 -- What a store with these rows is loaded as: the valid state whose rows they are, which can be stored again;
 -- that of the registry without rows where there are none; or why not.
@@ -38,3 +39,8 @@ module _ {D P : Type 0} (history : D → Log) (rows : P → Option Table) (fault
     pub loaded : Result State LoadFault
     pub loads : Loads (rows keeper) loaded
     pub comes : Comes loaded r
+
+-- Seats with these numbers, from one on, that have made no turn and have all seen this history.
+abbrev pub AreSeats : ℕ → Log → List Sight → Type 0
+AreSeats n log [] = Unit {0}
+AreSeats n log (s ∷ ss) = (s.0 ≡ n) × (s.1 ≡ 0) × (s.2 ≡ log) × AreSeats (n + 1) log ss

@@ -1,4 +1,6 @@
 //! The calls of a desk. Each says which turns of its seat stand in the history for it.
+ghost use Rattle.ixp_desk_lock.specs.Calls.{Grows, Submits};
+
 use crate::shared::Shared;
 use ixp_board::{BoardName, Note, Publish};
 use ixp_desk_history::{DeskStory, Text};
@@ -8,7 +10,7 @@ use ixp_machine::{Answer, Query, Reply};
 use ixp_machine_steps::Entry;
 use ixp_num::Name;
 use ixp_registry::Owner;
-use std::sync::Wait;
+use std::sync::{Mutex, Wait};
 
 /// A desk, as its callers have it: threads share it by a lock, or one caller has it alone. What a seat has
 /// seen at the return is legal, and begins with all that it had seen.
@@ -137,6 +139,23 @@ impl<P: Keeper + Drop, N: BoardName, W: Publish<Note<DeskStory, N>>> Desks<N> fo
     }
 }
 
+/// Submits an edit, and says whether it was accepted and texts are pending.
+fn submit_locked<R: Wait, P: Keeper + Drop, N: BoardName, W: Publish<Note<DeskStory, N>>>(
+    rt: &R,
+    lock: &Mutex<Locked<P, N, W>>,
+    seat: &mut DeskSeat<N>,
+    entry: Entry,
+) -> (Result<Reply, SubmitFault>, bool)
+    ensures grows { Grows seat.old seat.new }
+    ensures turns { Submits entry result.0 seat.old seat.new }
+{
+    let mut desk = lock.lock(rt);
+    let reply = desk.submit(rt, seat, entry);
+    seat.is_legal();
+    let pending = reply.is_ok() && desk.has_pending();
+    (reply, pending)
+}
+
 /// Each call holds the lock for as long as it takes.
 impl<P: Keeper + Drop, N: BoardName, W: Publish<Note<DeskStory, N>>> Desks<N> for &Shared<P, N, W> {
     fn submit<R: Wait>(
@@ -145,7 +164,10 @@ impl<P: Keeper + Drop, N: BoardName, W: Publish<Note<DeskStory, N>>> Desks<N> fo
         seat: &mut DeskSeat<N>,
         entry: Entry,
     ) -> Result<Reply, SubmitFault> {
-        let reply = self.lock.lock(rt).submit(rt, seat, entry);
+        let (reply, pending) = submit_locked(rt, &self.lock, seat, entry);
+        if pending {
+            self.ring(rt);
+        }
         seat.is_legal();
         reply
     }

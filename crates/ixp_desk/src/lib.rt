@@ -14,6 +14,7 @@ mod calls;
 mod opening;
 mod publishing;
 mod shared;
+mod sharing;
 mod working;
 
 pub use calls::Desks;
@@ -22,4 +23,5 @@ pub use ixp_desk_lock::{AskFault, DeskSeat, Locked, PubFault, SubmitFault, TurnF
 pub use opening::{Desk, open_desk};
 pub use publishing::published;
 pub use shared::Shared;
+pub use sharing::{AloneDesk, SharedDesk};
 pub use working::{WorkTurn, worker_turn};

@@ -116,6 +116,11 @@ impl<P: Keeper + Drop, N: BoardName, W: Publish<Note<DeskStory, N>>> Locked<P, N
         seat.is_covered(&self.pen)
     }
 
+    /// Whether edits touched texts that aren't made yet. What is pending isn't part of what contracts see.
+    pub fn has_pending(&self) -> bool {
+        !self.pending.is_nothing()
+    }
+
     /// Takes the desk apart, and gives the store.
     pub fn into_store(self) -> P
         ensures { KeepsStore self (P.table result) (P.faults result) }

@@ -1,0 +1,84 @@
+//! What one seat after the other is answered.
+ghost use Rattle.std.specs.Prelude.{◌≡◌};
+
+use crate::samples::{STAFF, handle, request, stored};
+use ixp_board::{BoardName, Note, Publish};
+use ixp_desk::{
+    Desk, DeskSeat, Desks, PubFault, Shared, WorkTurn, open_desk, published, worker_turn,
+};
+use ixp_desk_history::DeskStory;
+use ixp_io::{FreeGate, Keeper};
+use std::alloc::Global;
+use std::marker::Brand;
+use std::sync::Wait;
+
+/// What a seat reads: a version, or that there is no such router.
+fn read<R: Wait, P: Keeper + Drop, N: BoardName, W: Publish<Note<DeskStory, N>>>(
+    rt: &R,
+    alloc: Global,
+    shared: &Shared<P, N, W>,
+    seat: &mut DeskSeat<N>,
+    router: &[u8],
+) -> Option<Option<u64>> {
+    let router = handle(alloc, router)?;
+    let mut desk = shared;
+    match published(rt, alloc, &mut desk, seat, STAFF, &router, None) {
+        Ok(text) => Some(Some(text.built)),
+        Err(PubFault::NoRouter) => Some(None),
+        Err(_) => None,
+    }
+}
+
+/// Whether an edit of one seat is in the texts that a second seat makes, which a third one reads; a worker has nothing
+/// to do then.
+fn follows<R: Wait, P: Keeper + Drop, N: BoardName, W: Publish<Note<DeskStory, N>>>(
+    rt: &R,
+    alloc: Global,
+    shared: &Shared<P, N, W>,
+    mut seats: Vec<DeskSeat<N>>,
+) -> bool {
+    let Some(mut third) = seats.pop() else {
+        return false;
+    };
+    let Some(mut second) = seats.pop() else {
+        return false;
+    };
+    let Some(mut first) = seats.pop() else {
+        return false;
+    };
+    let Ok(entry) = request(alloc, 1) else {
+        return false;
+    };
+    let mut desk = shared;
+    let accepted = desk.submit(rt, &mut first, entry).is_ok();
+    let built = desk.catch_up(rt, &mut second).ok();
+    let version = read(rt, alloc, shared, &mut third, b"rs1");
+    let missing = read(rt, alloc, shared, &mut third, b"rs9");
+    let turn = worker_turn(rt, alloc, shared, &mut second, &FreeGate);
+    let idle = matches!(turn, Ok(WorkTurn::Nothing { built: 1 }));
+    accepted && built == Some(1) && version == Some(Some(1)) && missing == Some(None) && idle
+}
+
+fn on_a_desk<R: Wait, N: BoardName, P: Keeper + Drop>(rt: &R, alloc: Global, desk: Desk<P>) -> bool
+    requires { desk.0 ≡ N.book }
+{
+    match desk.share::<N>() {
+        Ok((shared, seats)) => follows(rt, alloc, &shared, seats),
+        Err(_) => false,
+    }
+}
+
+fn on_a_store<R: Wait>(rt: &R, alloc: Global) -> bool {
+    let Some(keeper) = stored(alloc) else {
+        return false;
+    };
+    match open_desk(alloc, keeper, 3) {
+        Ok(desk) => on_a_desk::<R, Brand, _>(rt, alloc, desk),
+        Err(_) => false,
+    }
+}
+
+#[test]
+fn texts_follow_an_edit_of_another_seat(rt: HostRuntime) {
+    assert!(rt; on_a_store(&rt, rt.alloc()));
+}
