@@ -20,6 +20,8 @@ use crate::texts::{Texts, block_of};
 use std::alloc::{AllocError, Global};
 use std::collections::BTreeMap;
 use std::process::ExitCode;
+use std::sync::Wait;
+use std::thread::Threads;
 use std::{env, fs, io};
 
 /// What came of the cases so far.
@@ -58,8 +60,9 @@ impl Tally {
     }
 
     /// Plays the case that fields are, whose differences are told with this line.
-    fn take_case(
+    fn take_case<R: Threads + Wait + Sync>(
         &mut self,
+        rt: &R,
         alloc: Global,
         file: &str,
         line: usize,
@@ -70,7 +73,7 @@ impl Tally {
             Err((at, flaw)) => return self.tell_flaw(file, at, flaw),
         };
         self.cases = self.cases.saturating_add(case.count());
-        for found in play(alloc, &case)?.iter() {
+        for found in play(rt, alloc, &case)?.iter() {
             let (at, what) = (found.line, found.what.as_str());
             let what = format!(in alloc; "by line {at}, {what}")?;
             self.tell(file, line, what.as_str())?;
@@ -89,8 +92,9 @@ impl Tally {
     }
 
     /// Plays a case once for each row of its table, or takes a text.
-    fn take_group(
+    fn take_group<R: Threads + Wait + Sync>(
         &mut self,
+        rt: &R,
         alloc: Global,
         file: &str,
         fields: &[Field],
@@ -102,36 +106,48 @@ impl Tally {
             return self.take_text(alloc, file, first);
         }
         if !fields.iter().any(is_row) {
-            return self.take_case(alloc, file, first.line, fields);
+            return self.take_case(rt, alloc, file, first.line, fields);
         }
         for row in fields.iter().filter(|field| is_row(*field)) {
             let filled = filled(alloc, fields, row)?;
-            self.take_case(alloc, file, row.line, filled.as_slice())?;
+            self.take_case(rt, alloc, file, row.line, filled.as_slice())?;
         }
         Ok(())
     }
 
     /// Takes the cases and texts that fields are.
-    fn take_all(&mut self, alloc: Global, file: &str, fields: &[Field]) -> Result<(), AllocError> {
+    fn take_all<R: Threads + Wait + Sync>(
+        &mut self,
+        rt: &R,
+        alloc: Global,
+        file: &str,
+        fields: &[Field],
+    ) -> Result<(), AllocError> {
         let mut start = 0;
         for (place, field) in fields.iter().enumerate() {
             if field.name.as_str() == "case" || field.name.as_str() == "text" {
-                self.take_group(alloc, file, fields.get(start..place).unwrap_or(&[]))?;
+                self.take_group(rt, alloc, file, fields.get(start..place).unwrap_or(&[]))?;
                 start = place;
             }
         }
-        self.take_group(alloc, file, fields.get(start..).unwrap_or(&[]))
+        self.take_group(rt, alloc, file, fields.get(start..).unwrap_or(&[]))
     }
 
     /// Takes a file: a text, or cases.
-    fn take_file(&mut self, alloc: Global, file: &str, text: String) -> Result<(), AllocError> {
+    fn take_file<R: Threads + Wait + Sync>(
+        &mut self,
+        rt: &R,
+        alloc: Global,
+        file: &str,
+        text: String,
+    ) -> Result<(), AllocError> {
         if file.ends_with(".txt") {
             self.texts.insert(String::from_str(alloc, file)?, text)?;
             return Ok(());
         }
         let before = self.cases;
         match fields_of(alloc, text.as_str()) {
-            Ok(fields) => self.take_all(alloc, file, fields.as_slice())?,
+            Ok(fields) => self.take_all(rt, alloc, file, fields.as_slice())?,
             Err(flaw) => self.tell_flaw(file, 1, flaw)?,
         }
         let cases = self.cases.saturating_sub(before);
@@ -139,7 +155,8 @@ impl Tally {
     }
 }
 
-fn run_files(rt: &HostRuntime) -> io::Result<usize> {
+/// `wait` is the same runtime: code outside `main` may wait by it.
+fn run_files<R: Threads + Wait + Sync>(rt: &HostRuntime, wait: &R) -> io::Result<usize> {
     let alloc = rt.alloc();
     let mut tally = Tally {
         texts: BTreeMap::new(alloc),
@@ -149,7 +166,7 @@ fn run_files(rt: &HostRuntime) -> io::Result<usize> {
     };
     for file in env::args(rt)?.skip(1) {
         let text = fs::read_to_string(rt, file.as_str())?;
-        tally.take_file(alloc, file.as_str(), text)?;
+        tally.take_file(wait, alloc, file.as_str(), text)?;
         rt.print(tally.report.as_str())?;
         tally.report.clear();
     }
@@ -163,7 +180,7 @@ fn run_files(rt: &HostRuntime) -> io::Result<usize> {
 }
 
 fn main(rt: HostRuntime) -> io::Result<ExitCode> {
-    match run_files(&rt)? {
+    match run_files(&rt, &rt)? {
         0 => Ok(ExitCode::SUCCESS),
         _ => Ok(ExitCode::FAILURE),
     }

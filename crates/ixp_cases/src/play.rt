@@ -1,10 +1,13 @@
 //! Cases that are run over objects in memory, and where what comes of them differs from what they want.
 use crate::case::{Case, Part, Run, Want};
 use crate::http::{Replies, replies_in};
-use ixp_cli::run;
-use ixp_io::{Keeper, MemKeeper, MemSink, MemSource, Plan, RowName, SetClock};
+use ixp_cli::{run, run_plain};
+use ixp_io::{FreeGate, Keeper, MemDoor, MemKeeper, MemSink, MemSource, Plan, RowName, SetClock};
 use ixp_num_tables::Items;
 use std::alloc::{AllocError, Global};
+use std::collections::VecDeque;
+use std::sync::Wait;
+use std::thread::Threads;
 
 /// A difference, and the line of the field that it is from.
 #[derive(Drop)]
@@ -22,8 +25,9 @@ struct Given {
     replies: Replies,
 }
 
-/// Runs a command over the store, by reads of so many bytes at most.
-fn play_run(
+/// Runs a command over the store, by reads of so many bytes at most, and a door that has no link.
+fn play_run<R: Threads + Wait + Sync>(
+    rt: &R,
     alloc: Global,
     asked: &Run,
     most: usize,
@@ -40,7 +44,9 @@ fn play_run(
     let mut input = MemSource::new(bytes, reads).in_pieces(most.max(1));
     let mut output = MemSink::new(alloc, writes).in_pieces((asked.most_written as usize).max(1));
     let mut errors = MemSink::new(alloc, Plan::smooth(alloc));
+    let mut door = MemDoor::new(VecDeque::new(alloc), Plan::smooth(alloc));
     let status = run(
+        rt,
         alloc,
         words.as_slice(),
         &mut input,
@@ -48,6 +54,8 @@ fn play_run(
         &mut errors,
         keeper,
         &mut SetClock::new(asked.second),
+        &mut door,
+        &FreeGate,
     );
     given_of(alloc, status, output.written(), errors.written())
 }
@@ -158,14 +166,15 @@ fn compare(
     Ok(())
 }
 
-fn play_and_compare(
+fn play_and_compare<R: Threads + Wait + Sync>(
+    rt: &R,
     alloc: Global,
     asked: &Run,
     most: usize,
     keeper: &mut MemKeeper,
     found: &mut Vec<Difference>,
 ) -> Result<(), AllocError> {
-    let given = play_run(alloc, asked, most, keeper)?;
+    let given = play_run(rt, alloc, asked, most, keeper)?;
     for want in asked.wants.iter() {
         compare(alloc, &given, keeper, want, found)?;
     }
@@ -174,10 +183,20 @@ fn play_and_compare(
 
 /// Restores a dump into an empty store.
 fn restore(alloc: Global, dump: &str, keeper: &mut MemKeeper) -> Result<bool, AllocError> {
-    let mut asked = Run::new(alloc, 0, "restore")?;
-    asked.input = String::from_str(alloc, dump)?;
-    let given = play_run(alloc, &asked, usize::MAX, keeper)?;
-    Ok(given.status == 0)
+    let bytes = Items::from_slice(alloc, dump.as_bytes())?;
+    let mut input = MemSource::new(bytes, Plan::smooth(alloc));
+    let mut output = MemSink::new(alloc, Plan::smooth(alloc));
+    let mut errors = MemSink::new(alloc, Plan::smooth(alloc));
+    let status = run_plain(
+        alloc,
+        &["restore"],
+        &mut input,
+        &mut output,
+        &mut errors,
+        keeper,
+        &mut SetClock::new(0),
+    );
+    Ok(status == Some(0))
 }
 
 /// The store that a case begins with; none where its dump can't be restored.
@@ -193,7 +212,8 @@ fn store_of(alloc: Global, case: &Case) -> Result<Option<MemKeeper>, AllocError>
 }
 
 /// Plays the runs of a case, one after the other.
-fn play_once(
+fn play_once<R: Threads + Wait + Sync>(
+    rt: &R,
     alloc: Global,
     case: &Case,
     most: usize,
@@ -205,16 +225,20 @@ fn play_once(
         return Ok(());
     };
     for asked in case.runs.iter() {
-        play_and_compare(alloc, asked, most, &mut keeper, found)?;
+        play_and_compare(rt, alloc, asked, most, &mut keeper, found)?;
     }
     Ok(())
 }
 
 /// Plays a case, once for each size of its reads, and tells how what comes of it differs from what it wants.
-pub fn play(alloc: Global, case: &Case) -> Result<Vec<Difference>, AllocError> {
+pub fn play<R: Threads + Wait + Sync>(
+    rt: &R,
+    alloc: Global,
+    case: &Case,
+) -> Result<Vec<Difference>, AllocError> {
     let mut found = Vec::new(alloc);
     for most in case.pieces.iter() {
-        play_once(alloc, case, *most as usize, &mut found)?;
+        play_once(rt, alloc, case, *most as usize, &mut found)?;
     }
     Ok(found)
 }

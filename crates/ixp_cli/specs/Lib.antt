@@ -1,12 +1,2 @@
-pub mod Checks
-pub mod Demos
-pub mod Evals
-pub mod Expansions
-pub mod Exports
-pub mod Fates
-pub mod Generates
-pub mod Inputs
-pub mod Restores
-pub mod Runs
-pub mod Served
-pub mod Sessions
+pub mod Ends
+pub mod Waits

@@ -1,103 +1,37 @@
-//! Laws of runs. The functions do nothing: each is called for what it ensures.
-ghost use Rattle.std.specs.Prelude.{◌≡◌, ◌⊎◌, ◌<◌, ◌≤◌, true, ℕ, List, Option, Some, Ok, Err, length};
-ghost use Rattle.ixp_num.specs.declared.cause.Cause.{Cause};
-ghost use Rattle.std.specs.FinMap.{empty};
-ghost use Rattle.ixp_io.specs.Told.{Told};
-ghost use Rattle.ixp_ixf.specs.Views.{ixf_text_of};
-ghost use Rattle.ixp_registry.specs.declared.registry.Registry.{Registry};
-ghost use Rattle.ixp_rpsl_text.specs.declared.fault.ExpandCause.{ExpandCause};
-ghost use Rattle.ixp_cli.specs.declared.command.Command.{Command};
-ghost use Rattle.ixp_cli.specs.declared.command.Command.TheVariants.{Ask, Ixf, Restore, Session};
-ghost use Rattle.ixp_cli.specs.declared.command.Question.{Question};
-ghost use Rattle.ixp_cli.specs.declared.end.End.{End};
-ghost use Rattle.ixp_cli.specs.Evals.{Evaluates};
-ghost use Rattle.ixp_cli.specs.Restores.{IsDumpOf};
-ghost use Rattle.ixp_cli.specs.Runs.{
-  Answers,
-  AsksInVain,
-  CanBeLoaded,
-  HasBadObjects,
-  IsAnswered,
-  IsLongEnd,
-  IsRestored,
-  IsTold,
-  Outside,
-  Runs,
-  input_limit,
-  reads_whole,
-};
-ghost use Rattle.ixp_cli.specs.Served.{IsServed, IsUnloaded};
+//! Laws of runs that wait. The functions do nothing: each is called for what it ensures.
+ghost use Rattle.std.specs.Prelude.{ℕ, Option, Some};
+ghost use Rattle.ixp_io.specs.Faults.{Rose};
+ghost use Rattle.ixp_io.specs.Told.{Takes};
+ghost use Rattle.ixp_io_workers.specs.Doors.{Gave};
+ghost use Rattle.ixp_cli_plain.specs.declared.command.Command.{Command};
+ghost use Rattle.ixp_cli_plain.specs.declared.command.Command.TheVariants.{Wait};
+ghost use Rattle.ixp_cli_plain.specs.declared.command.Waiting.{Waiting};
+ghost use Rattle.ixp_cli_plain.specs.declared.command.Waiting.TheVariants.{Serve};
+ghost use Rattle.ixp_cli_plain.specs.Runs.{CanBeLoaded, Outside};
+ghost use Rattle.ixp_cli.specs.Waits.{AllRuns, DoorAt, served_text};
 
-/// An input of `eval` has one output.
-pub fn one_output()
-    ensures { (input x y : List ℕ) → Evaluates input x → Evaluates input y → x ≡ y }
+/// A server that ends with status 0 was given as many links as were asked for, where its door tells that, and
+/// has written so.
+#[tactic(auto, using(crate::proofs::Servers::all_served))]
+pub fn servers_serve_all_links()
+    ensures { (port workers n : ℕ) (before after : Outside) (door door' : DoorAt)
+        → AllRuns (Some (Wait (Serve port workers n))) before after door door' 0
+        → Gave door.given door'.given n × Takes before.output.bytes after.output.bytes (served_text n) }
 {}
 
-/// An input that is longer than the limit is refused as U5 by every command that reads it whole, but that a
-/// read may fail or memory run out.
-pub fn long_inputs_are_refused()
-    ensures { (command : Command) (before after : Outside) (status : Option ℕ) (left : List ℕ)
-        → reads_whole command ≡ true → before.input.bytes ≡ Some left →
-        input_limit < length left → Runs (Some command) before after status →
-        (end : End) × IsLongEnd end × IsTold end before.errors after.errors status }
-{}
-
-/// An input of a question has one answer: one output, or one refusal of it, or one router that isn't there,
-/// or a cause that lies in whois data.
-/// So an input that a question answers is answered, but that a read or a write may fail or memory run out.
-pub fn inputs_are_answered()
-    ensures output { (question : Question) (input x y : List ℕ) → Answers question input (Ok x)
-        → Answers question input (Ok y) → x ≡ y }
-    ensures refusal { (question : Question) (input x : List ℕ) (cause : Cause) → Answers question input (Ok x)
-        → ¬ (Answers question input (Err cause)) }
-    ensures away { (question : Question) (input x router : List ℕ) → Answers question input (Ok x)
-        → ¬ (AsksInVain question input router) }
-    ensures objects { (question : Question) (input x : List ℕ) (cause : ExpandCause)
-        → Answers question input (Ok x) → ¬ (HasBadObjects question input cause) }
-    ensures run { (question : Question) (before after : Outside) (status : Option ℕ) (input output : List ℕ)
-        → before.input.bytes ≡ Some input →
-        length input ≤ input_limit → Answers question input (Ok output)
-        → Runs (Some (Ask question)) before after status →
-        (end : End) × IsAnswered output before.input after.input before.output after.output end
-        × IsTold end before.errors after.errors status }
-{}
-
-/// The member export of a registry whose dump is read is written, at a second that the clock gave, but that a
-/// read or a write may fail or memory run out.
-pub fn dumps_are_exported()
-    ensures { (r : Registry) (before after : Outside) (status : Option ℕ) (input : List ℕ)
-        → before.input.bytes ≡ Some input →
-        length input ≤ input_limit → IsDumpOf input r → Runs (Some Ixf) before after status →
-        (end : End) × (second : ℕ) × Told before.second after.second (λ earlier last. last ≡ second)
-        × IsAnswered (ixf_text_of r second) before.input after.input before.output after.output end
-        × IsTold end before.errors after.errors status }
-{}
-
-/// A registry's dump is restored into a keeper that tells that it has no row, but that a read, a write or the
-/// keeper may fail or memory run out.
-pub fn dumps_are_restored()
-    ensures { (r : Registry) (before after : Outside) (status : Option ℕ) (input : List ℕ)
-        → before.input.bytes ≡ Some input →
-        length input ≤ input_limit → IsDumpOf input r → before.store.rows ≡ Some empty
-        → Runs (Some Restore) before after status →
-        (end : End) × IsRestored r before after end × IsTold end before.errors after.errors status }
-{}
-
-/// A session whose input is told: the store isn't loaded, or the input's bytes say how the link ends and
-/// which requests are answered, where nothing fails. Fewer than 100,000 whole requests of which none but the
-/// last asks to close all get their replies, unless a read or a write fails or memory runs out.
-pub fn sessions_are_answered()
-    ensures { (before after : Outside) (status : Option ℕ) (bytes : List ℕ) → before.input.bytes ≡ Some bytes
-        → Runs (Some Session) before after status →
-        IsUnloaded before after status ⊎ IsServed before after status bytes }
+/// Status 7 comes only where the door's count of faults rose.
+#[tactic(auto, using(crate::proofs::Servers::door_failed))]
+pub fn door_faults_have_a_cause()
+    ensures { (command : Option Command) (before after : Outside) (door door' : DoorAt)
+        → AllRuns command before after door door' 7 → Rose door.faults door'.faults }
 {}
 
 /// Damage is told of no store that has the rows of a state that requests lead to, or none; nor is such a
 /// store told to be old.
-#[tactic(auto, using(crate::proofs::Loadable::never_damaged, crate::proofs::Loadable::never_old))]
+#[tactic(auto, using(crate::proofs::Loaded::never_damaged, crate::proofs::Loaded::never_old))]
 pub fn what_was_stored_is_loaded()
-    ensures damaged { (command : Option Command) (before after : Outside) (status : Option ℕ)
-        → CanBeLoaded before.store → Runs command before after status → ¬ (status ≡ Some 6) }
-    ensures old { (command : Option Command) (before after : Outside) (status : Option ℕ)
-        → CanBeLoaded before.store → Runs command before after status → ¬ (status ≡ Some 10) }
+    ensures damaged { (command : Option Command) (before after : Outside) (door door' : DoorAt)
+        → CanBeLoaded before.store → ¬ (AllRuns command before after door door' 6) }
+    ensures old { (command : Option Command) (before after : Outside) (door door' : DoorAt)
+        → CanBeLoaded before.store → ¬ (AllRuns command before after door door' 10) }
 {}

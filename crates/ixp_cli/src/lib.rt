@@ -1,21 +1,13 @@
 //! The program's commands, over the objects of the outside that the caller supplies.
+//!
+//! [`run`] runs the command that words are: `session` over the input and the output as one link, `serve` over the
+//! links of a door, and all others as `ixp_cli_plain` does. `specs/Waits.antt` says how those two end.
 #![tactic(auto)]
 
-mod check;
-mod command;
-mod demo;
-mod dump;
-mod end;
-mod eval;
-mod expansion;
-mod export;
-mod fate;
-mod generation;
-mod input;
 pub mod laws;
-mod restore;
+mod running;
+mod server;
 mod session;
-mod unloaded;
 
-pub use command::{Command, INPUT_LIMIT, Question, run, run_plain};
-pub use end::{End, LinkCode};
+pub use ixp_cli_plain::{Command, End, INPUT_LIMIT, LinkCode, Question, Waiting, run_plain};
+pub use running::run;

@@ -1,17 +1,15 @@
 //! The command `session`: it answers the HTTP requests of the input, one after the other, and writes the
 //! replies to the output.
 ghost use Rattle.std.specs.Prelude.{◌≡◌};
-ghost use Rattle.ixp_cli.specs.Restores.{Store};
-ghost use Rattle.ixp_cli.specs.Runs.{Flow, SessionEnds};
-ghost use Rattle.ixp_cli.specs.Sessions.{code_of, end_of};
+ghost use Rattle.ixp_cli.specs.Ends.{code_of, end_of};
+ghost use Rattle.ixp_cli.specs.Waits.{SessionRuns};
 
-use crate::end::{End, LinkCode};
-use crate::unloaded::unloaded;
-use ixp_desk_plain::PlainDesk;
-use ixp_http_link::{LinkEnd, Served, serve};
+use ixp_cli_plain::{End, LinkCode, unloaded};
+use ixp_desk_serve::{SessionEnd, serve_session};
+use ixp_http_link::{LinkEnd, Served};
 use ixp_io::{Clock, Keeper, Sink, Source};
-use ixp_store_load::load;
 use std::alloc::Global;
+use std::sync::Wait;
 
 /// The code of a message that is no request, by the status of its reply.
 fn code_of(status: u16) -> LinkCode
@@ -54,26 +52,37 @@ fn end_of(served: Served) -> End
 }
 
 /// Loads the store's state, and serves the input and the output as one link.
-pub(crate) fn run_session<S: Source, K: Sink, P: Keeper, C: Clock>(
+pub(crate) fn run_session<R: Wait, S: Source, K: Sink, P: Keeper, C: Clock>(
+    rt: &R,
     alloc: Global,
     input: &mut S,
     output: &mut K,
     keeper: &mut P,
     clock: &mut C,
 ) -> End
-    ensures { SessionEnds (record { bytes = S.left input.old; faults = S.read_faults input.old })
-        (record { bytes = S.left input.new; faults = S.read_faults input.new })
-        (record { bytes = K.written output.old; faults = K.write_faults output.old })
-        (record { bytes = K.written output.new; faults = K.write_faults output.new })
-        (record { rows = P.table keeper.old; faults = P.faults keeper.old })
-        (record { rows = P.table keeper.new; faults = P.faults keeper.new }) (C.given clock.old)
-        (C.given clock.new) result }
+    ensures { SessionRuns
+        (record {
+          rows = P.table keeper.old;
+          faults = P.faults keeper.old;
+          left = S.left input.old;
+          reads = S.read_faults input.old;
+          written = K.written output.old;
+          writes = K.write_faults output.old;
+          given = C.given clock.old;
+        })
+        (record {
+          rows = P.table keeper.new;
+          faults = P.faults keeper.new;
+          left = S.left input.new;
+          reads = S.read_faults input.new;
+          written = K.written output.new;
+          writes = K.write_faults output.new;
+          given = C.given clock.new;
+        }) result }
 {
-    let state = match load(alloc, keeper) {
-        Ok(state) => state,
-        Err(fault) => return unloaded(alloc, fault),
-    };
-    let mut desk = PlainDesk::new(state);
-    let served = serve(alloc, &mut desk, keeper, clock, input, output);
-    end_of(served)
+    match serve_session(rt, alloc, keeper, input, output, clock) {
+        SessionEnd::Unopened(fault) => unloaded(alloc, fault),
+        SessionEnd::NoMemory => End::NoMemory,
+        SessionEnd::Served(served) => end_of(served),
+    }
 }

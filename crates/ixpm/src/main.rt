@@ -3,10 +3,12 @@
 #![tactic(auto)]
 
 use ixp_cli::run;
-use ixp_io::{ReadSource, WriteSink};
-use ixp_io_net::SystemClock;
+use ixp_io::{FreeGate, ReadSource, WriteSink};
+use ixp_io_net::{SystemClock, TcpDoor};
 use ixp_keeper_sql::FileKeeper;
 use std::process::ExitCode;
+use std::sync::Wait;
+use std::thread::Threads;
 use std::{env, io};
 
 const HELP: &str = "ixpm: the registry of an internet exchange, and its route servers' configuration
@@ -29,13 +31,15 @@ const HELP: &str = "ixpm: the registry of an internet exchange, and its route se
                    current folder, which has to be empty
   ixpm dump        writes the dump of the registry in the store
   ixpm session     answers the HTTP requests on standard input, over the registry in the store
+  ixpm serve P W N serves N HTTP connections on port P of 127.0.0.1, by W workers, 1 to 62, over the registry in the store;
+                   then it writes how many it served
   ixpm demo N      writes how many members, sessions and patterns of prefix sets the demo exchange with N members has,
                    from 1 to 4000, and how many parts of its text are regenerated after edits
   ixpm --help      writes this
   ixpm --version   writes the version
 
-Status: 0 done, 1 usage, 2 bad input, 3 read fault, 4 write fault, 5 keeper fault, 6 damaged store, 8 out of memory,
-9 unknown router, 10 old store, 11 store not empty. A line on standard error says why.
+Status: 0 done, 1 usage, 2 bad input, 3 read fault, 4 write fault, 5 keeper fault, 6 damaged store, 7 door fault, 8 out
+of memory, 9 unknown router, 10 old store, 11 store not empty. A line on standard error says why.
 ";
 
 /// The file of the store, in the current folder. It is opened by the commands that use it.
@@ -63,8 +67,8 @@ fn show(rt: &HostRuntime, text: &str) -> u8 {
     }
 }
 
-/// Runs a command over the standard streams.
-fn command(rt: &HostRuntime, words: &[&str]) -> u8 {
+/// Runs a command over the standard streams. `wait` is the same runtime: code outside `main` may wait by it.
+fn command<R: Threads + Wait + Sync>(rt: &HostRuntime, wait: &R, words: &[&str]) -> u8 {
     let alloc = rt.alloc();
     let mut input = ReadSource::new(rt.stdin());
     let mut output = WriteSink::new(rt.stdout());
@@ -73,7 +77,9 @@ fn command(rt: &HostRuntime, words: &[&str]) -> u8 {
         return 8;
     };
     let mut clock = SystemClock::new(rt);
+    let mut door = TcpDoor::new(rt);
     let status = run(
+        wait,
         alloc,
         words,
         &mut input,
@@ -81,34 +87,36 @@ fn command(rt: &HostRuntime, words: &[&str]) -> u8 {
         &mut errors,
         &mut keeper,
         &mut clock,
+        &mut door,
+        &FreeGate,
     );
     keeper.close();
     status
 }
 
 /// What the words ask for: one of the program's own texts, or a command.
-fn answer(rt: &HostRuntime, words: &[&str]) -> u8 {
+fn answer<R: Threads + Wait + Sync>(rt: &HostRuntime, wait: &R, words: &[&str]) -> u8 {
     match words {
         ["--help"] => show(rt, HELP),
         ["--version"] => show(rt, VERSION),
-        _ => command(rt, words),
+        _ => command(rt, wait, words),
     }
 }
 
-fn status_of(rt: &HostRuntime) -> io::Result<u8> {
+fn status_of<R: Threads + Wait + Sync>(rt: &HostRuntime, wait: &R) -> io::Result<u8> {
     let words = words_of(rt)?;
     let mut texts = Vec::new(rt.alloc());
     for word in &words {
         texts.push(word.as_str())?;
     }
-    Ok(answer(rt, texts.as_slice()))
+    Ok(answer(rt, wait, texts.as_slice()))
 }
 
 fn main(rt: HostRuntime) -> ExitCode {
-    match status_of(&rt) {
+    match status_of(&rt, &rt) {
         Ok(status) => ExitCode::from(status),
         Err(e) if e.kind() == io::ErrorKind::OutOfMemory => ExitCode::from(8),
         // A word that is no text is a word of no command.
-        Err(_) => ExitCode::from(command(&rt, &[])),
+        Err(_) => ExitCode::from(command(&rt, &rt, &[])),
     }
 }

@@ -1,8 +1,0 @@
-use Rattle.std.proofs.Common.{[], ◌∷◌, ◌++◌}
-use Rattle.ixp_cli.proofs.Telling.{takes_on, on_err}
-use Rattle.ixp_cli.proofs.end.write_named.Goals as goal
-
-pub returns-in_err-write_name_line-clause-err : goal.returns-in_err-write_name_line-clause-err
-returns-in_err-write_name_line-clause-err g c =
-    on_err c.from_residual-in_err-write_name_line.result _
-    (takes_on _ _ _ c.args.before.now (c.args.name.now ++ 10 ∷ []) c.in_ok-write_all.ensures.ok c.in_err-write_name_line.ensures.err)

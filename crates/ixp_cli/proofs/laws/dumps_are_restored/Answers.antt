@@ -1,5 +1,0 @@
-use Rattle.ixp_cli.proofs.Complete.{restored_run}
-use Rattle.ixp_cli.proofs.laws.dumps_are_restored.Goals as goal
-
-pub returns : goal.returns
-returns c = restored_run

@@ -1,5 +1,0 @@
-use Rattle.ixp_cli.proofs.OneOutput.{one_output}
-use Rattle.ixp_cli.proofs.laws.one_output.Goals as goal
-
-pub returns : goal.returns
-returns c = one_output

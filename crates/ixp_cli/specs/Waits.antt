@@ -1,0 +1,89 @@
+-- How the commands end that wait: `session` and `serve`.
+use Rattle.std.specs.Prelude.{◌≡◌, ◌⊎◌, ℕ, true, List, [], ◌∷◌, ◌++◌, Option, Some, codes, decimal}
+use Rattle.ixp_io.specs.Faults.{Rose}
+use Rattle.ixp_io.specs.Told.{Takes, TakesPart}
+use Rattle.ixp_desk_serve.specs.declared.server.ServerEnd.{ServerEnd}
+use Rattle.ixp_desk_serve.specs.declared.server.ServerEnd.TheVariants as server
+use Rattle.ixp_desk_serve.specs.declared.session.SessionEnd.{SessionEnd}
+use Rattle.ixp_desk_serve.specs.declared.session.SessionEnd.TheVariants as session
+use Rattle.ixp_desk_serve.specs.Servers.{ServerEnds}
+use Rattle.ixp_desk_serve.specs.Sessions.{Objects, SessionEnds}
+use Rattle.ixp_cli_plain.specs.declared.command.Command.{Command}
+use Rattle.ixp_cli_plain.specs.declared.command.Command.TheVariants.{Wait}
+use Rattle.ixp_cli_plain.specs.declared.command.Waiting.{Waiting}
+use Rattle.ixp_cli_plain.specs.declared.command.Waiting.TheVariants.{Session, Serve}
+use Rattle.ixp_cli_plain.specs.declared.end.End.{End}
+use Rattle.ixp_cli_plain.specs.declared.end.End.TheVariants.{Done, WriteFault, NoMemory, DoorFault}
+use Rattle.ixp_cli_plain.specs.Restores.{Store}
+use Rattle.ixp_cli_plain.specs.Runs.{Flow, IsTold, Outside, PlainRuns, waits}
+use Rattle.ixp_cli_plain.specs.Sessions.{Unloaded}
+use Rattle.ixp_cli.specs.Ends.{end_of}
+
+-- how a run ends by how its session did
+abbrev pub IsEndOf : SessionEnd → End → Type 0
+IsEndOf (session.Unopened fault) end = Unloaded fault end
+IsEndOf session.NoMemory end = end ≡ NoMemory
+IsEndOf (session.Served served) end = end ≡ end_of served
+
+-- A session was run, and the run ends as it did.
+abbrev pub SessionRuns : Objects → Objects → End → Type 0
+SessionRuns before after end = (e : SessionEnd) × SessionEnds before after e × IsEndOf e end
+
+-- what a door tells at a moment: how many links it gave, and how many of its calls failed
+pub record DoorAt : Type 0 where
+  pub given : Option ℕ
+  pub faults : ℕ
+
+-- what is written once so many links were served
+abbrev pub served_text : ℕ → List ℕ
+served_text n = codes "served " ++ (decimal n ++ 10 ∷ [])
+
+-- the output took that so many links were served, or a first part of it, and a write failed
+abbrev pub IsServed : ℕ → Flow → Flow → End → Type 0
+IsServed n output output' end =
+    ((end ≡ Done) × Takes output.bytes output'.bytes (served_text n))
+    ⊎ ((end ≡ WriteFault) × TakesPart output.bytes output'.bytes (served_text n) × Rose output.faults output'.faults)
+
+-- how a run ends by how its server did, and what is written
+abbrev pub IsServerEnd : ℕ → Flow → Flow → ServerEnd → End → Type 0
+IsServerEnd n output output' server.Served end = IsServed n output output' end
+IsServerEnd n output output' server.DoorFault end = (end ≡ DoorFault) × (output' ≡ output)
+IsServerEnd n output output' server.NoMemory end = (end ≡ NoMemory) × (output' ≡ output)
+IsServerEnd n output output' (server.Unopened fault) end = Unloaded fault end × (output' ≡ output)
+
+-- A server of so many links was run, and the run ends as it did.
+abbrev pub ServeRuns : ℕ → Flow → Flow → Store → Store → DoorAt → DoorAt → End → Type 0
+ServeRuns n output output' store store' door door' end =
+    (e : ServerEnd) × ServerEnds store.rows store'.rows store.faults store'.faults door.given door'.given door.faults door'.faults n e
+    × IsServerEnd n output output' e end
+
+-- the objects of a session
+abbrev pub objects : Flow → Flow → Store → Option ℕ → Objects
+objects input output store given = record {
+  rows = store.rows;
+  faults = store.faults;
+  left = input.bytes;
+  reads = input.faults;
+  written = output.bytes;
+  writes = output.faults;
+  given = given;
+}
+
+-- How a command ends that waits. A session doesn't touch the door, and a server doesn't read.
+abbrev pub WaitEnds : Waiting → Flow → Flow → Flow → Flow → Store → Store → Option ℕ → Option ℕ → DoorAt → DoorAt → End → Type 0
+WaitEnds Session input input' output output' store store' given given' door door' end =
+    SessionRuns (objects input output store given) (objects input' output' store' given') end × (door' ≡ door)
+WaitEnds (Serve port workers links) input input' output output' store store' given given' door door' end =
+    ServeRuns links output output' store store' door door' end × (input' ≡ input)
+
+-- A run of a command that waits: it ends in one way, which its status says, and of which a line on the errors tells.
+pub record WaitRuns (waiting : Waiting) (before after : Outside) (door door' : DoorAt) (status : ℕ) : Type 0 where
+  pub end : End
+  pub ends : WaitEnds waiting before.input after.input before.output after.output before.store after.store before.second after.second door door' end
+  pub told : IsTold end before.errors after.errors (Some status)
+
+-- A run: of a command that doesn't wait, which leaves the door alone, or of one that does.
+abbrev pub AllRuns : Option Command → Outside → Outside → DoorAt → DoorAt → ℕ → Type 0
+AllRuns command before after door door' status =
+    (PlainRuns command before after (Some status) × (door' ≡ door))
+    ⊎ ((waiting : Waiting) × (command ≡ Some (Wait waiting)) × WaitRuns waiting before after door door' status)

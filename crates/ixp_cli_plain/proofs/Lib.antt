@@ -1,0 +1,16 @@
+pub mod Complete
+pub mod Ending
+pub mod Evaluating
+pub mod Expanding
+pub mod Words
+pub mod Fating
+pub mod Generating
+pub mod Inputs
+pub mod LongInputs
+pub mod OneAnswer
+pub mod OneOutput
+pub mod Refusals
+pub mod Telling
+pub mod Loadable
+pub mod Loading
+pub mod NoDoor

@@ -1,0 +1,12 @@
+use Rattle.std.proofs.Common.{rules}
+use Rattle.ixp_cli_plain.proofs.Words.{more_words, none_at_all, three_words}
+use Rattle.ixp_cli_plain.proofs.command.command_in.Goals.{in_default-via-then-words-lt1, in_default-via-else-words-lt1+else-words-lt2+else-words-lt3+then-words-lt4, in_default-via-else-words-lt1+else-words-lt2+else-words-lt3+else-words-lt4+else-words-lt5}
+use Rattle.ixp_cli_plain.proofs.command.command_in.Goals as goal
+
+pub returns-in_default-clause-ok : goal.returns-in_default-clause-ok
+returns-in_default-clause-ok c =
+    elim c.in_default.branch [
+      | in_default-via-then-words-lt1 w ↦ none_at_all c.args.words.now (search rules)
+      | in_default-via-else-words-lt1+else-words-lt2+else-words-lt3+then-words-lt4 w ↦ three_words c.args.words.now (search rules) (search rules)
+      | in_default-via-else-words-lt1+else-words-lt2+else-words-lt3+else-words-lt4+else-words-lt5 w ↦ more_words c.args.words.now (search rules)
+    ]

@@ -1,0 +1,9 @@
+use Rattle.std.proofs.Common.{[], ◌∷◌, ◌++◌}
+use Rattle.ixp_num.specs.Causes.{cause_text}
+use Rattle.ixp_cli_plain.proofs.Telling.{takes_on, on_err}
+use Rattle.ixp_cli_plain.proofs.end.write_refusal.Goals as goal
+
+pub returns-in_err-write_cause_line-clause-err : goal.returns-in_err-write_cause_line-clause-err
+returns-in_err-write_cause_line-clause-err g c =
+    on_err c.from_residual-in_err-write_cause_line.result _
+    (takes_on _ _ _ c.args.before.now (cause_text c.args.cause ++ 10 ∷ []) c.in_ok-write_all.ensures.ok c.in_err-write_cause_line.ensures.err)

@@ -1,5 +1,0 @@
-pub mod Seconds
-pub mod StoredEdits
-pub mod Configs
-pub mod Followed
-pub mod NeverHead

@@ -1,0 +1,22 @@
+-- A desk that threads share may be used by several of them.
+use denote.RattleType.{RattleType}
+use denote.Ref.{NamedLft}
+use denote.Param.Send.{IsSend, IsSync, sendable}
+use Rattle.std.proofs.Crossing.{crosses}
+use Rattle.std.specs.contracts.sync.Mutex as Mutex
+use Rattle.ixp_io.specs.declared.keeper.Keeper
+use Rattle.ixp_board.specs.declared.front.BoardName
+use Rattle.ixp_desk_lock.specs.contracts.locked.Locked as Locked
+use Rattle.ixp_desk_lock.proofs.Sends.{locked_send}
+use Rattle.ixp_desk.specs.contracts.shared.Shared as Shared
+use Rattle.ixp_desk_serve.specs.contracts.hosting.Hosting as Hosting
+
+module _ (P N W : RattleType) (k : Keeper.Ghosts P.Denot) (g : BoardName.Ghosts N.Denot) (p : IsSend P) (w : IsSend W) where
+  pub lock_sync : IsSync (Mutex.the_row (Locked.the_row P N W k g))
+  lock_sync = search (locked_send, crosses, sendable) depth 12
+
+  pub shared_sync : IsSync (Shared.the_row P N W k g)
+  shared_sync = search (lock_sync, crosses, sendable) depth 20
+
+  pub hosting_sync : (l : NamedLft) (G : RattleType) → IsSync G → IsSync (Hosting.the_row l P N W G k g)
+  hosting_sync l G s = search (shared_sync, crosses, sendable) depth 12

@@ -1,0 +1,32 @@
+-- How a server ends, and what became of its store and its door.
+use Rattle.std.specs.Prelude.{◌≡◌, ℕ, Option, Ok, Err}
+use Rattle.ixp_io.specs.Faults.{Rose}
+use Rattle.ixp_io.specs.Tables.{Table}
+use Rattle.ixp_io_workers.specs.Doors.{Gave}
+use Rattle.ixp_machine_steps.specs.declared.state.State.{State}
+use Rattle.ixp_store_words.specs.declared.fault.LoadFault.TheVariants as load
+use Rattle.ixp_desk_history.specs.declared.turn.Turn.{Turn}
+use Rattle.ixp_desk_lock.specs.Facts.{KeepsStore, Log}
+use Rattle.ixp_desk.specs.Openings.{Loads}
+use Rattle.ixp_desk_serve.specs.declared.server.ServerEnd.{ServerEnd}
+use Rattle.ixp_desk_serve.specs.declared.server.ServerEnd.TheVariants.{Unopened, NoMemory, DoorFault, Served}
+
+-- the store has the rows of the state after some legal history
+abbrev pub KeepsSome : Option Table → ℕ → Type 0
+KeepsSome rows faults = (v : Log × Option Turn) × KeepsStore v rows faults
+
+-- How the links of a door end: served, the door gave as many as were asked for, where it tells that; a fault of the
+-- door comes only where its count rose.
+abbrev pub DoorEnds : Option ℕ → Option ℕ → ℕ → ℕ → ℕ → ServerEnd → Type 0
+DoorEnds links links' doors doors' n Served = Gave links links' n
+DoorEnds links links' doors doors' n DoorFault = Rose doors doors'
+DoorEnds links links' doors doors' n NoMemory = Unit {0}
+DoorEnds links links' doors doors' n (Unopened fault) = ⊥
+
+-- How a server ends. The store couldn't be loaded: it has its rows, and the door wasn't touched. Or it was loaded,
+-- and the door's links ended so; the store has the rows of the state after some legal history then.
+abbrev pub ServerEnds : Option Table → Option Table → ℕ → ℕ → Option ℕ → Option ℕ → ℕ → ℕ → ℕ → ServerEnd → Type 0
+ServerEnds rows rows' faults faults' links links' doors doors' n (Unopened fault) =
+    Loads rows (Err fault) × (rows' ≡ rows) × (fault ≡ load.KeeperFault → Rose faults faults') × (links' ≡ links) × (doors' ≡ doors)
+ServerEnds rows rows' faults faults' links links' doors doors' n end =
+    (s : State) × Loads rows (Ok s) × DoorEnds links links' doors doors' n end × KeepsSome rows' faults'

@@ -1,0 +1,60 @@
+//! What the threads of a server do.
+use crate::ends::LinkSide;
+use ixp_board::{BoardName, Note, Publish};
+use ixp_desk::{DeskSeat, Shared, worker_turn};
+use ixp_desk_history::DeskStory;
+use ixp_desk_link::serve_link;
+use ixp_io::{Clock, Gate, Keeper, Sink, Source};
+use ixp_io_workers::{Background, Host};
+use std::alloc::Global;
+use std::sync::{Mutex, Wait};
+
+/// A desk whose links are served by threads, while one more makes the texts that edits touched.
+#[derive(Drop)]
+pub(crate) struct Hosting<'a, P: Keeper + Drop, N: BoardName, W: Publish<Note<DeskStory, N>>, G> {
+    pub(crate) alloc: Global,
+    pub(crate) shared: &'a Shared<P, N, W>,
+    /// What the thread that makes texts passes between two holds of the lock.
+    pub(crate) gate: &'a G,
+}
+
+impl<P: Keeper + Drop, N: BoardName, W: Publish<Note<DeskStory, N>>, G: Gate> Background
+    for Hosting<'_, P, N, W, G> {
+    type Seat = DeskSeat<N>;
+
+    fn turn<R: Wait>(&self, rt: &R, seat: &mut DeskSeat<N>) {
+        let _turn = worker_turn(rt, self.alloc, self.shared, seat, self.gate);
+    }
+
+    fn has_work<R: Wait>(&self, rt: &R) -> bool {
+        self.shared.wait_for_work(rt)
+    }
+
+    fn end<R: Wait>(&self, rt: &R) {
+        self.shared.close_bell(rt);
+    }
+}
+
+impl<
+    P: Keeper + Drop,
+    N: BoardName,
+    W: Publish<Note<DeskStory, N>>,
+    G: Gate,
+    L: Source + Sink + Drop,
+> Host<L> for Hosting<'_, P, N, W, G> {
+    fn host<R: Wait, C: Clock>(&self, rt: &R, seat: &mut DeskSeat<N>, link: L, clock: &mut C) {
+        let link = Mutex::new(link);
+        let mut input = LinkSide::new(rt, &link);
+        let mut output = LinkSide::new(rt, &link);
+        let mut desk = self.shared;
+        let _served = serve_link(
+            rt,
+            self.alloc,
+            &mut desk,
+            seat,
+            &mut input,
+            &mut output,
+            clock,
+        );
+    }
+}
