@@ -1,5 +1,8 @@
 pub mod Keeping
+pub mod OwnAnswers
 pub mod OwnCalls
+pub mod OwnPlace
+pub mod OwnReports
 pub mod OwnRows
 pub mod OwnTexts
 pub mod Places

@@ -113,16 +113,23 @@ module _ (s t : State) (m : ℕ) (valid : ValidState s) (valid' : ValidState t) 
       session_alike m s.registry t.registry same valid.registry.interfaces.order valid'.registry.interfaces.order n q mine
       ∙ ap (λ x. session t.registry x n) (router_same handle q p is it)
 
-  text_alike : (handle : List ℕ) (n : ℕ) (x y : Text) → is_owned s.registry m n ≡ true → IsOwnText s handle n x → IsOwnText t handle n y → (x.bytes ≡ y.bytes) × (x.roas ≡ y.roas)
-  text_alike handle n x y mine this that =
-      let routers : this.router ≡ that.router = router_same handle this.router that.router this.is_there that.is_there in
+  -- both texts are of one router and one session
+  pub senders_alike : (handle : List ℕ) (n : ℕ) (x y : Text) → is_owned s.registry m n ≡ true → (this : IsOwnText s handle n x) → (that : IsOwnText t handle n y) → (this.router ≡ that.router) × (this.sender ≡ that.sender)
+  senders_alike handle n x y mine this that =
       let whole : ◌≡◌ {A = Option Session} (Some this.sender) (Some that.sender)
       = sym this.is_sender ∙ (session_same handle n this.router that.router mine this.is_there that.is_there ∙ that.is_sender) in
-      let senders : this.sender ≡ that.sender = ap (λ o. if_there o this.sender (λ x. x)) whole in
-      let own : this.sender.interface.member ≡ m = sender_own s.registry this.router n m this.sender this.is_sender mine in (
+      (router_same handle this.router that.router this.is_there that.is_there, ap (λ o. if_there o this.sender (λ x. x)) whole)
+
+  -- and that session is the member's
+  pub sender_rows : (handle : List ℕ) (n : ℕ) (x : Text) → is_owned s.registry m n ≡ true → (this : IsOwnText s handle n x) → SameRows this.sender.interface.member s.registry t.registry
+  sender_rows handle n x mine this = subst (λ k. SameRows k s.registry t.registry) (sym (sender_own s.registry this.router n m this.sender this.is_sender mine)) same
+
+  text_alike : (handle : List ℕ) (n : ℕ) (x y : Text) → is_owned s.registry m n ≡ true → IsOwnText s handle n x → IsOwnText t handle n y → (x.bytes ≡ y.bytes) × (x.roas ≡ y.roas)
+  text_alike handle n x y mine this that =
+      let both = senders_alike handle n x y mine this that in (
         this.bytes
-            ∙ (ap config_text (part_alike s.registry t.registry this.router this.sender (subst (λ k. SameRows k s.registry t.registry) (sym own) same)
-            ∙ (ap (λ q. own_part t.registry q this.sender) routers ∙ ap (λ z. own_part t.registry that.router z) senders))
+            ∙ (ap config_text (part_alike s.registry t.registry this.router this.sender (sender_rows handle n x mine this)
+            ∙ (ap (λ q. own_part t.registry q this.sender) both.0 ∙ ap (λ z. own_part t.registry that.router z) both.1))
             ∙ sym that.bytes),
         this.roas ∙ (ap (λ p. p.roas) same.public ∙ sym that.roas),
       )
