@@ -2,6 +2,7 @@ pub mod Keeping
 pub mod OwnAnswers
 pub mod OwnCalls
 pub mod OwnPlace
+pub mod OwnReplies
 pub mod OwnReports
 pub mod OwnRows
 pub mod OwnTexts

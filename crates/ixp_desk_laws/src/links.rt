@@ -1,0 +1,44 @@
+//! What the calls of links answer members, and edits that are sent again.
+ghost use Rattle.std.specs.Prelude.{◌≡◌, ℕ, List};
+ghost use Rattle.ixp_registry.specs.declared.members.Owner.{Owner};
+ghost use Rattle.ixp_machine_steps.specs.declared.state.Entry.{Entry};
+ghost use Rattle.ixp_machine.specs.declared.question.Query.{Query};
+ghost use Rattle.ixp_api_replies.specs.declared.outcome.Outcome.{Outcome};
+ghost use Rattle.ixp_api_replies.specs.declared.outcome.Outcome.TheVariants.{Done};
+ghost use Rattle.ixp_api.specs.declared.call.ExplainCall.{ExplainCall};
+ghost use Rattle.ixp_desk_history.specs.declared.turn.First.{First};
+ghost use Rattle.ixp_desk_history.specs.declared.turn.Turn.{Turn};
+ghost use Rattle.ixp_desk_history.specs.Turns.{state_of};
+ghost use Rattle.ixp_desk_lock.specs.Sights.{Sight};
+ghost use Rattle.ixp_desk_link.specs.Turns.{AskTurn, EditTurn, OwnTurn};
+ghost use Rattle.ixp_desk_laws.specs.Calls.{SeesAlike};
+ghost use Rattle.ixp_desk_laws.specs.Desks.{IsAfter, IsOf};
+ghost use Rattle.ixp_desk_laws.specs.Edits.{IsRepeat};
+ghost use Rattle.ixp_desk_laws.specs.Links.{IsReply};
+
+/// What a link answers to a member's call depends on what the member sees at the call's place alone: edits,
+/// questions, and explanations of a route of its own by its session's own text.
+pub fn links_answer_members_of_their_own()
+    ensures edit { (m : ℕ) (a b : Entry) (x y : Outcome) (s t u w : Sight) (f g : First)
+        (before others : List Turn) → EditTurn a x s t → EditTurn b y u w → IsReply x → IsReply y
+        → IsOf m a.secret f before s t → IsOf m b.secret g others u w
+        → SeesAlike m (state_of f before) (state_of g others)
+        → a.number ≡ b.number → a.edit ≡ b.edit → x ≡ y }
+    ensures ask { (m : ℕ) (a b : List ℕ) (q : Query) (x y : Outcome) (s t u w : Sight) (f g : First)
+        (before others : List Turn) → AskTurn a q x s t → AskTurn b q y u w → IsReply x → IsReply y
+        → IsOf m a f before s t → IsOf m b g others u w
+        → SeesAlike m (state_of f before) (state_of g others) → x ≡ y }
+    ensures explain { (m : ℕ) (a b : ExplainCall) (x y : Outcome) (s t u w : Sight) (f g : First)
+        (before others : List Turn) → OwnTurn a x s t → OwnTurn b y u w → IsReply x → IsReply y
+        → IsOf m a.secret f before s t → IsOf m b.secret g others u w
+        → SeesAlike m (state_of f before) (state_of g others)
+        → a.router ≡ b.router → a.interface ≡ b.interface → a.asked ≡ b.asked → x ≡ y }
+{}
+
+/// An edit whose number is kept for its kind and subject, sent again by its owner who still has the right, is
+/// answered as done.
+pub fn links_answer_repeats_again()
+    ensures { (e : Entry) (o : Outcome) (s t : Sight) (f : First) (before : List Turn) (owner : Owner)
+        → EditTurn e o s t → IsReply o → IsAfter f before s t → IsRepeat (state_of f before) owner e
+        → o ≡ Done e.number }
+{}
