@@ -71,7 +71,7 @@ const MOST_MEMBERS: u64 = 4000;
 /// The last port.
 const LAST_PORT: u64 = 65_535;
 
-/// The most workers of a server: a desk has 64 seats, of which one makes texts.
+/// The most workers of a server. With the one that makes texts they are within the 64 seats of a desk.
 const MOST_WORKERS: u64 = 62;
 
 /// The most links that a server serves.
@@ -430,14 +430,13 @@ fn run_words<S: Source, K: Sink, P: Keeper, C: Clock>(
     }
 }
 
-/// Runs the command that the words are, and tells its exit status: 0 where the work is done, 1 where the
-/// words are no command, 2 where the input isn't of the command's form or is longer than 268,435,456 bytes,
-/// or where whois data have no object of the set's name or more items than a list may have, 3
-/// and 4 where a read or a write failed, 5 where the keeper failed, 8 where memory ran out, 9 where no router
-/// has the handle, 11 where the store that is to be filled has a row, 6 where the store's rows are no
-/// registry's, 10 where the store has the form of an older version. A status other than 0 has a line on
-/// `errors`, as far as that takes it. A command
-/// that waits comes back as it is; nothing is read or written then.
+/// Runs the command that the words are, and gives its exit status: 0 where the work is done, 1 where the words
+/// are no command, 2 where the input isn't of the command's form or is longer than 268,435,456 bytes, or where
+/// whois data have no object of the set's name or more items than a list may have, 3 and 4 where a read or a
+/// write failed, 5 where the keeper failed, 6 where the store's rows are no registry's, 8 where memory ran out,
+/// 9 where no router has the handle, 10 where the store has the form of an older version, 11 where the store
+/// that is to be filled has a row. A status other than 0 has a line on `errors`, as far as that takes it. A
+/// command that waits comes back as it is; nothing is read or written then.
 pub fn run_command<S: Source, K: Sink, E: Sink, P: Keeper, C: Clock>(
     alloc: Global,
     words: &[&str],

@@ -1,8 +1,9 @@
 //! The commands that read and write, and wait for nobody, over the objects of the outside that the caller
 //! supplies.
 //!
-//! [`run_command`] runs the command that words are, unless it is one that waits: `ixp_cli` runs those. A run ends in one way ([`End`]), which its status and a line on the errors tell. `specs/Runs.antt` says
-//! how each command ends.
+//! [`run_command`] runs the command that words are, unless it is one that waits: `ixp_cli` runs those. A run
+//! ends in one way ([`End`]), which its status and a line on the errors tell. `specs/Runs.antt` says how each
+//! command ends.
 #![tactic(auto)]
 
 mod check;

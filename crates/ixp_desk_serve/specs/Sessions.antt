@@ -23,10 +23,10 @@ use Rattle.ixp_desk_serve.specs.declared.session.SessionEnd.TheVariants.{Unopene
 abbrev pub without_memory : Served → Served
 without_memory served = record { end = link.NoMemory; requests = served.requests }
 
--- A link was served by a seat that had seen this before. Where the bytes are told, they alone say how the link ends and
--- which requests are answered, unless something fails; and whole requests all get their replies. The store has the rows of the state after a history that
--- begins with all that the seat has seen. Where it can't be shown that the history does, the link is told to have
--- run out of memory.
+-- A link was served by a seat that had seen this before. Where the bytes are known, they alone say how the link ends
+-- and which requests are answered, unless something fails; and whole requests all get their replies. The store has
+-- the rows of the state after a history that begins with all that the seat has seen. Where it can't be shown that the
+-- history does, the link ends as out of memory.
 pub record ServesLink (seat : Sight) (given given' : Option ℕ) (left : Option (List ℕ)) (written written' : Option (List ℕ))
     (unread unwritten : Type 0) (rows : Option Table) (faults : ℕ) (served : Served) : Type 0 where
   pub sees : Sight
