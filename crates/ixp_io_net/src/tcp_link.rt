@@ -22,7 +22,8 @@ const LINGER_READS: u32 = 100_000;
 /// fault, and so is a write that takes nothing of a piece.
 ///
 /// A link that is dropped tells its peer that no more comes, and reads on for some seconds: the system resets
-/// a connection that is closed with bytes unread, and its peer might then never see the last reply.
+/// a connection that is closed with bytes unread, and its peer might then never see the last reply. After a
+/// read that failed nothing is left unread, so the link ends at once.
 pub struct TcpLink {
     rt: HostRuntime,
     stream: TcpStream,
@@ -51,10 +52,12 @@ impl Drop for TcpLink {
         let TcpLink {
             rt,
             mut stream,
-            read_faults: _,
+            read_faults,
             write_faults: _,
         } = self;
-        linger(&rt, &mut stream);
+        if read_faults == 0 {
+            linger(&rt, &mut stream);
+        }
     }
 }
 
