@@ -2,3 +2,4 @@ pub mod Statuses
 pub mod Servers
 pub mod Loaded
 pub mod WaitingRuns
+pub mod Complete

@@ -2,6 +2,7 @@
 use Rattle.std.specs.Prelude.{◌≡◌, ◌⊎◌, ℕ, true, List, [], ◌∷◌, ◌++◌, Option, Some, codes, decimal}
 use Rattle.ixp_io.specs.Faults.{Rose}
 use Rattle.ixp_io.specs.Told.{Takes, TakesPart}
+use Rattle.ixp_io_workers.specs.Doors.{Gave}
 use Rattle.ixp_desk_serve.specs.declared.server.ServerEnd.{ServerEnd}
 use Rattle.ixp_desk_serve.specs.declared.server.ServerEnd.TheVariants as server
 use Rattle.ixp_desk_serve.specs.declared.session.SessionEnd.{SessionEnd}
@@ -87,3 +88,8 @@ abbrev pub AllRuns : Option Command → Outside → Outside → DoorAt → DoorA
 AllRuns command before after door door' status =
     (PlainRuns command before after (Some status) × (door' ≡ door))
     ⊎ ((waiting : Waiting) × (command ≡ Some (Wait waiting)) × WaitRuns waiting before after door door' status)
+
+-- all links that were asked for were served, which is written, or memory ran out
+abbrev pub ServesAll : ℕ → Outside → Outside → DoorAt → DoorAt → ℕ → Type 0
+ServesAll n before after door door' status =
+    (status ≡ 8) ⊎ ((status ≡ 0) × Gave door.given door'.given n × Takes before.output.bytes after.output.bytes (served_text n))

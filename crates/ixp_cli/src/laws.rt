@@ -8,7 +8,7 @@ ghost use Rattle.ixp_cli_plain.specs.declared.command.Command.TheVariants.{Wait}
 ghost use Rattle.ixp_cli_plain.specs.declared.command.Waiting.{Waiting};
 ghost use Rattle.ixp_cli_plain.specs.declared.command.Waiting.TheVariants.{Serve};
 ghost use Rattle.ixp_cli_plain.specs.Runs.{CanBeLoaded, Outside};
-ghost use Rattle.ixp_cli.specs.Waits.{AllRuns, DoorAt, served_text};
+ghost use Rattle.ixp_cli.specs.Waits.{AllRuns, DoorAt, ServesAll, served_text};
 
 /// A server that ends with status 0 was given as many links as were asked for, where its door tells that, and
 /// has written so.
@@ -17,6 +17,16 @@ pub fn servers_serve_all_links()
     ensures { (port workers n : ℕ) (before after : Outside) (door door' : DoorAt)
         → AllRuns (Some (Wait (Serve port workers n))) before after door door' 0
         → Gave door.given door'.given n × Takes before.output.bytes after.output.bytes (served_text n) }
+{}
+
+/// A server over a store that can be loaded serves all links that were asked for, and writes so, unless a call of
+/// the store, the output or the door fails or memory runs out.
+pub fn servers_are_complete()
+    ensures { (port workers n status : ℕ) (before after : Outside) (door door' : DoorAt)
+        → CanBeLoaded before.store → ¬ (Rose before.store.faults after.store.faults)
+        → ¬ (Rose before.output.faults after.output.faults) → ¬ (Rose door.faults door'.faults)
+        → AllRuns (Some (Wait (Serve port workers n))) before after door door' status
+        → ServesAll n before after door door' status }
 {}
 
 /// Status 7 comes only where the door's count of faults rose.
