@@ -1,6 +1,6 @@
 // A form that makes an edit. It says what becomes of it, and shows refusals at the fields that they are about.
 import { confirmed, element, fieldRow, mark, say } from "./elements.js";
-import { fieldWords, fieldsOf, kindWords, sentence } from "./refusals.js";
+import { fieldWords, fieldsOf, kindWords, refusalWords } from "./refusals.js";
 import { makeEdit, unsentEdit, watchEdits } from "./registry.js";
 import { numberOf, RuleEditor } from "./rules.js";
 
@@ -155,7 +155,7 @@ export class EditForm {
   }
 
   refused(reply) {
-    say(this.status, "bad", sentence(reply));
+    say(this.status, "bad", refusalWords(this.edit, reply));
     const marks = [];
     for (const field of fieldsOf(this.form, reply, this.values)) {
       const input = field.kind === "rules" ? this.editor.refused(reply) : this.inputs.get(field.name);

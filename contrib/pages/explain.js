@@ -114,7 +114,8 @@ class RouteForm {
   }
 
   refusedFields({ rule, detail }) {
-    const named = { X1: ["interface"], X7: ["net", "nexthop"], Y2: ["seen"], Y3: ["handle"], path: ["handle", "interface"] };
+    const named = { X1: ["interface"], X7: ["net", "nexthop"], Y2: ["seen"], Y3: ["handle"], path: ["interface", "handle"] };
+    if (rule === "X4") return detail.startsWith("router ") ? ["handle"] : ["interface"];
     return rule === "body" ? [detail.split("/")[1]] : named[rule] ?? [];
   }
 }

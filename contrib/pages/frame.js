@@ -1,6 +1,6 @@
 // What all pages have: whose key is used, and what becomes of an edit that has no reply.
 import { confirmed, element, fieldRow, fill, find, mark, say } from "./elements.js";
-import { sentence } from "./refusals.js";
+import { refusalWords, sentence } from "./refusals.js";
 import { ask, giveUp, identity, memberExport, signIn, signOut, tryAgain, unsentEdit, watchEdits } from "./registry.js";
 import { numberOf } from "./rules.js";
 
@@ -101,7 +101,7 @@ function showUnsent({ what, edit, reply, seconds }) {
   if (what === "stopped") say(place, "bad", element("p", {}, "No reply after " + edit.tries + " tries: " + name + ". It isn't known whether the edit was made." + kept), buttons);
   if (what === "given up") say(place, "");
   if (what === "done") ended(place, edit, "good", "The edit was made: " + name + ". It was sent " + edit.tries + " times with this number, and acts once.");
-  if (what === "refused") ended(place, edit, "bad", "The edit was refused: " + name + ". " + sentence(reply));
+  if (what === "refused") ended(place, edit, "bad", "The edit was refused: " + name + ". " + refusalWords(edit, reply));
 }
 
 /** An edit that was sent more than once is told at the top; else its form tells it. */

@@ -16,6 +16,7 @@ export function capital(text) {
 function detailWords(rule, detail) {
   const parts = detail.split(" ");
   switch (rule) {
+    case "X1": return detail === "staff" ? "it takes a key of the staff" : "it takes a key of the staff or of " + detail;
     case "X7": return "IPv" + detail + " is wanted";
     case "X8": return "VLAN " + detail;
     case "X10": return detail === "none" ? "it has no member" : "it has member " + detail;
@@ -34,6 +35,16 @@ export function sentence(reply) {
   if (!rule) return WEB_SERVER[reply.status] ?? "The registry doesn't answer (status " + reply.status + ").";
   const detail = detailWords(reply.rule, reply.detail);
   return capital(rule.when) + (detail ? ": " + detail : "") + ". (" + reply.rule + ")";
+}
+
+/**
+ * A refusal of an edit, as a sentence. Where the edit was sent before, and the reply doesn't tell what became of that, it says so: the key may have gone
+ * with the edit itself (X0, X1), or the number is no longer kept (X3).
+ */
+export function refusalWords(edit, reply) {
+  const open = edit.tries > 1 && ["X0", "X1", "X3"].includes(reply.rule);
+  if (open) return sentence(reply) + " It isn't known whether an earlier try made the edit: look at what it is about.";
+  return sentence(reply) + (reply.rule === "X3" ? " Somebody has used greater numbers with this account: set this computer's clock right, or use a key of another account." : "");
 }
 
 /** What a kind of field has to be, in words. */

@@ -148,7 +148,6 @@ function ended(edit, reply) {
   trying = false;
   drop();
   if (reply.ok) store.setItem("last done", String(edit.number));
-  if (reply.rule === "X3" && edit.tries === 1) store.setItem("last number", String(Number(reply.detail) - 1));
   tell({ what: reply.ok ? "done" : "refused", edit, reply });
 }
 
