@@ -35,8 +35,8 @@ pub record IsOf (m : ℕ) (secret : List ℕ) (f : First) (before : List Turn) (
   pub place : IsAfter f before s t
   pub own : owner_of (registry_of f before) secret ≡ Some (Member m)
 
--- An answer: the edit was made or is refused. A fault of the store, want of memory and a seat whose turns can't
--- be counted are none.
+-- An answer: the edit was made or is refused. A fault of the store, running out of memory, and a seat whose turns
+-- can't be counted are none.
 abbrev pub IsDecided : Result Reply SubmitFault → Type 0
 IsDecided (Ok reply) = Unit {0}
 IsDecided (Err (submit.Refused x)) = Unit {0}

@@ -2,7 +2,7 @@
 use Rattle.ixp_api_replies.specs.declared.outcome.Outcome.{Outcome}
 use Rattle.ixp_api_replies.specs.declared.outcome.Outcome.TheVariants.{Done, Answered, Text, Called, Head, Refused, KeeperFault, SeenUnknown, NoRouter, NoSession, SeatCount, Ended, NoMemory}
 
--- neither a fault of the store, nor a seat whose turns can't be counted, nor want of memory
+-- neither a fault of the store, nor a seat whose turns can't be counted, nor running out of memory
 abbrev pub IsReply : Outcome → Type 0
 IsReply KeeperFault = ⊥
 IsReply (SeatCount seat kept) = ⊥
