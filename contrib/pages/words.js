@@ -39,7 +39,7 @@ export const words = {
   "X3": {
    "status": "409",
    "when": "the number is below those that are kept",
-   "detail": "the least number that may be used"
+   "detail": "the least number that isn't; it may have been used"
   },
   "X4": {
    "status": "404",
@@ -108,7 +108,7 @@ export const words = {
   },
   "Y1": {
    "status": "503",
-   "when": "the store failed, and the edit wasn't made. After a sync that failed it may still be found when the program is started again; a resend with its number is then a repeat",
+   "when": "the store failed, and the edit wasn't made; the server goes on. After a sync that failed each edit gets this until the program is started again, and the edit may be found then; a resend with its number is a repeat",
    "detail": "empty"
   },
   "Y2": {
@@ -123,12 +123,12 @@ export const words = {
   },
   "Y4": {
    "status": "500",
-   "when": "the seat's count of turns isn't the one that is kept",
+   "when": "the worker's count of its turns isn't the one that is kept for it",
    "detail": "both"
   },
   "Y5": {
    "status": "500",
-   "when": "a count has come to its end",
+   "when": "the count of accepted edits, or of the turns of the connection's worker, has come to its end",
    "detail": "the count"
   },
   "memory": {
