@@ -89,7 +89,7 @@ AllRuns command before after door door' status =
     (PlainRuns command before after (Some status) × (door' ≡ door))
     ⊎ ((waiting : Waiting) × (command ≡ Some (Wait waiting)) × WaitRuns waiting before after door door' status)
 
--- all links that were asked for were served, which is written, or memory ran out
+-- the door gave as many links as were asked for, which is written, or memory ran out
 abbrev pub ServesAll : ℕ → Outside → Outside → DoorAt → DoorAt → ℕ → Type 0
 ServesAll n before after door door' status =
     (status ≡ 8) ⊎ ((status ≡ 0) × Gave door.given door'.given n × Takes before.output.bytes after.output.bytes (served_text n))

@@ -19,8 +19,9 @@ pub fn servers_serve_all_links()
         → Gave door.given door'.given n × Takes before.output.bytes after.output.bytes (served_text n) }
 {}
 
-/// A server over a store that can be loaded serves all links that were asked for, and writes so, unless a call of
-/// the store, the output or the door fails or memory runs out.
+/// A server over a store that can be loaded ends with status 0, was given as many links as were asked for, and has
+/// written so, unless a call of the store, the output or the door fails or memory runs out. What the links were
+/// answered isn't said.
 pub fn servers_are_complete()
     ensures { (port workers n status : ℕ) (before after : Outside) (door door' : DoorAt)
         → CanBeLoaded before.store → ¬ (Rose before.store.faults after.store.faults)
