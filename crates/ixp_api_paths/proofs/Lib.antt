@@ -1,2 +1,4 @@
 pub mod Seek
 pub mod Serve
+pub mod Clash
+pub mod ByKind

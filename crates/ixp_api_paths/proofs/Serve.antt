@@ -9,6 +9,7 @@ use Rattle.matchit.specs.Order.{placed}
 use Rattle.matchit.specs.Router.{RouteOf, InsertsRead, route_from}
 use Rattle.matchit.specs.Route.{Scan}
 use Rattle.matchit.specs.declared.error.InsertError.{InsertError}
+use Rattle.ixp_registry.specs.Widths.{AreBytes}
 use Rattle.ixp_api_paths.specs.declared.table.Part.{Part}
 use Rattle.ixp_api_paths.specs.declared.table.Part.TheVariants as part
 use Rattle.ixp_api_paths.specs.declared.table.Args.{Args}
@@ -319,6 +320,24 @@ served-none rs path o h e = named-none TABLE rs path refl o h e
 pub served-some : (rs : RowsOf (RouteOf ℕ)) (path : List ℕ) (k : RouteOf ℕ) → OnlyTable TABLE rs → Bytes path → first rs path ≡ Some k → Named path (Some k.value)
 unfolding found read_entry
 served-some rs path k o b e = named-some TABLE rs path k refl refl o b e
+
+-- what an entry reads, the table finds
+at-one : (es : List Entry) (i : ℕ) (x : Args) (path : List ℕ) → all_plain es ≡ true → all_parted es ≡ true → i < length es → Bytes path
+    → read no_args (get_or es i no_entry).parts (behind_root path) ≡ Some x → find es path ≡ Some (get_or es i no_entry, x)
+at-one es i x path c d l b e =
+    let f : fits false (pattern_at es i) path ≡ true = entry-fits (get_or es i no_entry).parts x path (some-at es i c l) e in
+    let g = find-one es path i l (λ j m n. unfit es j path c m (λ h. no-both path false (pattern_at es j) (pattern_at es i) (two-parted es j i d m l n) b h f)) in
+    rw e at g
+
+bytes-of : (p : List ℕ) → AreBytes p → Bytes p
+bytes-of [] h i = omega arith
+bytes-of (c ∷ q) h zero = h.0
+bytes-of (c ∷ q) h (suc i) = bytes-of q h.1 i
+
+pub found-at : (i : ℕ) (x : Args) (path : List ℕ) → i < length TABLE → AreBytes path
+    → read no_args (get_or TABLE i no_entry).parts (behind_root path) ≡ Some x → found path ≡ Some (get_or TABLE i no_entry, x)
+unfolding found
+found-at i x path l b e = at-one TABLE i x path refl refl l (bytes-of path b) e
 
 -- the rows that `insert` leaves
 placed-only : (es : List Entry) (t : List ℕ) (r : RouteOf ℕ) (rs : RowsOf (RouteOf ℕ)) → r.value < length es → t ≡ pattern_at es r.value → OnlyTable es rs → OnlyTable es (placed (t, r) rs)

@@ -2,3 +2,4 @@ pub mod Paths
 pub mod Fits
 pub mod Serves
 pub mod Table
+pub mod Kinds

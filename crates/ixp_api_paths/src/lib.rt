@@ -5,6 +5,7 @@
 //! open parts. [`Paths`] answers so by a `matchit` router of the same paths.
 #![tactic(auto)]
 
+pub mod laws;
 mod reading;
 mod served;
 mod table;

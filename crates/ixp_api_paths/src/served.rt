@@ -1,6 +1,7 @@
 //! The look-up of a method and a path.
 ghost use Rattle.std.specs.Prelude.{◌≡◌, ◌<◌, Some, IfOk};
 ghost use Rattle.matchit.specs.Route.{parse_route};
+ghost use Rattle.matchit.specs.declared.error.InsertError.TheVariants.{OutOfMemory};
 ghost use Rattle.ixp_api_paths.specs.Paths as spec;
 ghost use Rattle.ixp_api_paths.specs.Serves.{pattern_in, pattern_at};
 ghost use Rattle.ixp_api_paths.specs.Table.{found, look, Named};
@@ -40,6 +41,16 @@ impl Model for Paths {
     ghost view = { λ p. p.router };
 
     ghost invariant = { λ p. Serves TABLE p.router };
+}
+
+// Why the router doesn't take a path of the table: for want of memory alone.
+fn no_memory(error: InsertError) -> AllocError
+    requires { error ≡ OutOfMemory }
+{
+    match error {
+        InsertError::OutOfMemory => AllocError,
+        _ => unreachable!(),
+    }
 }
 
 // The path at a place of the table, as the router reads it.
@@ -95,12 +106,15 @@ fn found_of(method: &[u8], hit: Option<(Entry, Args)>) -> Found
 }
 
 impl Paths {
-    /// The router of all paths. It fails where memory runs out.
-    pub fn new(alloc: Global) -> Result<Paths, InsertError> {
+    /// The router of all paths. No two of them clash, so it fails for want of memory alone.
+    pub fn new(alloc: Global) -> Result<Paths, AllocError> {
         let mut router = Router::new(alloc);
         for place in 0..PATHS {
             let route = route_at(place);
-            router.insert(route, place)?;
+            match router.insert(route, place) {
+                Ok(()) => {}
+                Err(error) => return Err(no_memory(error)),
+            }
         }
         Ok(Paths { router })
     }

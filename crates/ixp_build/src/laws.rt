@@ -11,9 +11,7 @@ ghost use Rattle.ixp_build_touches.specs.Touched.{reached, touch, with_after};
 ghost use Rattle.ixp_build.specs.declared.bundle.Bundle.{Bundle};
 ghost use Rattle.ixp_build.specs.Bundles.{AgreesBut, IsOf, full_text, text_of, untouched};
 ghost use Rattle.ixp_build_pending.specs.declared.pending.Pending.{Pending};
-ghost use Rattle.ixp_build.specs.declared.texts.Texts.{Texts};
-ghost use Rattle.ixp_build.specs.Pendings.{AlikeUpto, Follows};
-ghost use Rattle.ixp_build.specs.Laws.{AllAccepted, Covers, joined, pending};
+ghost use Rattle.ixp_build.specs.Laws.{AlikeUpto, AllAccepted, Covers, joined, pending};
 ghost use Rattle.ixp_build.specs.Orders.{HasBounds, installed, made_from, order_of};
 
 /// The text of a bundle that is a registry's is that of full generation.
@@ -55,13 +53,6 @@ pub fn incremental_builds_are_full()
         ≡ full_text (after_all r es) h }
 {}
 
-/// After an accepted edit, with what it touched noted, texts that followed the registry follow the next one.
-pub fn texts_follow_edits()
-    ensures { (t u : Texts) (r : Registry) (e : Edit) (c : ℕ) → Valid r → IsLawful e → refusal r e ≡ None
-        → 0 < c → Follows t r → u.bundle ≡ t.bundle
-        → IsNoted c (with_after (reached r e) (next r e)) t.pending u.pending → Follows u (next r e) }
-{}
-
 /// What no edit after a count touched is wanted as it was: at first, since the registry is the same, and then
 /// after each accepted edit with a greater count.
 pub fn wanted_texts_stay()
@@ -71,11 +62,10 @@ pub fn wanted_texts_stay()
         → IsNoted c (with_after (reached r e) (next r e)) p q → AlikeUpto upto q was (next r e) }
 {}
 
-/// An order may be installed after later edits: with what is later still pending, the texts follow the
-/// present registry. The order is all that was pending of a registry that the texts followed then.
+/// An order of all that was pending of an earlier registry may be installed after later edits: but for what
+/// these touched, which is left pending, the bundle has what the present registry wants.
 pub fn older_orders_may_be_installed()
-    ensures { (t u v : Texts) (was now : Registry) (listed : Touch) (upto : ℕ) → Follows t was
-        → IsListed t.pending listed → u.bundle ≡ t.bundle → AlikeUpto upto u.pending was now
-        → v.bundle ≡ installed u.bundle (made_from (order_of t.bundle.built upto was listed))
-        → IsLater upto u.pending v.pending → Follows v now }
+    ensures { (b : Bundle) (p q : Pending) (was now : Registry) (t left : Touch) (upto : ℕ)
+        → AgreesBut t b was → AlikeUpto upto p was now → IsLater upto p q → IsListed q left
+        → AgreesBut left (installed b (made_from (order_of b.built upto was t))) now }
 {}

@@ -1,6 +1,7 @@
 //! Cases that are run over objects in memory, and where what comes of them differs from what they want.
 use crate::case::{Case, Part, Run, Want};
 use crate::http::{Replies, replies_in};
+use crate::texts::bytes_of;
 use ixp_cli::{run, run_plain};
 use ixp_io::{FreeGate, Keeper, MemDoor, MemKeeper, MemSink, MemSource, Plan, RowName, SetClock};
 use ixp_num_tables::Items;
@@ -38,7 +39,7 @@ fn play_run<R: Threads + Wait + Sync>(
         words.push(word.as_str())?;
     }
     keeper.plan = Plan::failing(alloc, asked.failing_calls.as_slice())?;
-    let bytes = Items::from_slice(alloc, asked.input.as_bytes())?;
+    let bytes = Items::from_vec(bytes_of(alloc, asked.input.as_str())?);
     let reads = Plan::failing(alloc, asked.failing_reads.as_slice())?;
     let writes = Plan::failing(alloc, asked.failing_writes.as_slice())?;
     let mut input = MemSource::new(bytes, reads).in_pieces(most.max(1));

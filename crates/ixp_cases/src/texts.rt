@@ -7,6 +7,9 @@ use std::collections::BTreeMap;
 /// Texts by their names.
 pub type Texts = BTreeMap<String, String>;
 
+/// The byte that stands in a text for a byte 255, which is in no text of UTF-8.
+const STAND_IN: u8 = 127;
+
 /// Adds what stands for a backslash and this text behind it: the first letter names a character.
 fn put_escape(text: &mut String, part: &str) -> Result<(), Flaw> {
     match part.chars().next() {
@@ -16,6 +19,7 @@ fn put_escape(text: &mut String, part: &str) -> Result<(), Flaw> {
         Some('s') => text.push(' ')?,
         Some('b') => text.push('\\')?,
         Some('.') => text.push('.')?,
+        Some('x') => text.push('\u{7f}')?,
         Some('e') => {}
         _ => return Err(Flaw::Form),
     }
@@ -65,6 +69,15 @@ pub fn number_in(text: &str) -> Result<u64, Flaw> {
     text.parse::<u64>().map_err(|_| Flaw::Form)
 }
 
+/// The bytes of a text, with 255 for each stand-in.
+pub fn bytes_of(alloc: Global, text: &str) -> Result<Vec<u8>, AllocError> {
+    let mut bytes = Vec::new(alloc);
+    for byte in text.as_bytes() {
+        bytes.push(if *byte == STAND_IN { 255 } else { *byte })?;
+    }
+    Ok(bytes)
+}
+
 /// A number, and what stands behind it and a blank.
 fn counted(text: &str) -> Result<(u64, &str), Flaw> {
     let (number, rest) = text.split_once(' ').unwrap_or((text, ""));
@@ -79,6 +92,12 @@ fn first_lines(alloc: Global, text: &str, count: u64) -> Result<String, AllocErr
         out.push('\n')?;
     }
     Ok(out)
+}
+
+/// The first bytes of a text, so many of them.
+fn first_bytes(alloc: Global, text: &str, count: u64) -> Result<String, Flaw> {
+    let front = text.get(..count as usize).ok_or(Flaw::Form)?;
+    Ok(String::from_str(alloc, front)?)
 }
 
 /// The text with another one in the place of the line with the number, counted from 1.
@@ -145,6 +164,7 @@ fn put_step(alloc: Global, texts: &Texts, text: &mut String, step: &str) -> Resu
     match word {
         "file" => text.push_str(texts.get(rest).ok_or(Flaw::Form)?.as_str())?,
         "first" => *text = first_lines(alloc, text.as_str(), number_in(rest)?)?,
+        "cut" => *text = first_bytes(alloc, text.as_str(), number_in(rest)?)?,
         "line" => {
             let (number, line) = counted(rest)?;
             let line = plain_line(alloc, line)?;

@@ -3,3 +3,4 @@ pub mod Servers
 pub mod Loaded
 pub mod WaitingRuns
 pub mod Complete
+pub mod Told

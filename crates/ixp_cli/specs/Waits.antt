@@ -1,5 +1,5 @@
 -- How the commands end that wait: `session` and `serve`.
-use Rattle.std.specs.Prelude.{◌≡◌, ◌⊎◌, ℕ, true, List, [], ◌∷◌, ◌++◌, Option, Some, codes, decimal}
+use Rattle.std.specs.Prelude.{◌≡◌, ◌⊎◌, ℕ, Bool, true, false, List, [], ◌∷◌, ◌++◌, Option, Some, codes, decimal}
 use Rattle.ixp_io.specs.Faults.{Rose}
 use Rattle.ixp_io.specs.Told.{Takes, TakesPart}
 use Rattle.ixp_io_workers.specs.Doors.{Gave}
@@ -10,7 +10,7 @@ use Rattle.ixp_desk_serve.specs.declared.session.SessionEnd.TheVariants as sessi
 use Rattle.ixp_desk_serve.specs.Servers.{ServerEnds}
 use Rattle.ixp_desk_serve.specs.Sessions.{Objects, SessionEnds}
 use Rattle.ixp_cli_plain.specs.declared.command.Command.{Command}
-use Rattle.ixp_cli_plain.specs.declared.command.Command.TheVariants.{Wait}
+use Rattle.ixp_cli_plain.specs.declared.command.Command.TheVariants.{Ask, Ixf, Restore, Dump, Upgrade, Demo, Wait}
 use Rattle.ixp_cli_plain.specs.declared.command.Waiting.{Waiting}
 use Rattle.ixp_cli_plain.specs.declared.command.Waiting.TheVariants.{Session, Serve}
 use Rattle.ixp_cli_plain.specs.declared.end.End.{End}
@@ -93,3 +93,13 @@ AllRuns command before after door door' status =
 abbrev pub ServesAll : ℕ → Outside → Outside → DoorAt → DoorAt → ℕ → Type 0
 ServesAll n before after door door' status =
     (status ≡ 8) ⊎ ((status ≡ 0) × Gave door.given door'.given n × Takes before.output.bytes after.output.bytes (served_text n))
+
+-- the command loads the store, of today's version
+abbrev pub loads_store : Command → Bool
+loads_store Dump = true
+loads_store (Wait waiting) = true
+loads_store (Ask question) = false
+loads_store Ixf = false
+loads_store Restore = false
+loads_store Upgrade = false
+loads_store (Demo members) = false

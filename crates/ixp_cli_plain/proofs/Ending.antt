@@ -4,12 +4,12 @@ use Rattle.ixp_store_words.specs.declared.fault.LoadFault.{LoadFault}
 use Rattle.ixp_store_words.specs.declared.fault.LoadFault.TheVariants as load
 use Rattle.ixp_cli_plain.specs.Sessions.{Unloaded}
 use Rattle.ixp_cli_plain.specs.declared.command.Command.{Command}
-use Rattle.ixp_cli_plain.specs.declared.command.Command.TheVariants.{Ask, Ixf, Restore, Dump, Demo, Wait}
+use Rattle.ixp_cli_plain.specs.declared.command.Command.TheVariants.{Ask, Ixf, Restore, Dump, Upgrade, Demo, Wait}
 use Rattle.ixp_cli_plain.specs.declared.command.Waiting.{Waiting}
 use Rattle.ixp_cli_plain.specs.declared.end.End.{End}
 use Rattle.ixp_cli_plain.specs.declared.end.End.TheVariants.{Done, Usage, BadInput, BadObjects, ReadFault, WriteFault, KeeperFault, NoMemory, UnknownRouter, NotEmpty, Damaged, OldVersion, DoorFault, BadLink}
 use Rattle.ixp_cli_plain.specs.Restores.{Store}
-use Rattle.ixp_cli_plain.specs.Runs.{Flow, Outside, Ends, CommandRuns, NotLoaded, PlainEnds, PlainRuns, waits, IsStatus, Runs, Tells, status_of, error_text}
+use Rattle.ixp_cli_plain.specs.Runs.{Flow, Outside, Ends, CommandRuns, NotLoaded, NotUpgraded, PlainEnds, PlainRuns, waits, IsStatus, Runs, Tells, status_of, error_text}
 
 pub a_run : (command : Option Command) (before after : Outside) (end : End) (status : Option ℕ)
     → Ends command before.input after.input before.output after.output before.store after.store before.second after.second end
@@ -28,11 +28,15 @@ never_usage load.NoMemory e = let bad : ⊥ = cc in bad
 no_usage : (i j k l : Flow) (s u : Store) → NotLoaded i j k l s u Usage → ⊥
 no_usage i j k l s u (input, output, rows, (fault, is, cause, version, loads, row)) = never_usage fault is
 
+upgrade_usage : (i j k l : Flow) (s u : Store) → NotUpgraded i j k l s u Usage → ⊥
+upgrade_usage i j k l s u (input, output, rows, (fault, is, cause, young, upgrades, row)) = never_usage fault is
+
 not_usage : (c : Command) (i j k l : Flow) (s u : Store) (g h : Option ℕ) → Ends (Some c) i j k l s u g h Usage → ⊥
 not_usage (Ask question) i j k l s u g h (e, kept, clock) = e
 not_usage Ixf i j k l s u g h ((second, gave, e), kept) = e
 not_usage Restore i j k l s u g h (e, clock) = e
 not_usage Dump i j k l s u g h (e, clock) = no_usage i j k l s u e
+not_usage Upgrade i j k l s u g h (e, clock) = upgrade_usage i j k l s u e
 not_usage (Demo members) i j k l s u g h (e, input, kept, clock) = e
 not_usage (Wait waiting) i j k l s u g h e = e
 

@@ -12,5 +12,7 @@ pub mod OneOutput
 pub mod Refusals
 pub mod Telling
 pub mod Loadable
+pub mod Dumping
 pub mod Loading
 pub mod NoDoor
+pub mod Raising

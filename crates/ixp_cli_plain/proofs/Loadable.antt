@@ -1,17 +1,18 @@
 -- Of a store that can be loaded neither damage nor an older version is told.
-use Rattle.std.proofs.Common.{◌≡◌, inl, inr, ℕ, List, Option, Some, None, Err, refl, sym, ◌∙◌, subst, arith}
+use Rattle.std.proofs.Common.{◌≡◌, ◌≢◌, inl, inr, ℕ, List, Option, Some, None, Err, refl, sym, ◌∙◌, subst, arith}
 use Rattle.ixp_store_words.specs.Answers.{IsLoaded, LoadsAll, empty_registry}
 use Rattle.ixp_store_words.specs.Faults.{IsKeepers}
 use Rattle.ixp_store_words.specs.declared.fault.LoadFault.{LoadFault}
 use Rattle.ixp_store_words.specs.declared.fault.LoadFault.TheVariants as load
+use Rattle.ixp_store_upgrade.specs.Upgrades.{IsUpgraded, UpgradesAll}
 use Rattle.ixp_machine_steps.specs.Openings.{first_state}
 use Rattle.ixp_machine_steps.specs.declared.state.State.{State}
 use Rattle.ixp_cli_plain.specs.declared.command.Command.{Command}
-use Rattle.ixp_cli_plain.specs.declared.command.Command.TheVariants.{Ask, Ixf, Restore, Dump, Demo, Wait}
+use Rattle.ixp_cli_plain.specs.declared.command.Command.TheVariants.{Ask, Ixf, Restore, Dump, Upgrade, Demo, Wait}
 use Rattle.ixp_cli_plain.specs.declared.end.End.{End}
 use Rattle.ixp_cli_plain.specs.declared.end.End.TheVariants.{Done, Usage, BadInput, BadObjects, ReadFault, WriteFault, KeeperFault, NoMemory, UnknownRouter, NotEmpty, Damaged, OldVersion, DoorFault, BadLink}
 use Rattle.ixp_cli_plain.specs.Restores.{Store}
-use Rattle.ixp_cli_plain.specs.Runs.{CanBeLoaded, Flow, Outside, Ends, NotLoaded, Runs, status_of}
+use Rattle.ixp_cli_plain.specs.Runs.{CanBeLoaded, Flow, Outside, Ends, NotLoaded, NotUpgraded, Runs, status_of}
 use Rattle.ixp_cli_plain.specs.Sessions.{Unloaded}
 
 -- what is told is the store's fault, or running out of memory
@@ -40,12 +41,38 @@ no_version load.NoMemory n is e = let bad : ⊥ = cc in bad
 pub unloaded_damage : (i j k l : Flow) (s u : Store) (what : List ℕ) → CanBeLoaded s → NotLoaded i j k l s u (Damaged what) → ⊥
 unloaded_damage i j k l s u what can (input, output, rows, (fault, is, cause, version, loads, row)) = no_damage fault what (of_store s fault can loads) is
 
+-- nor is an upgrade of it refused but for the store's fault, or running out of memory
+keepers_only : (n : ℕ) (fault : LoadFault) → IsUpgraded n (Err fault) → IsKeepers fault
+keepers_only n load.KeeperFault is = tt
+keepers_only n (load.Damaged name damage) is = absurd is
+keepers_only n (load.OldVersion found) is = absurd is
+keepers_only n load.NoMemory is = tt
+
+of_upgrade : (s : Store) (fault : LoadFault) → CanBeLoaded s → UpgradesAll s.rows (Err fault) → IsKeepers fault
+of_upgrade s fault (inl none) upgrades = keepers_only 0 fault (upgrades.nothing none)
+of_upgrade s fault (inr (state, valid, stores, rows)) upgrades = keepers_only 0 fault (upgrades.today state valid stores rows)
+
+upgrade_damage : (i j k l : Flow) (s u : Store) (what : List ℕ) → CanBeLoaded s → NotUpgraded i j k l s u (Damaged what) → ⊥
+upgrade_damage i j k l s u what can (input, output, rows, (fault, is, cause, young, upgrades, row)) = no_damage fault what (of_upgrade s fault can upgrades) is
+
+-- and an upgrade tells of no older version
+never_older : (fault : LoadFault) (n : ℕ) → ((found : ℕ) → fault ≢ load.OldVersion found) → Unloaded fault (OldVersion n) → ⊥
+never_older load.KeeperFault n young e = let bad : ⊥ = cc in bad
+never_older (load.Damaged name damage) n young (inl e) = let bad : ⊥ = cc in bad
+never_older (load.Damaged name damage) n young (inr e) = let bad : ⊥ = cc in bad
+never_older (load.OldVersion found) n young e = young found refl
+never_older load.NoMemory n young e = let bad : ⊥ = cc in bad
+
+pub upgrade_version : (i j k l : Flow) (s u : Store) (n : ℕ) → NotUpgraded i j k l s u (OldVersion n) → ⊥
+upgrade_version i j k l s u n (input, output, rows, (fault, is, cause, young, upgrades, row)) = never_older fault n young is
+
 ends_damage : (o : Option Command) (i j k l : Flow) (s u : Store) (g h : Option ℕ) (what : List ℕ) → CanBeLoaded s → Ends o i j k l s u g h (Damaged what) → ⊥
 ends_damage None i j k l s u g h what can (is, input, output, store, clock) = let bad : ⊥ = cc in bad
 ends_damage (Some (Ask question)) i j k l s u g h what can (e, kept, clock) = e
 ends_damage (Some Ixf) i j k l s u g h what can ((second, gave, e), kept) = e
 ends_damage (Some Restore) i j k l s u g h what can (e, clock) = e
 ends_damage (Some Dump) i j k l s u g h what can (e, clock) = unloaded_damage i j k l s u what can e
+ends_damage (Some Upgrade) i j k l s u g h what can (e, clock) = upgrade_damage i j k l s u what can e
 ends_damage (Some (Demo members)) i j k l s u g h what can (e, input, kept, clock) = e
 ends_damage (Some (Wait waiting)) i j k l s u g h what can e = e
 
@@ -58,10 +85,11 @@ ends_version (Some (Ask question)) i j k l s u g h found can (e, kept, clock) = 
 ends_version (Some Ixf) i j k l s u g h found can ((second, gave, e), kept) = e
 ends_version (Some Restore) i j k l s u g h found can (e, clock) = e
 ends_version (Some Dump) i j k l s u g h found can (e, clock) = unloaded_version i j k l s u found can e
+ends_version (Some Upgrade) i j k l s u g h found can (e, clock) = upgrade_version i j k l s u found e
 ends_version (Some (Demo members)) i j k l s u g h found can (e, input, kept, clock) = e
 ends_version (Some (Wait waiting)) i j k l s u g h found can e = e
 
-is_damage : (end : End) → status_of end ≡ 6 → (x : List ℕ) × (end ≡ Damaged x)
+pub is_damage : (end : End) → status_of end ≡ 6 → (x : List ℕ) × (end ≡ Damaged x)
 is_damage Done e = let bad : 0 ≡ 6 = e in absurd (omega (arith, bad))
 is_damage Usage e = let bad : 1 ≡ 6 = e in absurd (omega (arith, bad))
 is_damage (BadInput cause) e = let bad : 2 ≡ 6 = e in absurd (omega (arith, bad))
@@ -77,7 +105,7 @@ is_damage (OldVersion found) e = let bad : 10 ≡ 6 = e in absurd (omega (arith,
 is_damage DoorFault e = let bad : 7 ≡ 6 = e in absurd (omega (arith, bad))
 is_damage (BadLink code requests) e = let bad : 2 ≡ 6 = e in absurd (omega (arith, bad))
 
-is_version : (end : End) → status_of end ≡ 10 → (x : ℕ) × (end ≡ OldVersion x)
+pub is_version : (end : End) → status_of end ≡ 10 → (x : ℕ) × (end ≡ OldVersion x)
 is_version Done e = let bad : 0 ≡ 10 = e in absurd (omega (arith, bad))
 is_version Usage e = let bad : 1 ≡ 10 = e in absurd (omega (arith, bad))
 is_version (BadInput cause) e = let bad : 2 ≡ 10 = e in absurd (omega (arith, bad))
@@ -93,7 +121,7 @@ is_version (OldVersion found) e = (found, refl)
 is_version DoorFault e = let bad : 7 ≡ 10 = e in absurd (omega (arith, bad))
 is_version (BadLink code requests) e = let bad : 2 ≡ 10 = e in absurd (omega (arith, bad))
 
-one_status : (n m : ℕ) → ◌≡◌ {A = Option ℕ} (Some n) (Some m) → n ≡ m
+pub one_status : (n m : ℕ) → ◌≡◌ {A = Option ℕ} (Some n) (Some m) → n ≡ m
 one_status n m e = cc
 
 pub never_damaged : (command : Option Command) (before after : Outside) (status : Option ℕ) → CanBeLoaded before.store → Runs command before after status → status ≡ Some 6 → ⊥

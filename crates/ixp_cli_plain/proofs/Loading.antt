@@ -18,14 +18,14 @@ pub not_loaded :
     → WhereTold s.rows (TellsVersion (Err fault)) → LoadsAll s.rows (Err fault) → WhereTold s.rows (TellsRow (Err fault)) → u.rows ≡ s.rows → Unloaded fault end → NotLoaded i i o o s u end
 not_loaded i o s u fault end cause version loads row rows un = (refl, refl, rows, (fault, un, (λ e. cause (ap Err e)), version, loads, row))
 
-never_done : (fault : LoadFault) → Unloaded fault Done → ⊥
+pub never_done : (fault : LoadFault) → Unloaded fault Done → ⊥
 never_done load.KeeperFault e = let bad : ⊥ = cc in bad
 never_done (load.Damaged name damage) (inl e) = let bad : ⊥ = cc in bad
 never_done (load.Damaged name damage) (inr e) = let bad : ⊥ = cc in bad
 never_done (load.OldVersion found) e = let bad : ⊥ = cc in bad
 never_done load.NoMemory e = let bad : ⊥ = cc in bad
 
-never_written : (fault : LoadFault) → Unloaded fault WriteFault → ⊥
+pub never_written : (fault : LoadFault) → Unloaded fault WriteFault → ⊥
 never_written load.KeeperFault e = let bad : ⊥ = cc in bad
 never_written (load.Damaged name damage) (inl e) = let bad : ⊥ = cc in bad
 never_written (load.Damaged name damage) (inr e) = let bad : ⊥ = cc in bad

@@ -1,7 +1,7 @@
 -- An input that is longer than the limit.
 use Rattle.std.proofs.Common.{◌≡◌, ◌<◌, ◌≤◌, ℕ, true, List, [], ◌++◌, length, length-append, Option, Some, None, Err, inl, inr, ap, sym, ◌∙◌, arith}
 use Rattle.ixp_cli_plain.specs.declared.command.Command.{Command}
-use Rattle.ixp_cli_plain.specs.declared.command.Command.TheVariants.{Ask, Ixf, Restore, Dump, Demo, Wait}
+use Rattle.ixp_cli_plain.specs.declared.command.Command.TheVariants.{Ask, Ixf, Restore, Dump, Upgrade, Demo, Wait}
 use Rattle.ixp_cli_plain.specs.declared.command.Question.{Question}
 use Rattle.ixp_cli_plain.specs.declared.command.Question.TheVariants.{Export}
 use Rattle.ixp_cli_plain.specs.declared.end.End.{End}
@@ -73,6 +73,7 @@ of_command (Ask question) before after left end reads is long (ends, kept, clock
 of_command Ixf before after left end reads is long ((second, gave, ends), kept) = long_end (Export second) left before.input after.input before.output after.output is long end ends
 of_command Restore before after left end reads is long (ends, clock) = long_restore left before.input after.input before.output after.output before.store after.store is long end ends
 of_command Dump before after left end reads is long ends = absurd (let bad : ⊥ = cc in bad)
+of_command Upgrade before after left end reads is long ends = absurd (let bad : ⊥ = cc in bad)
 of_command (Demo members) before after left end reads is long ends = absurd (let bad : ⊥ = cc in bad)
 of_command (Wait waiting) before after left end reads is long ends = absurd (let bad : ⊥ = cc in bad)
 

@@ -3,7 +3,7 @@ use Rattle.std.proofs.Common.{◌≡◌, inl, inr, ℕ, Option, Some, None, subs
 use Rattle.ixp_store_words.specs.declared.fault.LoadFault.{LoadFault}
 use Rattle.ixp_store_words.specs.declared.fault.LoadFault.TheVariants as load
 use Rattle.ixp_cli_plain.specs.declared.command.Command.{Command}
-use Rattle.ixp_cli_plain.specs.declared.command.Command.TheVariants.{Ask, Ixf, Restore, Dump, Demo, Wait}
+use Rattle.ixp_cli_plain.specs.declared.command.Command.TheVariants.{Ask, Ixf, Restore, Dump, Upgrade, Demo, Wait}
 use Rattle.ixp_cli_plain.specs.declared.end.End.{End}
 use Rattle.ixp_cli_plain.specs.declared.end.End.TheVariants.{Done, Usage, BadInput, BadObjects, ReadFault, WriteFault, KeeperFault, NoMemory, UnknownRouter, NotEmpty, Damaged, OldVersion, DoorFault, BadLink}
 use Rattle.ixp_cli_plain.specs.Restores.{Store}
@@ -23,6 +23,7 @@ no_door (Some (Ask question)) i j k l s u g h (e, kept, clock) = e
 no_door (Some Ixf) i j k l s u g h ((second, gave, e), kept) = e
 no_door (Some Restore) i j k l s u g h (e, clock) = e
 no_door (Some Dump) i j k l s u g h ((input, output, rows, (fault, is, cause, version, loads, row)), clock) = not_unloaded fault is
+no_door (Some Upgrade) i j k l s u g h ((input, output, rows, (fault, is, cause, young, upgrades, row)), clock) = not_unloaded fault is
 no_door (Some (Demo members)) i j k l s u g h (e, input, kept, clock) = e
 no_door (Some (Wait waiting)) i j k l s u g h e = e
 

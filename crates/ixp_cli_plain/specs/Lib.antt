@@ -10,3 +10,5 @@ pub mod Restores
 pub mod Runs
 pub mod Sessions
 pub mod Serving
+pub mod Dumps
+pub mod Upgraded

@@ -1,5 +1,5 @@
 -- What a run of the program does.
-use Rattle.std.specs.Prelude.{◌≡◌, ◌<◌, ◌≤◌, ◌⊎◌, ◌+◌, ℕ, ◌==◌, ◌&&◌, ◌||◌, Bool, true, false, List, [], ◌∷◌, ◌++◌, length, Option, Some, None, Result, Ok, Err, option_map, codes, decimal, IsTrue, if◌then◌else◌}
+use Rattle.std.specs.Prelude.{◌≡◌, ◌≢◌, ◌<◌, ◌≤◌, ◌⊎◌, ◌+◌, ℕ, ◌==◌, ◌&&◌, ◌||◌, Bool, true, false, List, [], ◌∷◌, ◌++◌, length, Option, Some, None, Result, Ok, Err, option_map, codes, decimal, IsTrue, if◌then◌else◌}
 use Rattle.std.specs.FinMap.{empty}
 use Rattle.ixp_num.specs.declared.cause.Cause.{Cause}
 use Rattle.ixp_num.specs.declared.cause.Code.TheVariants.{U5}
@@ -11,7 +11,7 @@ use Rattle.ixp_registry.specs.Alphabets.{is_handle}
 use Rattle.ixp_registry.specs.declared.registry.Registry.{Registry}
 use Rattle.ixp_num_tables.specs.Tables.{same}
 use Rattle.ixp_cli_plain.specs.declared.command.Command.{Command}
-use Rattle.ixp_cli_plain.specs.declared.command.Command.TheVariants.{Ask, Ixf, Restore, Dump, Demo, Wait}
+use Rattle.ixp_cli_plain.specs.declared.command.Command.TheVariants.{Ask, Ixf, Restore, Dump, Upgrade, Demo, Wait}
 use Rattle.ixp_cli_plain.specs.declared.command.Waiting.{Waiting}
 use Rattle.ixp_cli_plain.specs.declared.command.Waiting.TheVariants.{Session, Serve}
 use Rattle.ixp_cli_plain.specs.declared.restore.NoDump.{NoDump}
@@ -35,13 +35,14 @@ use Rattle.ixp_rows_lines.specs.declared.version.Version.TheVariants.{Two}
 use Rattle.ixp_store_words.specs.Answers.{IsStoreOf, LoadsAll, TellsVersion}
 use Rattle.ixp_store_damage.specs.Damages.{TellsRow}
 use Rattle.ixp_store_words.specs.declared.fault.LoadFault.{LoadFault}
-use Rattle.ixp_store_words.specs.declared.fault.LoadFault.TheVariants.{KeeperFault as StoreFault}
+use Rattle.ixp_store_words.specs.declared.fault.LoadFault.TheVariants.{KeeperFault as StoreFault, OldVersion as OlderStore}
 use Rattle.ixp_store_words.specs.Storing.{IsStorable}
 use Rattle.ixp_registry.specs.Registries.{rows_of}
 use Rattle.ixp_rows.specs.Texts.{dump_text}
 use Rattle.ixp_machine_steps.specs.declared.state.State.{State}
 use Rattle.ixp_machine_steps.specs.States.{ValidState}
 use Rattle.ixp_store_rows.specs.States.{tables}
+use Rattle.ixp_store_upgrade.specs.Upgrades.{TellsDamaged, Upgrades, UpgradesAll}
 use Rattle.ixp_cli_plain.specs.Restores.{Store, IsDumpOf, Fills, IsFilled, Restores}
 use Rattle.ixp_cli_plain.specs.Serving.{serve_by}
 use Rattle.ixp_cli_plain.specs.Sessions.{code_word, Unloaded}
@@ -51,7 +52,7 @@ abbrev pub command_by : List ℕ → Option Command
 command_by word =
     if same word (codes "check") then Some (Ask Check) else if same word (codes "eval") then Some (Ask Eval) else if same word (codes "fate") then Some (Ask Fate)
     else if same word (codes "ixf") then Some Ixf else if same word (codes "restore") then Some Restore else if same word (codes "dump") then Some Dump
-    else if same word (codes "session") then Some (Wait Session) else None
+    else if same word (codes "upgrade") then Some Upgrade else if same word (codes "session") then Some (Wait Session) else None
 
 -- the command that a word and a handle are, or a word and a number of members
 abbrev pub command_with : List ℕ → List ℕ → Option Command
@@ -293,9 +294,14 @@ NotLoaded input input' output output' store store' end =
 abbrev pub CanBeLoaded : Store → Type 0
 CanBeLoaded store = (store.rows ≡ Some empty) ⊎ ((s : State) × ValidState s × IsStorable s × (store.rows ≡ Some (tables s)))
 
--- the store has the rows of this valid state, and would be loaded as it
-abbrev pub Holds : Store → State → Type 0
-Holds store s = ValidState s × IsStorable s × WhereTold store.rows (IsStoreOf s)
+-- The store has the rows of this valid state, and is loaded as it: what it could be loaded as is this state, and its
+-- version isn't older.
+pub record Holds (store : Store) (s : State) : Type 0 where
+  pub valid : ValidState s
+  pub storable : IsStorable s
+  pub state : WhereTold store.rows (IsStoreOf s)
+  pub all : LoadsAll store.rows (Ok s)
+  pub version : WhereTold store.rows (TellsVersion (Ok s))
 
 -- How `dump` ends: it writes the dump of the store's registry, and reads nothing.
 abbrev pub DumpEnds : Flow → Flow → Flow → Flow → Store → Store → End → Type 0
@@ -306,6 +312,29 @@ DumpEnds input input' output output' store store' WriteFault =
     × TakesPart output.bytes output'.bytes (dump_text Two (rows_of s.registry)) × Rose output.faults output'.faults
 DumpEnds input input' output output' store store' NoMemory = (input' ≡ input) × (output' ≡ output) × (store'.rows ≡ store.rows)
 DumpEnds input input' output output' store store' end = NotLoaded input input' output output' store store' end
+
+-- what `upgrade` writes: `upgraded` and the number of routers whose rows it set
+abbrev pub upgraded_text : ℕ → List ℕ
+upgraded_text n = codes "upgraded " ++ (decimal n ++ 10 ∷ [])
+
+-- The store couldn't be upgraded: nothing was read or written, and its rows are as they were. A fault of the store came
+-- in this run; damage is told where the rows are those of a state in neither version, and an older version nowhere.
+abbrev pub NotUpgraded : Flow → Flow → Flow → Flow → Store → Store → End → Type 0
+NotUpgraded input input' output output' store store' end =
+    (input' ≡ input) × (output' ≡ output) × (store'.rows ≡ store.rows)
+    × ((fault : LoadFault) × Unloaded fault end × (fault ≡ StoreFault → Rose store.faults store'.faults) × ((found : ℕ) → fault ≢ OlderStore found)
+    × UpgradesAll store.rows (Err fault) × WhereTold store.rows (TellsDamaged (Err fault)))
+
+-- How `upgrade` ends: it makes a store of the first version today's, leaves one of today's as it is, writes how many
+-- routers have new rows, and reads nothing.
+abbrev pub UpgradeEnds : Flow → Flow → Flow → Flow → Store → Store → End → Type 0
+UpgradeEnds input input' output output' store store' Done =
+    (n : ℕ) × Told store.rows store'.rows (Upgrades n) × UpgradesAll store.rows (Ok n) × (input' ≡ input) × Takes output.bytes output'.bytes (upgraded_text n)
+UpgradeEnds input input' output output' store store' WriteFault =
+    (n : ℕ) × Told store.rows store'.rows (Upgrades n) × UpgradesAll store.rows (Ok n) × (input' ≡ input)
+    × TakesPart output.bytes output'.bytes (upgraded_text n) × Rose output.faults output'.faults
+UpgradeEnds input input' output output' store store' NoMemory = (input' ≡ input) × (output' ≡ output) × (store'.rows ≡ store.rows)
+UpgradeEnds input input' output output' store store' end = NotUpgraded input input' output output' store store' end
 
 -- How `demo` ends: it writes how large the demo exchange with so many members is.
 abbrev pub DemoEnds : ℕ → Flow → Flow → End → Type 0
@@ -330,6 +359,7 @@ Ends (Some (Ask question)) input input' output output' store store' given given'
 Ends (Some Ixf) input input' output output' store store' given given' end = ExportEnds input input' output output' given given' end × (store' ≡ store)
 Ends (Some Restore) input input' output output' store store' given given' end = RestoreEnds input input' output output' store store' end × (given' ≡ given)
 Ends (Some Dump) input input' output output' store store' given given' end = DumpEnds input input' output output' store store' end × (given' ≡ given)
+Ends (Some Upgrade) input input' output output' store store' given given' end = UpgradeEnds input input' output output' store store' end × (given' ≡ given)
 Ends (Some (Demo members)) input input' output output' store store' given given' end =
     DemoEnds members output output' end × (input' ≡ input) × (store' ≡ store) × (given' ≡ given)
 Ends (Some (Wait waiting)) input input' output output' store store' given given' end = ⊥
@@ -338,6 +368,7 @@ Ends (Some (Wait waiting)) input input' output output' store store' given given'
 abbrev pub waits : Option Command → Bool
 waits (Some (Wait waiting)) = true
 waits (Some Dump) = false
+waits (Some Upgrade) = false
 waits (Some (Demo members)) = false
 waits (Some Restore) = false
 waits (Some (Ask question)) = false
@@ -386,6 +417,7 @@ reads_whole (Ask question) = true
 reads_whole Ixf = true
 reads_whole Restore = true
 reads_whole Dump = false
+reads_whole Upgrade = false
 reads_whole (Demo members) = false
 reads_whole (Wait waiting) = false
 

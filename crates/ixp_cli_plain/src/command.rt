@@ -54,6 +54,7 @@ use crate::export::export;
 use crate::fate::fate;
 use crate::generation::router_text;
 use crate::restore::run_restore;
+use crate::upgrading::run_upgrade;
 use ixp_io::{Clock, Keeper, Sink, Source, WholeFault, read_whole, write_all};
 use ixp_num::{Cause, Code, Family, Name, Place};
 use ixp_num_tables::number_upto;
@@ -118,6 +119,8 @@ pub enum Command {
     Restore,
     /// Writes the dump of the store's registry.
     Dump,
+    /// Makes a store of the first version today's.
+    Upgrade,
     /// Writes how large the demo exchange with so many members is.
     Demo { members: u32 },
     Wait { waiting: Waiting },
@@ -146,6 +149,8 @@ fn command_by(word: &[u8]) -> Option<Command>
         Some(Command::Restore)
     } else if word == b"dump".as_slice() {
         Some(Command::Dump)
+    } else if word == b"upgrade".as_slice() {
+        Some(Command::Upgrade)
     } else if word == b"session".as_slice() {
         Some(Command::Wait {
             waiting: Waiting::Session,
@@ -423,6 +428,7 @@ fn run_words<S: Source, K: Sink, P: Keeper, C: Clock>(
         }
         Ok(Some(Command::Restore)) => Ok(run_restore(alloc, input, output, keeper)),
         Ok(Some(Command::Dump)) => Ok(run_dump(alloc, input, output, keeper)),
+        Ok(Some(Command::Upgrade)) => Ok(run_upgrade(alloc, input, output, keeper)),
         Ok(Some(Command::Demo { members })) => Ok(run_demo(alloc, output, members)),
         Ok(Some(Command::Wait { waiting })) => Err(waiting),
         Ok(None) => Ok(End::Usage),

@@ -2,14 +2,20 @@
 ghost use Rattle.std.specs.Prelude.{◌≡◌, ◌⊎◌, ◌<◌, ◌≤◌, true, ℕ, List, Option, Some, Ok, Err, length};
 ghost use Rattle.ixp_num.specs.declared.cause.Cause.{Cause};
 ghost use Rattle.std.specs.FinMap.{empty};
-ghost use Rattle.ixp_io.specs.Told.{Told};
+ghost use Rattle.ixp_io.specs.Tables.{Table};
+ghost use Rattle.ixp_io.specs.Told.{Told, WhereTold};
 ghost use Rattle.ixp_ixf.specs.Views.{ixf_text_of};
 ghost use Rattle.ixp_registry.specs.declared.registry.Registry.{Registry};
 ghost use Rattle.ixp_rpsl_text.specs.declared.fault.ExpandCause.{ExpandCause};
 ghost use Rattle.ixp_cli_plain.specs.declared.command.Command.{Command};
-ghost use Rattle.ixp_cli_plain.specs.declared.command.Command.TheVariants.{Ask, Ixf, Restore};
+ghost use Rattle.ixp_cli_plain.specs.declared.command.Command.TheVariants.{Ask, Demo, Dump, Ixf, Restore, Upgrade};
 ghost use Rattle.ixp_cli_plain.specs.declared.command.Question.{Question};
 ghost use Rattle.ixp_cli_plain.specs.declared.end.End.{End};
+ghost use Rattle.ixp_machine_steps.specs.declared.state.State.{State};
+ghost use Rattle.ixp_cli_plain.specs.Demos.{demo_text};
+ghost use Rattle.ixp_store_upgrade.specs.Upgrades.{FitsNoVersion};
+ghost use Rattle.ixp_cli_plain.specs.Dumps.{IsDamaged, IsDumped, IsOld, IsStatusOr, IsStoredAs};
+ghost use Rattle.ixp_cli_plain.specs.Upgraded.{Becomes, IsDamagedFor, IsRaised};
 ghost use Rattle.ixp_cli_plain.specs.Evals.{Evaluates};
 ghost use Rattle.ixp_cli_plain.specs.Restores.{IsDumpOf};
 ghost use Rattle.ixp_cli_plain.specs.Runs.{
@@ -80,6 +86,50 @@ pub fn dumps_are_restored()
         length input ≤ input_limit → IsDumpOf input r → before.store.rows ≡ Some empty
         → Runs (Some Restore) before after status →
         (end : End) × IsRestored r before after end × IsTold end before.errors after.errors status }
+{}
+
+/// The registry of a store is dumped that has the rows of a state that requests lead to, or none, but that a
+/// write or the keeper may fail or memory run out.
+pub fn stores_are_dumped()
+    ensures { (s : State) (before after : Outside) (status : Option ℕ) → IsStoredAs before.store s
+        → Runs (Some Dump) before after status →
+        (end : End) × IsDumped s before after end × IsTold end before.errors after.errors status }
+{}
+
+/// A store of the first version of a state becomes today's store of it, and one that has the rows of a state
+/// that requests lead to, or none, stays as it is, but that a write or the keeper may fail or memory run out.
+pub fn stores_are_upgraded()
+    ensures { (now : Table) (n : ℕ) (before after : Outside) (status : Option ℕ) → Becomes before.store now n
+        → Runs (Some Upgrade) before after status →
+        (end : End) × IsRaised now n before after end × IsTold end before.errors after.errors status }
+{}
+
+/// Of a demo exchange all lines are written, but that a write may fail or memory run out.
+pub fn demos_are_written()
+    ensures { (n : ℕ) (before after : Outside) (status : Option ℕ)
+        → Runs (Some (Demo n)) before after status →
+        (end : End) × IsAnswered (demo_text n) before.input after.input before.output after.output end
+        × IsTold end before.errors after.errors status }
+{}
+
+/// Damage is told only of a store that has rows, but those of no state that requests lead to, and isn't
+/// older; and `dump` tells it of each such store, but that the keeper may fail or memory run out. `upgrade`
+/// tells it of stores whose rows are those of a state in neither version, and of each such. An older version is
+/// told only where the row of the version says so, and `dump` tells it there.
+pub fn damaged_and_old_stores_are_told()
+    ensures damaged { (command : Option Command) (before after : Outside)
+        → Runs command before after (Some 6) → WhereTold before.store.rows (IsDamagedFor command) }
+    ensures old { (command : Option Command) (before after : Outside)
+        → Runs command before after (Some 10) → WhereTold before.store.rows IsOld }
+    ensures damage_told { (rows : Table) (before after : Outside) (status : Option ℕ)
+        → before.store.rows ≡ Some rows → IsDamaged rows → Runs (Some Dump) before after status
+        → IsStatusOr 6 before.store after.store status }
+    ensures refusal_told { (rows : Table) (before after : Outside) (status : Option ℕ)
+        → before.store.rows ≡ Some rows → FitsNoVersion rows → Runs (Some Upgrade) before after status
+        → IsStatusOr 6 before.store after.store status }
+    ensures version_told { (rows : Table) (before after : Outside) (status : Option ℕ)
+        → before.store.rows ≡ Some rows → IsOld rows → Runs (Some Dump) before after status
+        → IsStatusOr 10 before.store after.store status }
 {}
 
 /// Damage is told of no store that has the rows of a state that requests lead to, or none; nor is such a

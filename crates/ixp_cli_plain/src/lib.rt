@@ -20,6 +20,7 @@ mod input;
 pub mod laws;
 mod restore;
 mod unloading;
+mod upgrading;
 
 pub use command::{Command, INPUT_LIMIT, Question, Waiting, run_command, run_plain};
 pub use end::{End, LinkCode, report, write_counted};

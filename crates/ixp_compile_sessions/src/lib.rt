@@ -5,7 +5,9 @@
 //! their order.
 #![tactic(auto)]
 
+mod inputs_ref;
 mod member_rules;
 mod session;
 
+pub use inputs_ref::InputsRef;
 pub use session::add_fragment;

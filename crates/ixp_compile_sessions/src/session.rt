@@ -61,8 +61,8 @@ ghost use Rattle.ixp_compile.specs.Fragment.{
 ghost use Rattle.ixp_compile_pieces.specs.Items.{down_item, in_item, receive_item, up_item};
 ghost use Rattle.ixp_compile_pieces.specs.Made.{items_view};
 
+use crate::inputs_ref::InputsRef;
 use crate::member_rules::{add_advertise_rules, receive_body};
-use ixp_compile::Inputs;
 use ixp_compile_pieces::{
     add, add_drop, add_drop_if, add_filter, add_function, add_item, add_nets, add_number_test,
     add_numbers, add_run, add_tell, add_when, all_large, call, call_with, compared, compared_name,
@@ -78,7 +78,7 @@ use std::alloc::{AllocError, Global};
 fn add_member_sets(
     alloc: Global,
     items: &mut Vec<Item>,
-    i: &Inputs,
+    i: &InputsRef,
     irr: Items<Pattern>,
     blackholes: Items<Pattern>,
 ) -> Result<(), AllocError>
@@ -90,7 +90,7 @@ fn add_member_sets(
     }
     add_nets(items, numbered(alloc, b"irr_", i.interface)?, irr)?;
     let name = numbered(alloc, b"org_", i.interface)?;
-    add_numbers(alloc, items, name, i.origins.as_slice())?;
+    add_numbers(alloc, items, name, i.origins)?;
     if i.blackhole.is_none() {
         return Ok(());
     }
@@ -100,7 +100,7 @@ fn add_member_sets(
 // The import filter.
 
 /// What is done with a route whose next hop isn't the session's address.
-fn other_hop(alloc: Global, i: &Inputs) -> Result<Stmt, AllocError>
+fn other_hop(alloc: Global, i: &InputsRef) -> Result<Stmt, AllocError>
     ensures { IfOk result
         (λ s. stmt_view s ≡ if_then (compared op.In attr.NextHop (set_literal (set.Ips i.now.addresses)))
         (stmts (tell i.now.rs.0 FINDING 1200 ∷ [])) (stmts (drop_with 8 ∷ []))) }
@@ -109,13 +109,13 @@ fn other_hop(alloc: Global, i: &Inputs) -> Result<Stmt, AllocError>
     add_tell(&mut yes, i.rs, FINDING, 1200)?;
     let mut no = Vec::new(alloc);
     add_drop(alloc, &mut no, 8)?;
-    let addresses = i.addresses.copied(alloc)?;
+    let addresses = Items::from_slice(alloc, i.addresses)?;
     let right = Expr::Set(SetLit::Ips(addresses));
     let test = compared(alloc, Op::In, Attr::NextHop, right)?;
     Ok(Stmt::If { test, yes, no })
 }
 
-fn add_next_hop_test(alloc: Global, body: &mut Vec<Stmt>, i: &Inputs) -> Result<(), AllocError>
+fn add_next_hop_test(alloc: Global, body: &mut Vec<Stmt>, i: &InputsRef) -> Result<(), AllocError>
     ensures { OnOk result
         (stmts_view body.new.items ≡ stmts_view body.old.items ++ next_hop_test i.now ∷ []) }
 {
@@ -125,7 +125,7 @@ fn add_next_hop_test(alloc: Global, body: &mut Vec<Stmt>, i: &Inputs) -> Result<
     add_when(alloc, body, test, yes)
 }
 
-fn add_transit_test(alloc: Global, body: &mut Vec<Stmt>, i: &Inputs) -> Result<(), AllocError>
+fn add_transit_test(alloc: Global, body: &mut Vec<Stmt>, i: &InputsRef) -> Result<(), AllocError>
     ensures { OnOk result (stmts_view body.new.items ≡ stmts_view body.old.items ++ transit_test i.now) }
 {
     if i.transit_free {
@@ -159,7 +159,11 @@ fn add_origin_set_test(
     add_drop_if(alloc, body, test, 10)
 }
 
-fn add_registered_origin(alloc: Global, body: &mut Vec<Stmt>, i: &Inputs) -> Result<(), AllocError>
+fn add_registered_origin(
+    alloc: Global,
+    body: &mut Vec<Stmt>,
+    i: &InputsRef,
+) -> Result<(), AllocError>
     ensures { OnOk result
         (stmts_view body.new.items ≡ stmts_view body.old.items ++ registered_origin i.now i.now.origins) }
 {
@@ -169,7 +173,7 @@ fn add_registered_origin(alloc: Global, body: &mut Vec<Stmt>, i: &Inputs) -> Res
     add_origin_set_test(alloc, body, i.interface)
 }
 
-fn add_origin_test(alloc: Global, body: &mut Vec<Stmt>, i: &Inputs) -> Result<(), AllocError>
+fn add_origin_test(alloc: Global, body: &mut Vec<Stmt>, i: &InputsRef) -> Result<(), AllocError>
     ensures { OnOk result (stmts_view body.new.items ≡ stmts_view body.old.items ++ origin_test i.now) }
 {
     if i.address.irr {
@@ -196,7 +200,7 @@ fn add_net_test(
     add_drop_if(alloc, body, test, 9)
 }
 
-fn add_told_registered(body: &mut Vec<Stmt>, i: &Inputs) -> Result<(), AllocError>
+fn add_told_registered(body: &mut Vec<Stmt>, i: &InputsRef) -> Result<(), AllocError>
     ensures { OnOk result (stmts_view body.new.items ≡ stmts_view body.old.items ++ told_registered i.now) }
 {
     if !i.address.irr {
@@ -205,7 +209,7 @@ fn add_told_registered(body: &mut Vec<Stmt>, i: &Inputs) -> Result<(), AllocErro
     add_tell(body, i.rs, FINDING, 1)
 }
 
-fn blackhole_set<'a>(i: &Inputs, blackholes: &'a [Pattern]) -> &'a [Pattern]
+fn blackhole_set<'a>(i: &InputsRef, blackholes: &'a [Pattern]) -> &'a [Pattern]
     ensures { result.now ≡ blackhole_set i.now blackholes.now }
 {
     if i.address.irr { blackholes } else { &[] }
@@ -214,7 +218,7 @@ fn blackhole_set<'a>(i: &Inputs, blackholes: &'a [Pattern]) -> &'a [Pattern]
 /// What is done with a route whose traffic is to be dropped.
 fn blackhole_steps(
     alloc: Global,
-    i: &Inputs,
+    i: &InputsRef,
     blackholes: &[Pattern],
 ) -> Result<Vec<Stmt>, AllocError>
     ensures { IfOk result (λ v. stmts_view v.items
@@ -233,7 +237,7 @@ fn blackhole_steps(
 fn add_blackhole_test(
     alloc: Global,
     body: &mut Vec<Stmt>,
-    i: &Inputs,
+    i: &InputsRef,
     blackholes: &[Pattern],
 ) -> Result<(), AllocError>
     ensures { OnOk result
@@ -260,7 +264,7 @@ fn state_is(alloc: Global, family: Family, state: Validity) -> Result<Expr, Allo
 }
 
 /// Adds the test of a Valid route, which goes no further.
-fn add_valid_test(alloc: Global, body: &mut Vec<Stmt>, i: &Inputs) -> Result<(), AllocError>
+fn add_valid_test(alloc: Global, body: &mut Vec<Stmt>, i: &InputsRef) -> Result<(), AllocError>
     ensures { OnOk result (stmts_view body.new.items ≡ stmts_view body.old.items
         ++ when (state_is i.now.family Valid) (tell i.now.rs.0 ORIGIN_STATE 1 ∷ accept ∷ []) ∷ []) }
 {
@@ -271,7 +275,7 @@ fn add_valid_test(alloc: Global, body: &mut Vec<Stmt>, i: &Inputs) -> Result<(),
     add_when(alloc, body, test, yes)
 }
 
-fn add_state_test(alloc: Global, body: &mut Vec<Stmt>, i: &Inputs) -> Result<(), AllocError>
+fn add_state_test(alloc: Global, body: &mut Vec<Stmt>, i: &InputsRef) -> Result<(), AllocError>
     ensures { OnOk result (stmts_view body.new.items ≡ stmts_view body.old.items ++ state_test i.now) }
 {
     if !i.rpki {
@@ -286,7 +290,7 @@ fn add_state_test(alloc: Global, body: &mut Vec<Stmt>, i: &Inputs) -> Result<(),
 fn add_prefix_test(
     alloc: Global,
     body: &mut Vec<Stmt>,
-    i: &Inputs,
+    i: &InputsRef,
     irr: &[Pattern],
 ) -> Result<(), AllocError>
     ensures { OnOk result
@@ -321,7 +325,7 @@ fn add_cleaning(alloc: Global, body: &mut Vec<Stmt>, rs: Asn) -> Result<(), Allo
 }
 
 /// Adds the tests of who sent the route, and of the numbers of its path.
-fn add_sender_tests(alloc: Global, body: &mut Vec<Stmt>, i: &Inputs) -> Result<(), AllocError>
+fn add_sender_tests(alloc: Global, body: &mut Vec<Stmt>, i: &InputsRef) -> Result<(), AllocError>
     ensures { OnOk result (stmts_view body.new.items ≡ stmts_view body.old.items
         ++ when (compared op.Ne attr.First (int i.now.asn.0)) (drop_with 7 ∷ []) ∷ next_hop_test i.now ∷ run
         (codes "ixp_as") ∷ []) }
@@ -331,7 +335,7 @@ fn add_sender_tests(alloc: Global, body: &mut Vec<Stmt>, i: &Inputs) -> Result<(
     add_run(alloc, body, b"ixp_as")
 }
 
-fn add_first_tests(alloc: Global, body: &mut Vec<Stmt>, i: &Inputs) -> Result<(), AllocError>
+fn add_first_tests(alloc: Global, body: &mut Vec<Stmt>, i: &InputsRef) -> Result<(), AllocError>
     ensures { OnOk result (stmts_view body.new.items ≡ stmts_view body.old.items ++ first_tests i.now) }
 {
     add_cleaning(alloc, body, i.rs)?;
@@ -339,7 +343,7 @@ fn add_first_tests(alloc: Global, body: &mut Vec<Stmt>, i: &Inputs) -> Result<()
 }
 
 /// Adds the tests of the path's numbers and of its origin.
-fn add_path_tests(alloc: Global, body: &mut Vec<Stmt>, i: &Inputs) -> Result<(), AllocError>
+fn add_path_tests(alloc: Global, body: &mut Vec<Stmt>, i: &InputsRef) -> Result<(), AllocError>
     ensures { OnOk result
         (stmts_view body.new.items ≡ stmts_view body.old.items ++ first_tests i.now ++ transit_test i.now
         ++ origin_test i.now) }
@@ -353,7 +357,7 @@ fn add_path_tests(alloc: Global, body: &mut Vec<Stmt>, i: &Inputs) -> Result<(),
 fn add_net_tests(
     alloc: Global,
     body: &mut Vec<Stmt>,
-    i: &Inputs,
+    i: &InputsRef,
     irr: &[Pattern],
     blackholes: &[Pattern],
 ) -> Result<(), AllocError>
@@ -369,7 +373,7 @@ fn add_net_tests(
 
 fn in_body(
     alloc: Global,
-    i: &Inputs,
+    i: &InputsRef,
     irr: &[Pattern],
     blackholes: &[Pattern],
 ) -> Result<Vec<Stmt>, AllocError>
@@ -395,20 +399,20 @@ fn add_reject_if(alloc: Global, body: &mut Vec<Stmt>, test: Expr) -> Result<(), 
     add_when(alloc, body, test, yes)
 }
 
-fn up_body(alloc: Global, i: &Inputs) -> Result<Vec<Stmt>, AllocError>
+fn up_body(alloc: Global, i: &InputsRef) -> Result<Vec<Stmt>, AllocError>
     ensures { IfOk result (λ v. stmts_view v.items ≡ up_body i.now) }
 {
     let mut body = Vec::new(alloc);
     let refused = all_large(alloc, i.rs, &[REFUSED])?;
     let test = compared(alloc, Op::In, Attr::Triples, refused)?;
     add_reject_if(alloc, &mut body, test)?;
-    add_advertise_rules(alloc, &mut body, i.rs, i.family, i.rules.as_slice())?;
+    add_advertise_rules(alloc, &mut body, i.rs, i.family, i.rules)?;
     add(&mut body, Stmt::Accept)?;
     Ok(body)
 }
 
 /// Adds the test that the receiver's rules let the route in.
-fn add_receive_test(alloc: Global, body: &mut Vec<Stmt>, i: &Inputs) -> Result<(), AllocError>
+fn add_receive_test(alloc: Global, body: &mut Vec<Stmt>, i: &InputsRef) -> Result<(), AllocError>
     ensures { OnOk result
         (stmts_view body.new.items ≡ stmts_view body.old.items
         ++ when (negation (call (receive_name i.now.interface) (exprs []))) (reject ∷ []) ∷ []) }
@@ -419,7 +423,7 @@ fn add_receive_test(alloc: Global, body: &mut Vec<Stmt>, i: &Inputs) -> Result<(
 }
 
 /// Adds the test that the route's communities send it.
-fn add_send_test(alloc: Global, body: &mut Vec<Stmt>, i: &Inputs) -> Result<(), AllocError>
+fn add_send_test(alloc: Global, body: &mut Vec<Stmt>, i: &InputsRef) -> Result<(), AllocError>
     ensures { OnOk result
         (stmts_view body.new.items ≡ stmts_view body.old.items
         ++ when (negation (call (codes "ixp_sends") (exprs (int i.now.asn.0 ∷ [])))) (reject ∷ []) ∷ []) }
@@ -431,7 +435,7 @@ fn add_send_test(alloc: Global, body: &mut Vec<Stmt>, i: &Inputs) -> Result<(), 
 }
 
 /// What puts the sender's number in front as often as the route's communities ask for.
-fn padding(alloc: Global, i: &Inputs) -> Result<Stmt, AllocError>
+fn padding(alloc: Global, i: &InputsRef) -> Result<Stmt, AllocError>
     ensures { IfOk result
         (λ s. stmt_view s ≡ call_statement (codes "ixp_pad")
         (exprs (call (codes "ixp_count") (exprs (int i.now.asn.0 ∷ [])) ∷ []))) }
@@ -443,7 +447,7 @@ fn padding(alloc: Global, i: &Inputs) -> Result<Stmt, AllocError>
     Ok(Stmt::Call { name, args })
 }
 
-fn down_body(alloc: Global, i: &Inputs) -> Result<Vec<Stmt>, AllocError>
+fn down_body(alloc: Global, i: &InputsRef) -> Result<Vec<Stmt>, AllocError>
     ensures { IfOk result (λ v. stmts_view v.items ≡ down_body i.now) }
 {
     let mut body = Vec::new(alloc);
@@ -456,7 +460,7 @@ fn down_body(alloc: Global, i: &Inputs) -> Result<Vec<Stmt>, AllocError>
 
 // The protocols.
 
-fn pipe_of(alloc: Global, i: &Inputs) -> Result<Pipe, AllocError>
+fn pipe_of(alloc: Global, i: &InputsRef) -> Result<Pipe, AllocError>
     ensures { IfOk result (λ p. p ≡ pipe_of i.now) }
 {
     Ok(Pipe {
@@ -484,7 +488,7 @@ fn if_not_0(number: u32) -> Option<u32>
     if number == 0 { None } else { Some(number) }
 }
 
-fn bgp_of(alloc: Global, i: &Inputs) -> Result<Bgp, AllocError>
+fn bgp_of(alloc: Global, i: &InputsRef) -> Result<Bgp, AllocError>
     ensures { IfOk result (λ b. b ≡ bgp_of i.now) }
 {
     Ok(Bgp {
@@ -506,7 +510,7 @@ fn bgp_of(alloc: Global, i: &Inputs) -> Result<Bgp, AllocError>
 // The part.
 
 /// Adds the session's table.
-fn add_table(alloc: Global, items: &mut Vec<Item>, i: &Inputs) -> Result<(), AllocError>
+fn add_table(alloc: Global, items: &mut Vec<Item>, i: &InputsRef) -> Result<(), AllocError>
     ensures { OnOk result
         (items_view items.new.items ≡ items_view items.old.items
         ++ table_item (table_kind i.now.family) (table_name i.now.interface) ∷ []) }
@@ -520,7 +524,7 @@ fn add_table(alloc: Global, items: &mut Vec<Item>, i: &Inputs) -> Result<(), All
 fn add_in(
     alloc: Global,
     items: &mut Vec<Item>,
-    i: &Inputs,
+    i: &InputsRef,
     body: Vec<Stmt>,
 ) -> Result<(), AllocError>
     ensures { (irr : List Pattern) (blackholes : List Pattern)
@@ -534,7 +538,7 @@ fn add_in(
 }
 
 /// Adds the filter of the way up to the table that all share.
-fn add_up(alloc: Global, items: &mut Vec<Item>, i: &Inputs) -> Result<(), AllocError>
+fn add_up(alloc: Global, items: &mut Vec<Item>, i: &InputsRef) -> Result<(), AllocError>
     ensures { OnOk result (items_view items.new.items ≡ items_view items.old.items ++ up_item i.now ∷ []) }
 {
     let body = up_body(alloc, i)?;
@@ -544,19 +548,18 @@ fn add_up(alloc: Global, items: &mut Vec<Item>, i: &Inputs) -> Result<(), AllocE
 }
 
 /// Adds the function of the member's receive rules.
-fn add_receive(alloc: Global, items: &mut Vec<Item>, i: &Inputs) -> Result<(), AllocError>
+fn add_receive(alloc: Global, items: &mut Vec<Item>, i: &InputsRef) -> Result<(), AllocError>
     ensures { OnOk result
         (items_view items.new.items ≡ items_view items.old.items ++ receive_item i.now ∷ []) }
 {
-    let rules = i.rules.as_slice();
-    let body = receive_body(alloc, i.family, rules)?;
+    let body = receive_body(alloc, i.family, i.rules)?;
     let name = numbered(alloc, b"rx_", i.interface)?;
     add_function(alloc, items, name, body)?;
     Ok(())
 }
 
 /// Adds the filter of the way down.
-fn add_down(alloc: Global, items: &mut Vec<Item>, i: &Inputs) -> Result<(), AllocError>
+fn add_down(alloc: Global, items: &mut Vec<Item>, i: &InputsRef) -> Result<(), AllocError>
     ensures { OnOk result (items_view items.new.items ≡ items_view items.old.items ++ down_item i.now ∷ []) }
 {
     let body = down_body(alloc, i)?;
@@ -569,7 +572,7 @@ fn add_down(alloc: Global, items: &mut Vec<Item>, i: &Inputs) -> Result<(), Allo
 fn add_filters(
     alloc: Global,
     items: &mut Vec<Item>,
-    i: &Inputs,
+    i: &InputsRef,
     body: Vec<Stmt>,
 ) -> Result<(), AllocError>
     ensures { (irr : List Pattern) (blackholes : List Pattern)
@@ -583,7 +586,7 @@ fn add_filters(
     add_down(alloc, items, i)
 }
 
-fn add_protocols(alloc: Global, items: &mut Vec<Item>, i: &Inputs) -> Result<(), AllocError>
+fn add_protocols(alloc: Global, items: &mut Vec<Item>, i: &InputsRef) -> Result<(), AllocError>
     ensures { OnOk result (items_view items.new.items ≡ items_view items.old.items ++ protocols i.now) }
 {
     let pipe = pipe_of(alloc, i)?;
@@ -596,7 +599,7 @@ fn add_protocols(alloc: Global, items: &mut Vec<Item>, i: &Inputs) -> Result<(),
 pub fn add_fragment(
     alloc: Global,
     items: &mut Vec<Item>,
-    i: &Inputs,
+    i: &InputsRef,
     irr: Items<Pattern>,
     blackholes: Items<Pattern>,
 ) -> Result<(), AllocError>

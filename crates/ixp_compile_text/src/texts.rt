@@ -23,12 +23,12 @@ ghost use Rattle.ixp_compile_text.specs.Sessions.{part_text, sessions_text};
 ghost use Rattle.ixp_policy.specs.Views.{session_of};
 ghost use Rattle.ixp_registry.specs.Sessions.{session_at};
 
-use crate::addresses::MemberAddresses;
+use crate::addresses::{MemberAddresses, addresses_of_member};
 use crate::fault::GenFault;
-use crate::values::{header_inputs_of, inputs_of, inputs_with};
+use crate::values::{header_inputs_of, inputs_in_rows};
 use ixp_compile::{HeaderInputs, Inputs};
 use ixp_compile_head::add_header;
-use ixp_compile_sessions::add_fragment;
+use ixp_compile_sessions::{InputsRef, add_fragment};
 use ixp_lang::{Config, Item};
 use ixp_num::{Items, Name, Pattern, Prefix};
 use ixp_pfxset::{Mode, blocks_trie};
@@ -57,27 +57,25 @@ fn merged(
     Ok(Items::from_vec(patterns))
 }
 
-/// The nets that these prefixes of the session's member allow.
-fn allowed_set(alloc: Global, i: &Inputs, prefixes: &[Prefix]) -> Result<Items<Pattern>, AllocError>
+/// The nets that the prefixes of the session's member allow.
+fn allowed_set(alloc: Global, i: &InputsRef) -> Result<Items<Pattern>, AllocError>
     requires { i.now.high < 2 ^ 8 }
-    ensures { IfOk result (λ it. it ≡ allowed_set (record i.now { prefixes = prefixes.now })) }
+    ensures { IfOk result (λ it. it ≡ allowed_set i.now) }
 {
     let mode = mode_of(i.address.more);
-    merged(alloc, prefixes, mode, i.high as u8)
+    merged(alloc, i.prefixes, mode, i.high as u8)
 }
 
-/// The nets that these prefixes cover. Where the router has no next hop of routes to be dropped, no part asks
-/// for them, and there are none.
-fn asked_set(alloc: Global, i: &Inputs, prefixes: &[Prefix]) -> Result<Items<Pattern>, AllocError>
+/// The nets that they cover. Where the router has no next hop of routes to be dropped, no part asks for them,
+/// and there are none.
+fn asked_set(alloc: Global, i: &InputsRef) -> Result<Items<Pattern>, AllocError>
     ensures { IfOk result
-        (λ it. (irr : List Pattern)
-        → fragment i.now irr it
-        ≡ fragment i.now irr (covered_set (record i.now { prefixes = prefixes.now }))) }
+        (λ it. (irr : List Pattern) → fragment i.now irr it ≡ fragment i.now irr (covered_set i.now)) }
 {
     if i.blackhole.is_none() {
         return Ok(Items::new(alloc));
     }
-    merged(alloc, prefixes, Mode::More, i.family.bits())
+    merged(alloc, i.prefixes, Mode::More, i.family.bits())
 }
 
 // Parts of a text.
@@ -99,30 +97,16 @@ fn put_header(alloc: Global, out: &mut Vec<u8>, h: &HeaderInputs) -> Result<(), 
     put_items(alloc, out, items)
 }
 
-/// Adds the text of a session's part, by these prefixes of its member.
-pub(crate) fn put_part(
-    alloc: Global,
-    out: &mut Vec<u8>,
-    i: &Inputs,
-    prefixes: &[Prefix],
-) -> Result<(), AllocError>
-    requires { i.now.high < 2 ^ 8 }
-    ensures { OnOk result
-        (out.new.items ≡ out.old.items
-        ++ config_text (session_part (record i.now { prefixes = prefixes.now }))) }
-{
-    let irr = allowed_set(alloc, i, prefixes)?;
-    let blackholes = asked_set(alloc, i, prefixes)?;
-    let mut items = Vec::new(alloc);
-    add_fragment(alloc, &mut items, i, irr, blackholes)?;
-    put_items(alloc, out, items)
-}
-
-fn put_fragment(alloc: Global, out: &mut Vec<u8>, i: &Inputs) -> Result<(), AllocError>
+/// Adds the text of a session's part.
+fn put_fragment(alloc: Global, out: &mut Vec<u8>, i: &InputsRef) -> Result<(), AllocError>
     requires { i.now.high < 2 ^ 8 }
     ensures { OnOk result (out.new.items ≡ out.old.items ++ config_text (session_part i.now)) }
 {
-    put_part(alloc, out, i, i.prefixes.as_slice())
+    let irr = allowed_set(alloc, i)?;
+    let blackholes = asked_set(alloc, i)?;
+    let mut items = Vec::new(alloc);
+    add_fragment(alloc, &mut items, i, irr, blackholes)?;
+    put_items(alloc, out, items)
 }
 
 fn put_footer(alloc: Global, out: &mut Vec<u8>) -> Result<(), AllocError>
@@ -149,7 +133,7 @@ pub fn fragment(alloc: Global, i: &Inputs) -> Result<Vec<u8>, AllocError>
     ensures { IfOk result (λ v. v.items ≡ config_text (session_part i.now)) }
 {
     let mut out = Vec::new(alloc);
-    put_fragment(alloc, &mut out, i)?;
+    put_fragment(alloc, &mut out, &InputsRef::of(i))?;
     Ok(out)
 }
 
@@ -184,8 +168,8 @@ pub(crate) fn put_session(
         return Ok(false);
     };
     let own = addresses.of(alloc, session.interface.member)?;
-    let i = inputs_with(alloc, registry, router, &session, own, Items::new(alloc))?;
-    put_part(alloc, out, &i, session.prefixes)?;
+    let i = inputs_in_rows(registry, router, &session, own.as_slice());
+    put_fragment(alloc, out, &i)?;
     Ok(true)
 }
 
@@ -228,14 +212,18 @@ fn own(
     alloc: Global,
     registry: &Registry,
     router: &Router,
-    session: &SessionRows<'_>,
+    session: SessionRows<'_>,
 ) -> Result<Vec<u8>, AllocError>
     requires { router.now.high < 2 ^ 8 }
     ensures { IfOk result
-        (λ v. v.items ≡ config_text (own_part registry.now router.now (session_of session.now))) }
+        (λ v. v.items ≡ config_text (own_part registry.now router.now (session_of session.entry))) }
 {
     let h = header_inputs_of(alloc, registry, router)?;
-    let i = inputs_of(alloc, registry, router, session)?;
+    let interfaces = registry.interfaces.as_slice();
+    let member = session.interface.member;
+    let vlan = session.interface.vlan;
+    let addresses = addresses_of_member(alloc, interfaces, router.family, vlan, member)?;
+    let i = inputs_in_rows(registry, router, &session, addresses.as_slice());
     let mut out = Vec::new(alloc);
     put_header(alloc, &mut out, &h)?;
     put_fragment(alloc, &mut out, &i)?;
@@ -289,5 +277,5 @@ pub fn part(
     let Some(session) = session(registry, router, interface) else {
         return Err(GenFault::NoSession);
     };
-    Ok(own(alloc, registry, router, &session)?)
+    Ok(own(alloc, registry, router, session)?)
 }

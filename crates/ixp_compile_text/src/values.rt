@@ -9,7 +9,8 @@ ghost use Rattle.ixp_policy.specs.Views.{session_of};
 
 use crate::addresses::{MemberAddresses, addresses_of_member};
 use ixp_compile::{HeaderInputs, Inputs};
-use ixp_num::{Addr, Asn, Items, Name, Prefix};
+use ixp_compile_sessions::InputsRef;
+use ixp_num::{Addr, Asn, Items, Name};
 use ixp_num_tables::Copied;
 use ixp_policy::{SessionRows, session};
 use ixp_registry::{Registry, Router};
@@ -21,22 +22,18 @@ fn is_listed(asns: &[Asn], number: u32) -> bool
     asns.iter().any(|a| a.0 == number)
 }
 
-/// What the session's part depends on, with these prefixes in the place of the member's. The addresses are
-/// the member's.
-pub(crate) fn inputs_with(
-    alloc: Global,
+/// What the session's part depends on, where it stands. The addresses are the member's.
+pub(crate) fn inputs_in_rows<'a>(
     registry: &Registry,
     router: &Router,
-    session: &SessionRows<'_>,
-    addresses: Items<Addr>,
-    prefixes: Items<Prefix>,
-) -> Result<Inputs, AllocError>
-    requires { addresses ≡ member_addresses registry.now router.now (session_of session.now) }
-    ensures { IfOk result
-        (λ i. i ≡ record (inputs registry.now router.now (session_of session.now)) { prefixes = prefixes }) }
+    session: &SessionRows<'a>,
+    addresses: &'a [Addr],
+) -> InputsRef<'a>
+    requires { addresses.now ≡ member_addresses registry.now router.now (session_of session.now) }
+    ensures { result ≡ inputs registry.now router.now (session_of session.now) }
 {
     let transit = registry.public.transit.as_slice();
-    Ok(Inputs {
+    InputsRef {
         rs: router.asn,
         family: router.family,
         high: router.high,
@@ -44,14 +41,14 @@ pub(crate) fn inputs_with(
         blackhole: router.blackhole,
         local: router.addr,
         interface: session.interface.number,
-        address: session.address.copied(alloc)?,
+        address: session.address,
         asn: session.member.asn,
         addresses,
         transit_free: is_listed(transit, session.member.asn.0),
-        prefixes,
-        origins: Items::from_slice(alloc, session.origins)?,
-        rules: Items::from_slice(alloc, session.rules)?,
-    })
+        prefixes: session.prefixes,
+        origins: session.origins,
+        rules: session.rules,
+    }
 }
 
 /// A member's addresses of the router's family in its VLAN, in order: looked up among all members' where
@@ -77,23 +74,6 @@ fn addresses_for(
     }
 }
 
-/// What the session's part depends on.
-pub(crate) fn inputs_of(
-    alloc: Global,
-    registry: &Registry,
-    router: &Router,
-    session: &SessionRows<'_>,
-) -> Result<Inputs, AllocError>
-    ensures { IfOk result (λ i. i ≡ inputs registry.now router.now (session_of session.now)) }
-{
-    let interfaces = registry.interfaces.as_slice();
-    let member = session.interface.member;
-    let vlan = session.interface.vlan;
-    let addresses = addresses_of_member(alloc, interfaces, router.family, vlan, member)?;
-    let prefixes = Items::from_slice(alloc, session.prefixes)?;
-    inputs_with(alloc, registry, router, session, addresses, prefixes)
-}
-
 /// What the part of the router's session at the interface depends on; None where there is no such session.
 /// For many sessions the members' addresses in the router's VLAN are gathered before.
 pub(crate) fn session_inputs(
@@ -111,9 +91,8 @@ pub(crate) fn session_inputs(
         return Ok(None);
     };
     let own = addresses_for(alloc, registry, router, gathered, session.interface.member)?;
-    let prefixes = Items::from_slice(alloc, session.prefixes)?;
-    let i = inputs_with(alloc, registry, router, &session, own, prefixes)?;
-    Ok(Some(i))
+    let i = inputs_in_rows(registry, router, &session, own.as_slice());
+    Ok(Some(i.owned(alloc)?))
 }
 
 /// What the head of the router's text depends on.

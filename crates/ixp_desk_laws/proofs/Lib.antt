@@ -8,3 +8,4 @@ pub mod OwnRows
 pub mod OwnTexts
 pub mod Places
 pub mod Sending
+pub mod OwnLooks

@@ -1,6 +1,7 @@
 -- Calls of a desk: where a member's call stands in the history that its seat has seen, and what counts as its
 -- answer.
 use Rattle.std.specs.Prelude.{◌≡◌, ℕ, List, ◌∷◌, ◌++◌, Some, Result, Ok, Err}
+use mathlib.Core.List.{IsPrefix}
 use Rattle.ixp_registry.specs.declared.members.Owner.TheVariants.{Member}
 use Rattle.ixp_members.specs.Owners.{owner_of}
 use Rattle.ixp_machine.specs.declared.decision.Reply.{Reply}
@@ -34,6 +35,12 @@ HasPlace s t = (f : First) × ((before : List Turn) × IsAfter f before s t)
 pub record IsOf (m : ℕ) (secret : List ℕ) (f : First) (before : List Turn) (s t : Sight) : Type 0 where
   pub place : IsAfter f before s t
   pub own : owner_of (registry_of f before) secret ≡ Some (Member m)
+
+-- The secret is one of the member's as long as the call lasts: in each history between that which the seat had seen
+-- and that which it has seen at the return.
+abbrev pub StaysOf : ℕ → List ℕ → Sight → Sight → Type 0
+StaysOf m secret s t = (f : First) (ts : List Turn) → IsPrefix s.2 (entries f ts) → IsPrefix (entries f ts) t.2
+    → owner_of (registry_of f ts) secret ≡ Some (Member m)
 
 -- An answer: the edit was made or is refused. A fault of the store, running out of memory, and a seat whose turns
 -- can't be counted are none.

@@ -6,18 +6,21 @@ ghost use Rattle.ixp_machine.specs.declared.question.Query.{Query};
 ghost use Rattle.ixp_api_replies.specs.declared.outcome.Outcome.{Outcome};
 ghost use Rattle.ixp_api_replies.specs.declared.outcome.Outcome.TheVariants.{Done};
 ghost use Rattle.ixp_api.specs.declared.call.ExplainCall.{ExplainCall};
+ghost use Rattle.ixp_board.specs.Histories.{IsLegal};
 ghost use Rattle.ixp_desk_history.specs.declared.turn.First.{First};
 ghost use Rattle.ixp_desk_history.specs.declared.turn.Turn.{Turn};
+ghost use Rattle.ixp_desk_history.specs.Legal.{Legal};
 ghost use Rattle.ixp_desk_history.specs.Turns.{state_of};
 ghost use Rattle.ixp_desk_lock.specs.Sights.{Sight};
-ghost use Rattle.ixp_desk_link.specs.Turns.{AskTurn, EditTurn, OwnTurn};
+ghost use Rattle.ixp_desk_link.specs.Turns.{AskTurn, EditTurn, ExplainTurn};
 ghost use Rattle.ixp_desk_laws.specs.Calls.{SeesAlike};
-ghost use Rattle.ixp_desk_laws.specs.Desks.{IsAfter, IsOf};
+ghost use Rattle.ixp_desk_laws.specs.Desks.{IsAfter, IsOf, StaysOf};
 ghost use Rattle.ixp_desk_laws.specs.Edits.{IsRepeat};
 ghost use Rattle.ixp_desk_laws.specs.Links.{IsReply};
 
 /// What a link answers to a member's call depends on what the member sees at the call's place alone: edits,
-/// questions, and explanations of a route of its own by its session's own text.
+/// questions, and explanations of a route. An explanation looks for whose the secret is before its turn, so it is
+/// said of those whose secret is the member's as long as the call lasts.
 pub fn links_answer_members_of_their_own()
     ensures edit { (m : ℕ) (a b : Entry) (x y : Outcome) (s t u w : Sight) (f g : First)
         (before others : List Turn) → EditTurn a x s t → EditTurn b y u w → IsReply x → IsReply y
@@ -29,7 +32,8 @@ pub fn links_answer_members_of_their_own()
         → IsOf m a f before s t → IsOf m b g others u w
         → SeesAlike m (state_of f before) (state_of g others) → x ≡ y }
     ensures explain { (m : ℕ) (a b : ExplainCall) (x y : Outcome) (s t u w : Sight) (f g : First)
-        (before others : List Turn) → OwnTurn a x s t → OwnTurn b y u w → IsReply x → IsReply y
+        (before others : List Turn) → ExplainTurn a x s t → ExplainTurn b y u w → IsReply x → IsReply y
+        → IsLegal Legal s.2 → IsLegal Legal u.2 → StaysOf m a.secret s t → StaysOf m b.secret u w
         → IsOf m a.secret f before s t → IsOf m b.secret g others u w
         → SeesAlike m (state_of f before) (state_of g others)
         → a.router ≡ b.router → a.interface ≡ b.interface → a.asked ≡ b.asked → x ≡ y }

@@ -2,7 +2,7 @@
 use Rattle.std.proofs.Common.{◌≡◌, ℕ, List, [], ◌∷◌, ◌++◌, map, refl, ap, sym, ◌∙◌, subst}
 use Rattle.ixp_board.specs.Histories.{entries, turns_of, IsLegal}
 use Rattle.ixp_board.specs.declared.entry.Entry.TheVariants as entry
-use Rattle.ixp_board.proofs.Beginnings.{begins_through}
+use Rattle.ixp_board.proofs.Beginnings.{begins_self, begins_through}
 use Rattle.ixp_board.proofs.Entries.{same_first, same_turns, turns_of-entries, turns_of-map}
 use Rattle.ixp_registry.specs.Valid.{Valid}
 use Rattle.ixp_desk_history.specs.declared.turn.Answered.{Answered}
@@ -88,3 +88,7 @@ own_valid log h n text legal x =
 -- what was seen more, and then more
 pub grows_both : (s u t : Sight) → Grows s u → Grows u t → Grows s t
 grows_both s u t a b = record { number = b.number ∙ a.number; begins = begins_through s.2 u.2 t.2 a.begins b.begins; legal = b.legal }
+
+-- nothing more was seen
+pub grows_self : (s u : Sight) → Grows s u → Grows u u
+grows_self s u a = record { number = refl; begins = begins_self u.2; legal = a.legal }

@@ -108,7 +108,7 @@ no_head : (d : Sight × Option ℕ) (call : Call) (o : Outcome) (e : Sight × Op
 no_head d (Edit entry) o e t = ap is_head t.1.1 ∙ of_edit t.1.0
 no_head d (Ask secret q) o e t = ap is_head t.1.2.1 ∙ of_answer t.1.2.0
 no_head d (Published secret handle seen) o e t = ap is_head t.1.1 ∙ of_text t.1.0
-no_head d (Explain call) o e t = of_explains call t.1.1 o d.0 t.1.0 e.0 t.1.3
+no_head d (Explain call) o e t = of_explains call t.1.3.0 o d.0 t.1.0 e.0 t.1.3.2
 
 pub never_head : (d : Sight × Option ℕ) (call : Call) (o : Outcome) (e : Sight × Option ℕ) → LinkTurn d call o e → (status : ℕ) → o ≢ Head status
 never_head d call o e t status is = true≢false (sym (ap is_head is) ∙ no_head d call o e t)

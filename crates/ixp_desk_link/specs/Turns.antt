@@ -165,9 +165,10 @@ abbrev pub Explains : ExplainCall → Result Text PubFault → Outcome → Sight
 Explains call (Ok text) o s u t = (t ≡ u) × ((p : IsPublished s.2 u.2 call.router text) × OrNoMemory (staff_says call p) o)
 Explains call (Err x) o s u t = ExplainsElse (is_denied x) call x o u t
 
+-- `u` is what the seat has seen once a configuration was asked for
 abbrev pub ExplainTurn : ExplainCall → Outcome → Sight → Sight → Type 0
 ExplainTurn call o s t =
-    (u : Sight) × (r : Result Text PubFault) × Answers call.secret call.router call.seen r s u × Explains call r o s u t
+    (u : Sight) × Grows s u × Grows u t × ((r : Result Text PubFault) × Answers call.secret call.router call.seen r s u × Explains call r o s u t)
 
 -- All calls.
 

@@ -2,6 +2,7 @@
 ghost use Rattle.std.specs.Prelude.{◌≡◌, ◌≤◌};
 ghost use Rattle.ixp_io.specs.Faults.{Rose};
 ghost use Rattle.ixp_io.specs.Told.{WhereTold};
+ghost use Rattle.ixp_http_link.specs.Left.{Leaves};
 ghost use Rattle.ixp_http_link.specs.Links.{Serves};
 ghost use Rattle.ixp_http_link.specs.Whole.{IsComplete, IsExact};
 ghost use Rattle.ixp_http_link.specs.declared.ends.LinkEnd.TheVariants as end;
@@ -17,40 +18,40 @@ use std::marker::PhantomData;
 use std::sync::Wait;
 
 /// Serves one link to its end by a seat of the desk: reads its requests, has the desk answer those that are
-/// calls, and writes the replies in their order. What it reads and what it writes are two objects.
-pub fn serve_link<R: Wait, N: BoardName, D: Desks<N>, S: Source, K: Sink, C: Clock>(
+/// calls, and writes the replies in their order.
+pub fn serve_link<R: Wait, N: BoardName, D: Desks<N>, L: Source + Sink, C: Clock>(
     rt: &R,
     alloc: Global,
     desk: &mut D,
     seat: &mut DeskSeat<N>,
-    input: &mut S,
-    output: &mut K,
+    link: &mut L,
     clock: &mut C,
 ) -> Served
     ensures serves { Serves LinkTurn (seat.old, C.given clock.old) (seat.new, C.given clock.new)
-        (S.left input.old) (K.written output.old) (K.written output.new)
-        (Rose (S.read_faults input.old) (S.read_faults input.new))
-        (Rose (K.write_faults output.old) (K.write_faults output.new)) result }
-    ensures exact { WhereTold (S.left input.old)
+        (L.left link.old) (L.written link.old) (L.written link.new)
+        (Rose (L.read_faults link.old) (L.read_faults link.new))
+        (Rose (L.write_faults link.old) (L.write_faults link.new)) result }
+    ensures leaves { Leaves (L.left link.old) (L.left link.new) result }
+    ensures exact { WhereTold (L.left link.old)
         (λ bytes. IsExact LinkTurn (seat.old, C.given clock.old) (seat.new, C.given clock.new) bytes
-        (K.written output.old) (K.written output.new) result) }
-    ensures complete { WhereTold (S.left input.old)
+        (L.written link.old) (L.written link.new) result) }
+    ensures complete { WhereTold (L.left link.old)
         (λ bytes. IsComplete LinkTurn (seat.old, C.given clock.old) (seat.new, C.given clock.new) bytes
-        (K.written output.old) (K.written output.new)
-        (Rose (S.read_faults input.old) (S.read_faults input.new))
-        (Rose (K.write_faults output.old) (K.write_faults output.new)) result) }
+        (L.written link.old) (L.written link.new)
+        (Rose (L.read_faults link.old) (L.read_faults link.new))
+        (Rose (L.write_faults link.old) (L.write_faults link.new)) result) }
     ensures sees { SeesMore seat.old seat.new }
     ensures read_fault { result.end ≡ end.ReadFault
-        → Rose (S.read_faults input.old) (S.read_faults input.new) }
+        → Rose (L.read_faults link.old) (L.read_faults link.new) }
     ensures write_fault { result.end ≡ end.WriteFault
-        → Rose (K.write_faults output.old) (K.write_faults output.new) }
-    ensures reads { S.read_faults input.old ≤ S.read_faults input.new }
-    ensures writes { K.write_faults output.old ≤ K.write_faults output.new }
+        → Rose (L.write_faults link.old) (L.write_faults link.new) }
+    ensures reads { L.read_faults link.old ≤ L.read_faults link.new }
+    ensures writes { L.write_faults link.old ≤ L.write_faults link.new }
 {
     let mut caller = Caller {
         rt,
         desk,
         of: PhantomData,
     };
-    serve(alloc, &mut caller, seat, clock, input, output)
+    serve(alloc, &mut caller, seat, clock, link)
 }

@@ -3,19 +3,16 @@ use Rattle.std.specs.Prelude.{◌≡◌, ◌⊎◌, ℕ, List, [], Option, Some,
 use mathlib.Core.List.{IsPrefix}
 use Rattle.ixp_io.specs.Faults.{Rose}
 use Rattle.ixp_io.specs.Tables.{Table}
-use Rattle.ixp_io.specs.Told.{WhereTold}
 use Rattle.ixp_board.specs.Histories.{entries}
 use Rattle.ixp_http_link.specs.declared.ends.LinkEnd.TheVariants as link
 use Rattle.ixp_http_link.specs.declared.ends.Served.{Served}
-use Rattle.ixp_http_link.specs.Links.{Serves}
-use Rattle.ixp_http_link.specs.Whole.{IsComplete, IsExact}
 use Rattle.ixp_store_words.specs.declared.fault.LoadFault.TheVariants as load
 use Rattle.ixp_desk_history.specs.declared.turn.First.{First}
 use Rattle.ixp_desk_history.specs.declared.turn.Turn.{Turn}
 use Rattle.ixp_desk_lock.specs.Facts.{KeepsStore, Log}
 use Rattle.ixp_desk_lock.specs.Sights.{Sight}
 use Rattle.ixp_desk.specs.Openings.{Loads}
-use Rattle.ixp_desk_link.specs.Turns.{LinkTurn}
+use Rattle.ixp_desk_link.specs.Serving.{IsServed}
 use Rattle.ixp_desk_serve.specs.declared.session.SessionEnd.{SessionEnd}
 use Rattle.ixp_desk_serve.specs.declared.session.SessionEnd.TheVariants.{Unopened, NoMemory, Served as Answered}
 
@@ -23,17 +20,13 @@ use Rattle.ixp_desk_serve.specs.declared.session.SessionEnd.TheVariants.{Unopene
 abbrev pub without_memory : Served → Served
 without_memory served = record { end = link.NoMemory; requests = served.requests }
 
--- A link was served by a seat that had seen this before. Where the bytes are known, they alone say how the link ends
--- and which requests are answered, unless something fails; and whole requests all get their replies. The store has
--- the rows of the state after a history that begins with all that the seat has seen. Where it can't be shown that the
--- history does, the link ends as out of memory.
-pub record ServesLink (seat : Sight) (given given' : Option ℕ) (left : Option (List ℕ)) (written written' : Option (List ℕ))
-    (unread unwritten : Type 0) (rows : Option Table) (faults : ℕ) (served : Served) : Type 0 where
+-- A link was served by a seat that had seen this before. The store has the rows of the state after a history that
+-- begins with all that the seat has seen. Where it can't be shown that the history does, the link ends as out of memory.
+pub record ServesLink (seat : Sight) (given given' : Option ℕ) (left left' written written' : Option (List ℕ)) (unread unwritten : Type 0)
+    (rows : Option Table) (faults : ℕ) (served : Served) : Type 0 where
   pub sees : Sight
   pub link : Served
-  pub serves : Serves LinkTurn (seat, given) (sees, given') left written written' unread unwritten link
-  pub exact : WhereTold left (λ bytes. IsExact LinkTurn (seat, given) (sees, given') bytes written written' link)
-  pub complete : WhereTold left (λ bytes. IsComplete LinkTurn (seat, given) (sees, given') bytes written written' unread unwritten link)
+  pub is_served : IsServed (seat, given) (sees, given') left left' written written' unread unwritten link
   pub after : Log × Option Turn
   pub store : KeepsStore after rows faults
   pub is : ((served ≡ link) × IsPrefix sees.2 after.0) ⊎ (served ≡ without_memory link)
@@ -45,7 +38,7 @@ abbrev pub ServesAlone : Log → Option ℕ → Option ℕ → Option (List ℕ)
 ServesAlone log given given' left left' written written' reads reads' writes writes' rows faults None =
     KeepsStore (log, None) rows faults × (given' ≡ given) × (left' ≡ left) × (written' ≡ written) × (reads' ≡ reads) × (writes' ≡ writes)
 ServesAlone log given given' left left' written written' reads reads' writes writes' rows faults (Some served) =
-    ServesLink (0, 0, log) given given' left written written' (Rose reads reads') (Rose writes writes') rows faults served
+    ServesLink (0, 0, log) given given' left left' written written' (Rose reads reads') (Rose writes writes') rows faults served
 
 -- What is told of the objects of a session at a moment: the store's rows and its count of faults, the bytes that are
 -- left to read and how many reads failed, the bytes that were written and how many writes failed, and what the clock
@@ -77,5 +70,5 @@ SessionEnds before after NoMemory =
     × KeepsStore (entries first [], None) after.rows after.faults)
 SessionEnds before after (Answered served) =
     (first : First) × Loads before.rows (Ok first.state) × (first.faults ≡ before.faults)
-    × ServesLink (0, 0, entries first []) before.given after.given before.left before.written after.written
+    × ServesLink (0, 0, entries first []) before.given after.given before.left after.left before.written after.written
     (Rose before.reads after.reads) (Rose before.writes after.writes) after.rows after.faults served

@@ -1,5 +1,4 @@
 //! What the threads of a server do.
-use crate::ends::LinkSide;
 use ixp_board::{BoardName, Note, Publish};
 use ixp_desk::{DeskSeat, Shared, worker_turn};
 use ixp_desk_history::DeskStory;
@@ -7,7 +6,7 @@ use ixp_desk_link::serve_link;
 use ixp_io::{Clock, Gate, Keeper, Sink, Source};
 use ixp_io_workers::{Background, Host};
 use std::alloc::Global;
-use std::sync::{Mutex, Wait};
+use std::sync::Wait;
 
 /// A desk whose links are served by threads, while one more makes the texts that edits touched.
 #[derive(Drop)]
@@ -40,21 +39,16 @@ impl<
     N: BoardName,
     W: Publish<Note<DeskStory, N>>,
     G: Gate,
-    L: Source + Sink + Drop,
+    L: Source + Sink,
 > Host<L> for Hosting<'_, P, N, W, G> {
-    fn host<R: Wait, C: Clock>(&self, rt: &R, seat: &mut DeskSeat<N>, link: L, clock: &mut C) {
-        let link = Mutex::new(link);
-        let mut input = LinkSide::new(rt, &link);
-        let mut output = LinkSide::new(rt, &link);
+    ghost use Rattle.ixp_io.specs.Faults.{Rose};
+    ghost use Rattle.ixp_desk_serve.specs.Servers.{IsHosted};
+
+    ghost hosted = { λ s l t m. IsHosted s t (L.left l) (L.left m) (L.written l) (L.written m)
+        (Rose (L.read_faults l) (L.read_faults m)) (Rose (L.write_faults l) (L.write_faults m)) };
+
+    fn host<R: Wait, C: Clock>(&self, rt: &R, seat: &mut DeskSeat<N>, link: &mut L, clock: &mut C) {
         let mut desk = self.shared;
-        let _served = serve_link(
-            rt,
-            self.alloc,
-            &mut desk,
-            seat,
-            &mut input,
-            &mut output,
-            clock,
-        );
+        let _served = serve_link(rt, self.alloc, &mut desk, seat, link, clock);
     }
 }

@@ -17,10 +17,10 @@ impl Lending for Brand {
     ghost lent = { 0 };
 }
 
-/// A reference to a store, that its lender gets back.
+/// A reference that its lender gets back.
 #[derive(Drop)]
-pub(crate) struct Loan<'a, P: Keeper> {
-    pub(crate) keeper: &'a mut P,
+pub(crate) struct Loan<'a, T> {
+    pub(crate) it: &'a mut T,
 }
 
 /// A store that is lent. A desk takes its store by value.

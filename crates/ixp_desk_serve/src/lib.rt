@@ -6,9 +6,9 @@
 //! then.
 #![tactic(auto)]
 
-mod ends;
 mod hosting;
 mod lent;
+mod line;
 mod server;
 mod session;
 

@@ -128,15 +128,15 @@ fn serve_lent<
 ) -> (ServerEnd, &'a mut P)
 where
     D::Link: Drop + Send,
-    requires name { loan.keeper.ghost_name ≡ L.lent }
+    requires name { loan.it.ghost_name ≡ L.lent }
     requires few { workers ≤ 62 }
-    ensures back { result.1.ghost_name ≡ loan.entry.keeper.ghost_name }
-    ensures ends { ServerEnds (P.table loan.entry.keeper.now) (P.table result.1.now)
-        (P.faults loan.entry.keeper.now) (P.faults result.1.now) (D.links door.old) (D.links door.new)
+    ensures back { result.1.ghost_name ≡ loan.entry.it.ghost_name }
+    ensures ends { ServerEnds (P.table loan.entry.it.now) (P.table result.1.now)
+        (P.faults loan.entry.it.now) (P.faults result.1.now) (D.links door.old) (D.links door.new)
         (D.faults door.old) (D.faults door.new) links result.0 }
     ensures counts { D.faults door.old ≤ D.faults door.new }
 {
-    let Loan { keeper } = loan;
+    let Loan { it: keeper } = loan;
     let lent: Lent<'a, P, L> = Lent {
         keeper,
         of: PhantomData,
@@ -185,7 +185,7 @@ where
     ensures counts { D.faults door.old ≤ D.faults door.new }
 {
     let lent = &mut *keeper;
-    let loan = Loan { keeper: lent };
+    let loan = Loan { it: lent };
     let (end, back) = serve_lent::<R, Brand, P, C, D, G>(
         rt, alloc, loan, clock, door, gate, port, workers, links,
     );

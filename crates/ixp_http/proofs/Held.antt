@@ -1,5 +1,5 @@
 -- Where a whole message is held, nothing is to be read.
-use Rattle.std.proofs.Common.{◌≡◌, ◌≤◌, ℕ, ◌+◌, ◌-◌, Bool, true, false, nat_le, List, length, take, drop, refl, sym, ap, ◌∙◌, if◌then◌else◌, arith}
+use Rattle.std.proofs.Common.{◌≡◌, ◌≤◌, ℕ, ◌+◌, Bool, true, false, nat_le, List, length, take, drop, refl, ap, ◌∙◌, if◌then◌else◌, arith}
 use mathlib.Core.Logic.{inl, inr}
 use Rattle.std.proofs.lemmas.Bool.{leb-true}
 use Rattle.std.proofs.lemmas.List.{length-drop}
@@ -11,7 +11,7 @@ use Rattle.ixp_http.specs.declared.request.Head.{Head}
 use Rattle.ixp_http.specs.declared.request.Request.{Request}
 use Rattle.ixp_http.specs.Fields.{need_of}
 use Rattle.ixp_http.specs.Heads.{is_open, start_of}
-use Rattle.ixp_http.specs.Messages.{Reading, message, cut, Begins, First, IsHead, request_of, with_need}
+use Rattle.ixp_http.specs.Messages.{message, cut, Begins, First, IsHead, request_of, with_need}
 use Rattle.ixp_http.proofs.Readings.{head_unique}
 
 by_start : (bytes : List ℕ) (r : Request) (rest : List ℕ) (s : Start) → Begins bytes s (message r rest) → is_open s ≡ false

@@ -1,4 +1,5 @@
 pub mod Starts
+pub mod Quiet
 pub mod Items
 pub mod Together
 pub mod Grammar
@@ -7,3 +8,4 @@ pub mod Found
 pub mod Readings
 pub mod Bodies
 pub mod Held
+pub mod Total

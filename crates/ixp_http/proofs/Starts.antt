@@ -53,6 +53,9 @@ head_len_two b bytes e = by (end_after b bytes) refl (head_len bytes) refl e
     by None is (Some (suc k)) il e = cc
     by None is None il e = cc
 
+pub head_some : (bytes : List ℕ) (n : ℕ) → head_len bytes ≡ Some n → n ≡ 0 → ⊥
+head_some bytes n e is = head_len_some bytes (e ∙ ap Some is)
+
 -- a line end that is all of the bytes stays it, whatever follows
 line_end_same : (xs ys more : List ℕ) → line_end (xs ++ ys) ≡ Some (length xs) → line_end (xs ++ more) ≡ Some (length xs)
 line_end_same [] ys more e = absurd (line_end_some ys e)
@@ -172,7 +175,7 @@ blank_more (b ∷ c ∷ xs) more n e = by (b == 10 || (b == 13 && (c == 10))) e 
     by true e ih = ap suc (ih e)
     by false e ih = refl
 
-blank_fits : (xs : List ℕ) → blank_len xs ≤ length xs
+pub blank_fits : (xs : List ℕ) → blank_len xs ≤ length xs
 blank_fits [] = omega arith
 blank_fits (b ∷ xs) = by (b == 10 || (b == 13 && begins_with 10 xs)) (blank_fits xs)
   where
@@ -261,7 +264,7 @@ stays limit held more e = by (nat_le limit (length held)) refl
 -- ---- heads that stand there
 
 -- a head that stands there is lined, and hasn't too many lines
-headed : (full : Bool) (front : List ℕ) (from n : ℕ) → start_front full front ≡ Headed from n → IsLined front from n false
+pub headed : (full : Bool) (front : List ℕ) (from n : ℕ) → start_front full front ≡ Headed from n → IsLined front from n false
 headed full front from n e = by full (head_len (drop (blank_len front) front)) refl e
   where
     open_ends : (full : Bool) (rest : List ℕ) → start_open full rest ≡ Headed from n → ⊥

@@ -1,12 +1,13 @@
 -- Reads that follow each other, and what they answer.
-use Rattle.std.proofs.Common.{ℕ, Option, None, Some, Result, Ok, Err, List, ◌++◌, refl, sym, ◌∙◌, subst}
-use Rattle.ixp_io.specs.Told.{Told, WhereTold}
+use Rattle.std.proofs.Common.{◌≡◌, ◌≤◌, ◌+◌, ℕ, Option, None, Some, Result, Ok, Err, List, ◌++◌, length, refl, sym, ap, ◌∙◌, subst, append_assoc, arith}
+use Rattle.ixp_io.specs.Told.{Told, WhereTold, Moves}
 use Rattle.ixp_http.specs.declared.next.Next.{Next}
 use Rattle.ixp_http.specs.declared.next.Next.TheVariants.{Request as Found, End}
 use Rattle.ixp_http.specs.declared.next.HttpFault.{HttpFault}
 use Rattle.ixp_http.specs.declared.next.HttpFault.TheVariants.{Bad, Cut, ReadFault, WriteFault, NoMemory}
+use Rattle.ixp_http.specs.Heads.{chunk}
 use Rattle.ixp_http.specs.Messages.{Reading, message, closed, cut, bad}
-use Rattle.ixp_http.specs.Answers.{Together, Tells}
+use Rattle.ixp_http.specs.Answers.{Leaves, LeavesAt, Together, TakesUpTo, Tells, most_held}
 
 -- nothing was read yet
 pub together_none : (a : Option (List ℕ)) (held : List ℕ) → Together a a held held
@@ -71,3 +72,40 @@ where_any (Some rest) P f = f rest
 pub where_by : (b : Option (List ℕ)) (P Q : List ℕ → Type 0) → WhereTold b P → ((rest : List ℕ) → P rest → Q rest) → WhereTold b Q
 where_by None P Q p f = tt
 where_by (Some rest) P Q p f = f rest p
+
+-- nothing was read
+pub taken_none : (most : ℕ) (a b : Option (List ℕ)) (held : List ℕ) → b ≡ a → length held ≤ most → TakesUpTo most a b held
+taken_none most a b held same few =
+    (held, few, subst (λ (now : Option (List ℕ)). Together a now held held) (sym same) (together_none a held))
+
+-- these bytes were read
+pub taken_moved : (most : ℕ) (a b : Option (List ℕ)) (held bytes : List ℕ) → Moves a b bytes → length (held ++ bytes) ≤ most → TakesUpTo most a b held
+taken_moved most a b held bytes moves few = (
+  held ++ bytes,
+  few,
+  told_by a b (λ left rest. left ≡ bytes ++ rest) (λ left rest. held ++ left ≡ (held ++ bytes) ++ rest) moves
+      (λ left rest e. ap (λ (t : List ℕ). held ++ t) e ∙ sym (append_assoc held bytes rest)),
+)
+
+-- what was read before, and what was taken then
+pub taken_then : (most : ℕ) (a b c : Option (List ℕ)) (x y : List ℕ) → Together a b x y → TakesUpTo most b c y → TakesUpTo most a c x
+taken_then most a b c x y p (taken, few, q) = (taken, few, together_then a b c x y taken p q)
+
+pub taken_all : (most : ℕ) (a b : Option (List ℕ)) (x y : List ℕ) → Together a b x y → length y ≤ most → TakesUpTo most a b x
+taken_all most a b x y p few = (y, few, p)
+
+pub taken_wide : (most more : ℕ) (a b : Option (List ℕ)) (x : List ℕ) → most ≤ more → TakesUpTo most a b x → TakesUpTo more a b x
+taken_wide most more a b x le (taken, few, p) = (taken, omega (arith, few, le), p)
+
+-- what a fault leaves, where so much was taken
+pub leaves_err : (a b : Option (List ℕ)) (held holds : List ℕ) (result : Result Next HttpFault) (fault : HttpFault) → result ≡ Err fault
+    → (length held ≤ most_held → TakesUpTo most_held a b held) → Leaves a b held holds result
+leaves_err a b held holds result fault is taken = subst (λ (r : Result Next HttpFault). Leaves a b held holds r) (sym is) taken
+
+-- what is left behind a head, and what was read before
+pub leaves_headed : (at : ℕ) (a b c : Option (List ℕ)) (held mid holds : List ℕ) (result : Result Next HttpFault) → Together a b held mid
+    → (length held ≤ chunk → length mid ≤ at + chunk) → (length held ≤ most_held → length mid ≤ most_held)
+    → LeavesAt at b c mid holds result → Leaves a c held holds result
+leaves_headed at a b c held mid holds (Ok (Found r)) p one few leaves = λ small. leaves (one small)
+leaves_headed at a b c held mid holds (Ok End) p one few leaves = λ small. taken_then most_held a b c held mid p (leaves (few small))
+leaves_headed at a b c held mid holds (Err fault) p one few leaves = λ small. taken_then most_held a b c held mid p (leaves (few small))

@@ -104,3 +104,7 @@ abbrev pub OneReading : Type 0
 OneReading =
     (bytes : List ℕ) (rs qs : List Request) (end last : Reading)
     → Messages bytes rs end → Messages bytes qs last → (rs ≡ qs) × (end ≡ last)
+
+-- No bytes are without a reading. (Which one they have is asked of httparse's grammar, which comes without a test.)
+abbrev pub HasReading : Type 0
+HasReading = (bytes : List ℕ) → ((rs : List Request) (end : Reading) → Messages bytes rs end → ⊥) → ⊥

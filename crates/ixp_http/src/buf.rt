@@ -18,7 +18,7 @@ ghost use Rattle.std.specs.Prelude.{
 };
 ghost use Rattle.ixp_io.specs.Faults.{Rose};
 ghost use Rattle.ixp_io.specs.Told.{IsDone};
-ghost use Rattle.ixp_http.specs.Answers.{Together, SaysNothing};
+ghost use Rattle.ixp_http.specs.Answers.{Grows, Together, SaysNothing, TakesUpTo};
 
 use crate::next::HttpFault;
 use ixp_io::{CHUNK, Source};
@@ -66,6 +66,8 @@ impl Buf {
     /// Reads once, and answers how many bytes came; 0 where the input has ended.
     pub(crate) fn read_more<L: Source>(&mut self, link: &mut L) -> Result<usize, HttpFault>
         ensures together { OnOk result (Together (L.left link.old) (L.left link.new) self.old self.new) }
+        ensures taken { TakesUpTo (length self.old + chunk) (L.left link.old) (L.left link.new) self.old }
+        ensures grows { Grows self.old self.new }
         ensures more { IfOk result (λ n. length self.new ≡ length self.old + n) }
         ensures still { result ≡ Ok 0 → self.new ≡ self.old }
         ensures done { result ≡ Ok 0 → IsDone (L.left link.new) }

@@ -12,6 +12,6 @@ mod request;
 pub use buf::Buf;
 pub use content::Content;
 pub use fields::{BODY_LIMIT, Field, first_value};
-pub use next::{HttpFault, Next, bytes_have_one_reading, next_request};
+pub use next::{HttpFault, Next, bytes_have_a_reading, bytes_have_one_reading, next_request};
 pub use reply::{HttpReply, write_reply};
 pub use request::Request;

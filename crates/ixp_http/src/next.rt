@@ -22,7 +22,7 @@ ghost use Rattle.ixp_http.specs.Heads.{chunk, is_open, start_of, head_limit, IsP
 ghost use Rattle.ixp_http.specs.declared.head.Start.TheVariants.{Headed};
 ghost use Rattle.ixp_http.specs.declared.request.Request.{Request};
 ghost use Rattle.ixp_http.specs.Fields.{body_limit};
-ghost use Rattle.ixp_http.specs.Messages.{Begins, First, OneReading, message};
+ghost use Rattle.ixp_http.specs.Messages.{Begins, First, HasReading, OneReading, message};
 ghost use Rattle.ixp_http.specs.Answers as spec;
 
 use crate::buf::Buf;
@@ -71,6 +71,8 @@ impl From<AllocError> for HttpFault {
 fn read_line<L: Source>(link: &mut L, buf: &mut Buf) -> Result<bool, HttpFault>
     requires { length buf.old < head_limit }
     ensures together { OnOk result (spec.Together (L.left link.old) (L.left link.new) buf.old buf.new) }
+    ensures taken { spec.TakesUpTo (head_limit + chunk) (L.left link.old) (L.left link.new) buf.old }
+    ensures quiet { OnOk result (spec.IsQuiet buf.old buf.new) }
     ensures grows { IfOk result (λ more. more ≡ true → length buf.old < length buf.new) }
     ensures done { IfOk result (λ more. more ≡ false → IsDone (L.left link.new)) }
     ensures bounded { length buf.new < head_limit + chunk }
@@ -98,7 +100,10 @@ fn read_line<L: Source>(link: &mut L, buf: &mut Buf) -> Result<bool, HttpFault>
 // Reads until it is known what stands first. The bytes are searched again only where a line may have ended.
 fn fill_head<L: Source>(link: &mut L, buf: &mut Buf) -> Result<Start, HttpFault>
     ensures together { OnOk result (spec.Together (L.left link.old) (L.left link.new) buf.old buf.new) }
+    ensures taken { length buf.old ≤ spec.most_held
+        → spec.TakesUpTo spec.most_held (L.left link.old) (L.left link.new) buf.old }
     ensures start { IfOk result (λ start. start ≡ start_of buf.new) }
+    ensures rest { OnOk result (length buf.old ≤ chunk → spec.HoldsOneRead (start_of buf.new) buf.new) }
     ensures settled { IfOk result
         (λ start. WhereTold (L.left link.new) (λ rest. start_of (buf.new ++ rest) ≡ start)) }
     ensures still { is_open (start_of buf.old) ≡ false → L.left link.new ≡ L.left link.old }
@@ -126,7 +131,10 @@ fn fill_head<L: Source>(link: &mut L, buf: &mut Buf) -> Result<Start, HttpFault>
 // Reads until the buffer has so many bytes, and answers whether they came.
 fn fill_body<L: Source>(link: &mut L, buf: &mut Buf, size: usize) -> Result<bool, HttpFault>
     ensures together { OnOk result (spec.Together (L.left link.old) (L.left link.new) buf.old buf.new) }
+    ensures taken { size + chunk ≤ spec.most_held → length buf.old ≤ spec.most_held
+        → spec.TakesUpTo spec.most_held (L.left link.old) (L.left link.new) buf.old }
     ensures grows { OnOk result (length buf.old ≤ length buf.new) }
+    ensures rest { OnOk result (length buf.old ≤ size + chunk → length buf.new ≤ size + chunk) }
     ensures came { IfOk result (λ came. came ≡ true → size ≤ length buf.new) }
     ensures ended { IfOk result (λ came. came ≡ false → (length buf.new < size) × IsDone (L.left link.new)) }
     ensures still { size ≤ length buf.old → L.left link.new ≡ L.left link.old }
@@ -163,6 +171,7 @@ fn with_body<L: Source>(
     requires size { size ≤ body_limit }
     ensures answers { spec.Tells (λ bytes x. spec.IsBodied head at size bytes x) (L.left link.old)
         (L.left link.new) buf.old buf.new result }
+    ensures leaves { spec.LeavesAt at (L.left link.old) (L.left link.new) buf.old buf.new result }
     ensures still { at + size ≤ length buf.old → L.left link.new ≡ L.left link.old }
     ensures bounded { length buf.old ≤ spec.most_held → length buf.new ≤ spec.most_held }
     ensures never { result ≢ Err HttpFault.WriteFault }
@@ -192,6 +201,7 @@ fn with_head<L: Source>(
     requires placed { IsPlaced buf.old from len }
     ensures answers { spec.Tells (λ bytes x. spec.IsHeaded from len bytes x) (L.left link.old)
         (L.left link.new) buf.old buf.new result }
+    ensures leaves { spec.LeavesAt (from + len) (L.left link.old) (L.left link.new) buf.old buf.new result }
     ensures still { (r : Request) (rest : List ℕ) → Begins buf.old (Headed from len) (message r rest)
         → L.left link.new ≡ L.left link.old }
     ensures bounded { length buf.old ≤ spec.most_held → length buf.new ≤ spec.most_held }
@@ -223,6 +233,7 @@ pub fn next_request<L: Source>(
     buf: &mut Buf,
 ) -> Result<Next, HttpFault>
     ensures answers { spec.AnswersOf (L.left link.old) (L.left link.new) buf.old buf.new result }
+    ensures leaves { spec.Leaves (L.left link.old) (L.left link.new) buf.old buf.new result }
 
     // Where a whole message is held nothing is read, and never more is held than a message and what one read
     // gives.
@@ -249,4 +260,9 @@ pub fn next_request<L: Source>(
 /// Bytes hold one list of requests, and end in one way.
 pub fn bytes_have_one_reading()
     ensures { OneReading }
+{}
+
+/// No bytes are without a list of requests and a way to end.
+pub fn bytes_have_a_reading()
+    ensures { HasReading }
 {}

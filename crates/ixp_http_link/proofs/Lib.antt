@@ -5,3 +5,4 @@ pub mod Wholes
 pub mod Completes
 pub mod Keeps
 pub mod Mapped
+pub mod Leftovers

@@ -2,3 +2,4 @@ pub mod Turns
 pub mod Links
 pub mod Steps
 pub mod Whole
+pub mod Left

@@ -1,5 +1,5 @@
 //! The answer to a request.
-ghost use Rattle.std.specs.Prelude.{◌≡◌, ◌≤◌, ◌<◌, List, ℕ};
+ghost use Rattle.std.specs.Prelude.{◌≡◌, ◌⊎◌, ◌≤◌, ◌<◌, ◌+◌, List, ℕ, IfSome};
 ghost use Rattle.ixp_io.specs.Faults.{Rose};
 ghost use Rattle.ixp_io.specs.Told.{Takes};
 ghost use Rattle.ixp_http_link.specs.Links as links;
@@ -64,6 +64,10 @@ pub(crate) fn settle<P, C, D: Desk<P, C>, K: Sink>(
         (Takes (K.written output.old) (K.written output.new))
         (Rose (K.write_faults output.old) (K.write_faults output.new)) result }
     ensures counts { K.write_faults output.old ≤ K.write_faults output.new }
+    ensures left { K.left output.new ≡ K.left output.old }
+    ensures read_faults { K.read_faults output.new ≡ K.read_faults output.old }
+    ensures requests { IfSome result
+        (λ s. (s.requests ≡ answered) ⊎ (s.requests ≡ answered + 1)) }
     ensures fits { D.fits desk.new store.new }
 {
     let outcome = outcome_of(alloc, paths, desk, store, clock, request);

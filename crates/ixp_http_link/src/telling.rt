@@ -41,6 +41,8 @@ pub(crate) fn tell_memory<K: Sink>(alloc: Global, output: &mut K)
     ensures tried { links.Tried (Takes (K.written output.old) (K.written output.new))
         (Rose (K.write_faults output.old) (K.write_faults output.new)) (reply_bytes replies.no_memory) }
     ensures counts { K.write_faults output.old ≤ K.write_faults output.new }
+    ensures left { K.left output.new ≡ K.left output.old }
+    ensures read_faults { K.read_faults output.new ≡ K.read_faults output.old }
 {
     if let Ok(reply) = reply_of(alloc, Outcome::NoMemory) {
         let _ = write_reply(output, &reply);
@@ -57,6 +59,8 @@ pub(crate) fn tell<K: Sink>(
     ensures tells { spec.Tells outcome closes (Takes (K.written output.old) (K.written output.new))
         (Rose (K.write_faults output.old) (K.write_faults output.new)) result }
     ensures counts { K.write_faults output.old ≤ K.write_faults output.new }
+    ensures left { K.left output.new ≡ K.left output.old }
+    ensures read_faults { K.read_faults output.new ≡ K.read_faults output.old }
 {
     if wants_memory(&outcome) {
         tell_memory(alloc, output);
@@ -77,6 +81,8 @@ pub(crate) fn refuse<K: Sink>(alloc: Global, output: &mut K, status: u16) -> Lin
     ensures refuses { spec.Refuses status (Takes (K.written output.old) (K.written output.new))
         (Rose (K.write_faults output.old) (K.write_faults output.new)) result }
     ensures counts { K.write_faults output.old ≤ K.write_faults output.new }
+    ensures left { K.left output.new ≡ K.left output.old }
+    ensures read_faults { K.read_faults output.new ≡ K.read_faults output.old }
 {
     match tell(alloc, output, Outcome::Head(status), false) {
         Ok(()) => LinkEnd::BadMessage(status),

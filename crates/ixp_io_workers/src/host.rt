@@ -19,6 +19,10 @@ pub trait Background {
 
 /// What is done with links. Threads share it.
 pub trait Host<L>: Background {
+    /// What became of a seat and a link: both before, and both after.
+    ghost hosted: { Self.Seat → L → Self.Seat → L → Type 0 };
+
     /// Serves a link to its end.
-    fn host<R: Wait, C: Clock>(&self, rt: &R, seat: &mut Self::Seat, link: L, clock: &mut C);
+    fn host<R: Wait, C: Clock>(&self, rt: &R, seat: &mut Self::Seat, link: &mut L, clock: &mut C)
+        ensures { hosted seat.old link.old seat.new link.new };
 }

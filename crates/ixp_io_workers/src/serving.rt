@@ -37,7 +37,8 @@ where
         queue.put(rt, link);
     } else {
         let mut seat = seats.own().lock(rt);
-        host.host(rt, &mut *seat, link, &mut SharedClock::new(rt, clock));
+        let mut link = link;
+        host.host(rt, &mut *seat, &mut link, &mut SharedClock::new(rt, clock));
     }
     if !started.background {
         host.turn(rt, &mut *seats.background.lock(rt));

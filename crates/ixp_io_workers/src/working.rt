@@ -14,10 +14,10 @@ fn work<R: Wait, C: Clock, L: Drop, H: Host<L>>(
 ) {
     let mut held = seat.lock(rt);
     for _ in rt.forever() {
-        let Some(link) = queue.take(rt) else {
+        let Some(mut link) = queue.take(rt) else {
             break;
         };
-        host.host(rt, &mut *held, link, &mut SharedClock::new(rt, clock));
+        host.host(rt, &mut *held, &mut link, &mut SharedClock::new(rt, clock));
     }
 }
 

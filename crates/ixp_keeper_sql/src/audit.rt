@@ -3,6 +3,7 @@
 //! A walk over all rows tests it on its way (`walking.rt`). Where the rows are changed before such a walk has
 //! come to its end, it is tested here.
 ghost use Rattle.std.specs.Prelude.{◌≡◌, IsSome, OnOk};
+ghost use Rattle.ixp_keeper_sql.specs.Written.{KeepsLast};
 ghost use Rattle.sqlite_trees.specs.View.{StayLive};
 
 use crate::trees::{Trees, bytes_at, number_at};
@@ -23,6 +24,7 @@ fn rises(before: &Entry, found: &Entry) -> Result<bool, StoreError> {
 }
 
 /// How many entries the index has from the cursors on. None where a name isn't greater than the one before.
+#[tactic(auto, using(crate::proofs::Lasting::joined, crate::proofs::Lasting::unchanged))]
 fn count_names<S: Alter>(
     store: &mut S,
     rows: u32,
@@ -32,6 +34,7 @@ fn count_names<S: Alter>(
 ) -> Result<Option<u64>, StoreError>
     requires names { IsSome ((S.Store.view store.old).cursors 0) }
     requires rows { IsSome ((S.Store.view store.old).cursors 1) }
+    ensures last { KeepsLast (S.Store.view store.old) (S.Store.view store.new) }
 {
     let mut passed = NOWHERE;
     let mut count = 0u64;
@@ -50,8 +53,10 @@ fn count_names<S: Alter>(
 }
 
 /// How many rows the table has from its cursor on.
+#[tactic(auto, using(crate::proofs::Lasting::joined, crate::proofs::Lasting::unchanged))]
 fn count_rows<S: Alter>(store: &mut S, row: &mut Entry) -> Result<u64, StoreError>
     requires { IsSome ((S.Store.view store.old).cursors 1) }
+    ensures last { KeepsLast (S.Store.view store.old) (S.Store.view store.new) }
 {
     let mut count = 0u64;
     'rows: for _ in 0..u64::MAX {
@@ -63,7 +68,10 @@ fn count_rows<S: Alter>(store: &mut S, row: &mut Entry) -> Result<u64, StoreErro
     Ok(count)
 }
 
-fn number_of_names<S: Alter>(trees: &mut Trees<S>) -> Result<Option<u64>, StoreError> {
+#[tactic(auto, using(crate::proofs::Lasting::joined, crate::proofs::Lasting::unchanged))]
+fn number_of_names<S: Alter>(trees: &mut Trees<S>) -> Result<Option<u64>, StoreError>
+    ensures last { KeepsLast (S.Store.view trees.old.store) (S.Store.view trees.new.store) }
+{
     trees.key.clear();
     begin(&mut trees.store, trees.places, &trees.key, &mut trees.row)?;
     count_names(
@@ -76,14 +84,20 @@ fn number_of_names<S: Alter>(trees: &mut Trees<S>) -> Result<Option<u64>, StoreE
 }
 
 /// How many rows the table has.
-pub fn number_of_rows<S: Alter>(trees: &mut Trees<S>) -> Result<u64, StoreError> {
+#[tactic(auto, using(crate::proofs::Lasting::joined, crate::proofs::Lasting::unchanged))]
+pub fn number_of_rows<S: Alter>(trees: &mut Trees<S>) -> Result<u64, StoreError>
+    ensures last { KeepsLast (S.Store.view trees.old.store) (S.Store.view trees.new.store) }
+{
     seek_first_row(&mut trees.store, trees.places.rows, &mut trees.row)?;
     count_rows(&mut trees.store, &mut trees.row)
 }
 
 /// Tests that the table and its index agree, where that isn't known: each entry of the index has a row of its
 /// name, no two of them have one name, and there are as many of the ones as of the others.
-pub fn test<S: Alter>(trees: &mut Trees<S>) -> Result<(), StoreError> {
+#[tactic(auto, using(crate::proofs::Lasting::joined, crate::proofs::Lasting::unchanged))]
+pub fn test<S: Alter>(trees: &mut Trees<S>) -> Result<(), StoreError>
+    ensures last { KeepsLast (S.Store.view trees.old.store) (S.Store.view trees.new.store) }
+{
     if trees.is_sound {
         return Ok(());
     }

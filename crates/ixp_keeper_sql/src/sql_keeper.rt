@@ -2,7 +2,7 @@
 ghost use Rattle.std.specs.Prelude.{◌≡◌, ◌≤◌, None, IfOk, IsTrue};
 
 use crate::opening::{OWN, open_own};
-use crate::refusals::{counted, named};
+use crate::refusals::{counted, made};
 use crate::statements::{Statements, ensure_table, prepare_all, read_next, write_batch};
 use crate::trees::{Trees, places_in};
 use crate::walking::row_after;
@@ -11,7 +11,6 @@ use ixp_io::{Change, KeepFault, Keeper, Row, RowName};
 use sqlite::{Alter, Connection, Error, ErrorCode, FileStore};
 use sqlite_disk::{Disk, Files};
 use sqlite_pager::Options;
-use sqlite_trees::error::StoreError;
 use std::alloc::Global;
 
 /// A keeper over a connection. It doesn't tell its rows. Once its count of faults stands at its last value,
@@ -38,20 +37,6 @@ impl<S: Alter + Drop> Drop for SqlKeeper<S> {
             trees: _,
             faults: _,
         } = self;
-    }
-}
-
-fn made(done: Result<(), StoreError>) -> Result<(), Error> {
-    match done {
-        Ok(()) => Ok(()),
-        Err(error) => Err(named(error)),
-    }
-}
-
-fn given(found: Result<Option<Row>, StoreError>) -> Result<Option<Row>, Error> {
-    match found {
-        Ok(row) => Ok(row),
-        Err(error) => Err(named(error)),
     }
 }
 
@@ -131,7 +116,7 @@ impl<S: Alter + Drop> SqlKeeper<S> {
     {
         self.begin(alloc)?;
         if let Some(trees) = &mut self.trees {
-            return given(row_after(trees, after));
+            return made(row_after(trees, after));
         }
         let Some(conn) = &mut self.conn else {
             return Err(CLOSED);

@@ -4,6 +4,10 @@
 //! nothing to do with the row. Where a database has the table, the index of its key and no other object,
 //! nothing but the two trees has to change with a row, and they are changed as the statement would change
 //! them. The file is the same.
+ghost use Rattle.std.specs.Prelude.{◌≡◌, ◌++◌, OnOk, OnErr};
+ghost use Rattle.sqlite_trees.specs.View.{IsClean, Commits, IsRolledBack};
+ghost use Rattle.ixp_keeper_sql.specs.Written.{KeepsLast, name_of, entry_of, row_of};
+
 use ixp_io::{Row, RowName};
 use sqlite::{Alter, Connection};
 use sqlite_trees::error::StoreError;
@@ -120,26 +124,34 @@ impl<S: Alter> Trees<S> {
     }
 }
 
-fn push_name(entry: &mut Entry, name: &RowName) -> Result<(), AllocError> {
+fn push_name(entry: &mut Entry, name: &RowName) -> Result<(), AllocError>
+    ensures { OnOk result (entry.new ≡ entry.old ++ name_of name.now) }
+{
     entry.push(ValueRef::Int(i64::from(name.kind)))?;
     entry.push(ValueRef::Blob(name.key.as_slice()))
 }
 
 /// Writes the name as the beginning of an entry of the index.
-pub fn write_key(key: &mut Entry, name: &RowName) -> Result<(), AllocError> {
+pub fn write_key(key: &mut Entry, name: &RowName) -> Result<(), AllocError>
+    ensures { OnOk result (key.new ≡ name_of name.now) }
+{
     key.clear();
     push_name(key, name)
 }
 
 /// Writes the entry of the index for the row with the rowid.
-pub fn write_entry(entry: &mut Entry, name: &RowName, id: i64) -> Result<(), AllocError> {
+pub fn write_entry(entry: &mut Entry, name: &RowName, id: i64) -> Result<(), AllocError>
+    ensures { OnOk result (entry.new ≡ entry_of name.now id) }
+{
     entry.clear();
     push_name(entry, name)?;
     entry.push(ValueRef::Int(id))
 }
 
 /// Writes a row of the table.
-pub fn write_row(row: &mut Entry, id: i64, name: &RowName, body: &[u8]) -> Result<(), AllocError> {
+pub fn write_row(row: &mut Entry, id: i64, name: &RowName, body: &[u8]) -> Result<(), AllocError>
+    ensures { OnOk result (row.new ≡ row_of id name.now body.now) }
+{
     row.clear();
     row.push(ValueRef::Int(id))?;
     push_name(row, name)?;
@@ -170,10 +182,19 @@ pub fn compare(entry: &Entry, name: &RowName) -> Result<Ordering, StoreError> {
     )
 }
 
-pub fn undo<S: Alter>(store: &mut S) {
+#[tactic(auto, using(crate::proofs::Lasting::undone))]
+pub fn undo<S: Alter>(store: &mut S)
+    ensures back { IsRolledBack (S.Store.view store.old) (S.Store.view store.new) }
+    ensures last { KeepsLast (S.Store.view store.old) (S.Store.view store.new) }
+{
     store.rollback();
 }
 
-pub fn commit<S: Alter>(store: &mut S) -> Result<(), StoreError> {
+#[tactic(auto, using(crate::proofs::Lasting::undone))]
+pub fn commit<S: Alter>(store: &mut S) -> Result<(), StoreError>
+    ensures made { OnOk result (IsClean (S.Store.view store.new)
+        → Commits (S.Store.view store.old) (S.Store.view store.new)) }
+    ensures undone { OnErr result (KeepsLast (S.Store.view store.old) (S.Store.view store.new)) }
+{
     store.commit()
 }

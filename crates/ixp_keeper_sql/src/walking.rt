@@ -3,6 +3,7 @@
 //! The first cursor stands in the index, the second one in the table. Most rows were added in the order of
 //! their names, so that the next row of the table is the next one of the walk. Any other row is looked up.
 ghost use Rattle.std.specs.Prelude.{◌≡◌, IsSome, OnOk};
+ghost use Rattle.ixp_keeper_sql.specs.Written.{KeepsLast};
 ghost use Rattle.sqlite_trees.specs.View.{StayLive};
 
 use crate::audit::number_of_rows;
@@ -38,9 +39,11 @@ pub const NOWHERE: Passed = Passed {
 };
 
 /// Puts the index's cursor before the first entry that is not below the key.
+#[tactic(auto, using(crate::proofs::Lasting::placed, crate::proofs::Lasting::unchanged))]
 pub fn seek_name<S: Alter>(store: &mut S, names: u32, key: &Entry) -> Result<(), StoreError>
     ensures live { OnOk result (IsSome ((S.Store.view store.new).cursors 0)) }
     ensures stay { OnOk result (StayLive (S.Store.view store.old) (S.Store.view store.new)) }
+    ensures last { KeepsLast (S.Store.view store.old) (S.Store.view store.new) }
 {
     let Shape::Index(_) = store.shape(names) else {
         return Err(StoreError::Broken);
@@ -49,17 +52,21 @@ pub fn seek_name<S: Alter>(store: &mut S, names: u32, key: &Entry) -> Result<(),
 }
 
 /// Takes the next entry of the index, and says whether there was one.
+#[tactic(auto, using(crate::proofs::Lasting::moved))]
 pub fn next_name<S: Alter>(store: &mut S, found: &mut Entry) -> Result<bool, StoreError>
     requires { IsSome ((S.Store.view store.old).cursors 0) }
-    ensures { OnOk result (StayLive (S.Store.view store.old) (S.Store.view store.new)) }
+    ensures stay { OnOk result (StayLive (S.Store.view store.old) (S.Store.view store.new)) }
+    ensures last { KeepsLast (S.Store.view store.old) (S.Store.view store.new) }
 {
     store.next(0, found)
 }
 
 /// Puts the table's cursor before the row with the rowid. The row is used to seek.
+#[tactic(auto, using(crate::proofs::Lasting::placed, crate::proofs::Lasting::unchanged))]
 fn seek_row<S: Alter>(store: &mut S, rows: u32, id: i64, row: &mut Entry) -> Result<(), StoreError>
     ensures live { OnOk result (IsSome ((S.Store.view store.new).cursors 1)) }
     ensures stay { OnOk result (StayLive (S.Store.view store.old) (S.Store.view store.new)) }
+    ensures last { KeepsLast (S.Store.view store.old) (S.Store.view store.new) }
 {
     let Shape::Table = store.shape(rows) else {
         return Err(StoreError::Broken);
@@ -76,6 +83,7 @@ fn seek_row<S: Alter>(store: &mut S, rows: u32, id: i64, row: &mut Entry) -> Res
 }
 
 /// Puts both cursors before the first entry that is not below the key.
+#[tactic(auto, using(crate::proofs::Lasting::joined, crate::proofs::Lasting::unchanged))]
 pub fn begin<S: Alter>(
     store: &mut S,
     places: Places,
@@ -84,30 +92,37 @@ pub fn begin<S: Alter>(
 ) -> Result<(), StoreError>
     ensures names { OnOk result (IsSome ((S.Store.view store.new).cursors 0)) }
     ensures rows { OnOk result (IsSome ((S.Store.view store.new).cursors 1)) }
+    ensures last { KeepsLast (S.Store.view store.old) (S.Store.view store.new) }
 {
     seek_name(store, places.names, key)?;
     seek_first_row(store, places.rows, row)
 }
 
 /// Puts the table's cursor before its first row.
+#[tactic(auto, using(crate::proofs::Lasting::joined, crate::proofs::Lasting::unchanged))]
 pub fn seek_first_row<S: Alter>(store: &mut S, rows: u32, row: &mut Entry) -> Result<(), StoreError>
     ensures live { OnOk result (IsSome ((S.Store.view store.new).cursors 1)) }
     ensures stay { OnOk result (StayLive (S.Store.view store.old) (S.Store.view store.new)) }
+    ensures last { KeepsLast (S.Store.view store.old) (S.Store.view store.new) }
 {
     seek_row(store, rows, i64::MIN, row)
 }
 
 /// Takes the next row of the table, and says whether there was one.
+#[tactic(auto, using(crate::proofs::Lasting::moved))]
 pub fn next_row_of<S: Alter>(store: &mut S, row: &mut Entry) -> Result<bool, StoreError>
     requires { IsSome ((S.Store.view store.old).cursors 1) }
-    ensures { OnOk result (StayLive (S.Store.view store.old) (S.Store.view store.new)) }
+    ensures stay { OnOk result (StayLive (S.Store.view store.old) (S.Store.view store.new)) }
+    ensures last { KeepsLast (S.Store.view store.old) (S.Store.view store.new) }
 {
     store.next(1, row)
 }
 
+#[tactic(auto, using(crate::proofs::Lasting::joined, crate::proofs::Lasting::unchanged))]
 fn next_row<S: Alter>(store: &mut S, id: i64, row: &mut Entry) -> Result<bool, StoreError>
     requires { IsSome ((S.Store.view store.old).cursors 1) }
-    ensures { OnOk result (StayLive (S.Store.view store.old) (S.Store.view store.new)) }
+    ensures stay { OnOk result (StayLive (S.Store.view store.old) (S.Store.view store.new)) }
+    ensures last { KeepsLast (S.Store.view store.old) (S.Store.view store.new) }
 {
     if !next_row_of(store, row)? {
         return Ok(false);
@@ -115,8 +130,10 @@ fn next_row<S: Alter>(store: &mut S, id: i64, row: &mut Entry) -> Result<bool, S
     Ok(number_at(row, 0)? == id)
 }
 
+#[tactic(auto, using(crate::proofs::Lasting::looked, crate::proofs::Lasting::unchanged))]
 fn look_up<S: Alter>(store: &mut S, rows: u32, id: i64, row: &mut Entry) -> Result<bool, StoreError>
-    ensures { OnOk result (StayLive (S.Store.view store.old) (S.Store.view store.new)) }
+    ensures stay { OnOk result (StayLive (S.Store.view store.old) (S.Store.view store.new)) }
+    ensures last { KeepsLast (S.Store.view store.old) (S.Store.view store.new) }
 {
     let Shape::Table = store.shape(rows) else {
         return Err(StoreError::Broken);
@@ -125,6 +142,7 @@ fn look_up<S: Alter>(store: &mut S, rows: u32, id: i64, row: &mut Entry) -> Resu
 }
 
 /// Reads the row with the rowid, and says whether there is one.
+#[tactic(auto, using(crate::proofs::Lasting::joined, crate::proofs::Lasting::unchanged))]
 pub fn follow<S: Alter>(
     store: &mut S,
     rows: u32,
@@ -133,7 +151,8 @@ pub fn follow<S: Alter>(
     row: &mut Entry,
 ) -> Result<bool, StoreError>
     requires { IsSome ((S.Store.view store.old).cursors 1) }
-    ensures { OnOk result (StayLive (S.Store.view store.old) (S.Store.view store.new)) }
+    ensures stay { OnOk result (StayLive (S.Store.view store.old) (S.Store.view store.new)) }
+    ensures last { KeepsLast (S.Store.view store.old) (S.Store.view store.new) }
 {
     let after = id.checked_add(1);
     if passed.next == Some(id) {
@@ -154,6 +173,7 @@ pub fn follow<S: Alter>(
 
 /// Takes the next entry of the index with its row, and says whether there was one. An entry without a row of
 /// its name is damage.
+#[tactic(auto, using(crate::proofs::Lasting::joined, crate::proofs::Lasting::unchanged))]
 pub fn next_pair<S: Alter>(
     store: &mut S,
     rows: u32,
@@ -163,7 +183,8 @@ pub fn next_pair<S: Alter>(
 ) -> Result<bool, StoreError>
     requires names { IsSome ((S.Store.view store.old).cursors 0) }
     requires rows { IsSome ((S.Store.view store.old).cursors 1) }
-    ensures { OnOk result (StayLive (S.Store.view store.old) (S.Store.view store.new)) }
+    ensures stay { OnOk result (StayLive (S.Store.view store.old) (S.Store.view store.new)) }
+    ensures last { KeepsLast (S.Store.view store.old) (S.Store.view store.new) }
 {
     if !next_name(store, found)? {
         return Ok(false);
@@ -215,6 +236,7 @@ fn is_twin(ahead: &[Row], found: &Entry) -> Result<bool, StoreError> {
 }
 
 /// Adds rows from the place of the cursors on, and says whether there may be more.
+#[tactic(auto, using(crate::proofs::Lasting::joined, crate::proofs::Lasting::unchanged))]
 fn gather<S: Alter>(
     alloc: Global,
     store: &mut S,
@@ -225,6 +247,7 @@ fn gather<S: Alter>(
 ) -> Result<bool, StoreError>
     requires names { IsSome ((S.Store.view store.old).cursors 0) }
     requires rows { IsSome ((S.Store.view store.old).cursors 1) }
+    ensures last { KeepsLast (S.Store.view store.old) (S.Store.view store.new) }
 {
     let mut passed = NOWHERE;
     let mut bytes = 0usize;
@@ -246,7 +269,9 @@ fn gather<S: Alter>(
 }
 
 /// Counts the entries that were read, where the walk began at the first one.
-fn count<S: Alter>(trees: &mut Trees<S>, goes_on: bool, is_first: bool) {
+fn count<S: Alter>(trees: &mut Trees<S>, goes_on: bool, is_first: bool)
+    ensures { trees.new.store ≡ trees.old.store }
+{
     let before = if is_first {
         Some(0)
     } else if goes_on {
@@ -259,7 +284,10 @@ fn count<S: Alter>(trees: &mut Trees<S>, goes_on: bool, is_first: bool) {
 }
 
 /// At the end of the index, tests that the table has as many rows, where all entries were counted.
-fn test_count<S: Alter>(trees: &mut Trees<S>) -> Result<(), StoreError> {
+#[tactic(auto, using(crate::proofs::Lasting::joined, crate::proofs::Lasting::unchanged))]
+fn test_count<S: Alter>(trees: &mut Trees<S>) -> Result<(), StoreError>
+    ensures last { KeepsLast (S.Store.view trees.old.store) (S.Store.view trees.new.store) }
+{
     let Some(count) = trees.counted else {
         return Ok(());
     };
@@ -274,7 +302,10 @@ fn test_count<S: Alter>(trees: &mut Trees<S>) -> Result<(), StoreError> {
 }
 
 /// Reads rows after the name. A fault is left to the call that comes to its row, where one stands before it.
-fn read_ahead<S: Alter>(trees: &mut Trees<S>, after: Option<&RowName>) -> Result<(), StoreError> {
+#[tactic(auto, using(crate::proofs::Lasting::joined, crate::proofs::Lasting::unchanged))]
+fn read_ahead<S: Alter>(trees: &mut Trees<S>, after: Option<&RowName>) -> Result<(), StoreError>
+    ensures last { KeepsLast (S.Store.view trees.old.store) (S.Store.view trees.new.store) }
+{
     let goes_on = after.is_some_and(|name| is_given(&trees.given, name));
     trees.ahead.clear();
     write_after(&mut trees.key, after)?;
@@ -311,10 +342,13 @@ fn is_given(given: &Entry, name: &RowName) -> bool {
 }
 
 /// The row with the least name that is greater, or the first of all.
+#[tactic(auto, using(crate::proofs::Lasting::joined, crate::proofs::Lasting::unchanged))]
 pub fn row_after<S: Alter>(
     trees: &mut Trees<S>,
     after: Option<&RowName>,
-) -> Result<Option<Row>, StoreError> {
+) -> Result<Option<Row>, StoreError>
+    ensures last { KeepsLast (S.Store.view trees.old.store) (S.Store.view trees.new.store) }
+{
     if !goes_on(trees, after) {
         read_ahead(trees, after)?;
     }

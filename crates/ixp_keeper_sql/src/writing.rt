@@ -3,8 +3,10 @@
 //! The changes are put into the order of their names. Of several of one name the last one counts. One walk of
 //! the index tells which rows there are, and a row that has its new body already is left alone. So a list
 //! that is put again with one change writes the pages of that change.
-ghost use Rattle.std.specs.Prelude.{◌≡◌, IsSome, OnOk};
-ghost use Rattle.sqlite_trees.specs.View.{StayLive};
+ghost use Rattle.std.specs.Prelude.{◌≡◌, IsSome, OnErr, OnOk};
+ghost use Rattle.sqlite_trees.specs.Tree.{order_of, put_row, without_rowid, insert_entry, remove_entry};
+ghost use Rattle.sqlite_trees.specs.View.{IsClean, SetsTree, StayLive};
+ghost use Rattle.ixp_keeper_sql.specs.Written.{KeepsLast, SetsRow, AddsRow, TakesRow};
 
 use crate::audit::test;
 use crate::trees::{
@@ -93,9 +95,11 @@ fn is_void(change: &Change, later: &[Place]) -> bool {
     }
 }
 
+#[tactic(auto, using(crate::proofs::Lasting::joined, crate::proofs::Lasting::unchanged))]
 fn advance<S: Alter>(store: &mut S, ahead: &mut Ahead, found: &mut Entry) -> Result<(), StoreError>
     requires { IsSome ((S.Store.view store.old).cursors 0) }
-    ensures { OnOk result (StayLive (S.Store.view store.old) (S.Store.view store.new)) }
+    ensures stay { OnOk result (StayLive (S.Store.view store.old) (S.Store.view store.new)) }
+    ensures last { KeepsLast (S.Store.view store.old) (S.Store.view store.new) }
 {
     *ahead = if next_name(store, found)? {
         Ahead::Entry
@@ -114,6 +118,7 @@ fn is_below(ahead: Ahead, found: &Entry, name: &RowName) -> Result<bool, StoreEr
 }
 
 /// The rowid of the row with the name, which is greater than any that was asked for before.
+#[tactic(auto, using(crate::proofs::Lasting::joined, crate::proofs::Lasting::unchanged))]
 fn find<S: Alter>(
     store: &mut S,
     names: u32,
@@ -123,7 +128,8 @@ fn find<S: Alter>(
     found: &mut Entry,
 ) -> Result<Option<i64>, StoreError>
     requires { IsSome ((S.Store.view store.old).cursors 0) }
-    ensures { OnOk result (StayLive (S.Store.view store.old) (S.Store.view store.new)) }
+    ensures stay { OnOk result (StayLive (S.Store.view store.old) (S.Store.view store.new)) }
+    ensures last { KeepsLast (S.Store.view store.old) (S.Store.view store.new) }
 {
     if is_below(*ahead, found, name)? {
         advance(store, ahead, found)?;
@@ -144,6 +150,7 @@ fn id_of(ahead: Ahead, found: &Entry, name: &RowName) -> Result<Option<i64>, Sto
 }
 
 /// Whether the change makes a difference where there is this row.
+#[tactic(auto, using(crate::proofs::Lasting::joined, crate::proofs::Lasting::unchanged))]
 fn changes<S: Alter>(
     store: &mut S,
     rows: u32,
@@ -153,7 +160,8 @@ fn changes<S: Alter>(
     row: &mut Entry,
 ) -> Result<bool, StoreError>
     requires { IsSome ((S.Store.view store.old).cursors 1) }
-    ensures { OnOk result (StayLive (S.Store.view store.old) (S.Store.view store.new)) }
+    ensures stay { OnOk result (StayLive (S.Store.view store.old) (S.Store.view store.new)) }
+    ensures last { KeepsLast (S.Store.view store.old) (S.Store.view store.new) }
 {
     let (Some(body), Some(id)) = (&change.body, id) else {
         return Ok(change.body.is_some() || id.is_some());
@@ -165,12 +173,14 @@ fn changes<S: Alter>(
 }
 
 /// The changes that make a difference, from the places of the cursors on.
+#[tactic(auto, using(crate::proofs::Lasting::joined, crate::proofs::Lasting::unchanged))]
 fn steps_of<'a, S: Alter>(
     trees: &mut Trees<S>,
     ordered: &[Place<'a>],
 ) -> Result<Vec<Step<'a>>, StoreError>
     requires names { IsSome ((S.Store.view trees.old.store).cursors 0) }
     requires rows { IsSome ((S.Store.view trees.old.store).cursors 1) }
+    ensures last { KeepsLast (S.Store.view trees.old.store) (S.Store.view trees.new.store) }
 {
     let mut steps = Vec::new(trees.alloc);
     let mut ahead = Ahead::Unread;
@@ -202,13 +212,21 @@ fn steps_of<'a, S: Alter>(
     Ok(steps)
 }
 
-fn last_in<S: Alter>(store: &mut S, tree: u32, row: &mut Entry) -> Result<bool, StoreError> {
+#[tactic(auto, using(crate::proofs::Lasting::joined, crate::proofs::Lasting::unchanged, crate::proofs::Lasting::placed, crate::proofs::Lasting::moved))]
+fn last_in<S: Alter>(store: &mut S, tree: u32, row: &mut Entry) -> Result<bool, StoreError>
+    ensures last { KeepsLast (S.Store.view store.old) (S.Store.view store.new) }
+{
     row.clear();
     store.seek(0, tree, row, Direction::Backward)?;
     store.next(0, row)
 }
 
-fn put<S: Alter>(store: &mut S, tree: u32, row: &Entry) -> Result<(), StoreError> {
+#[tactic(auto, using(crate::proofs::Lasting::written, crate::proofs::Lasting::unchanged))]
+fn put<S: Alter>(store: &mut S, tree: u32, row: &Entry) -> Result<(), StoreError>
+    ensures edit { OnOk result (IsClean (S.Store.view store.new)
+        → SetsTree (S.Store.view store.old) (S.Store.view store.new) tree (put_row row.now)) }
+    ensures last { KeepsLast (S.Store.view store.old) (S.Store.view store.new) }
+{
     let Shape::Table = store.shape(tree) else {
         return Err(StoreError::Broken);
     };
@@ -218,21 +236,40 @@ fn put<S: Alter>(store: &mut S, tree: u32, row: &Entry) -> Result<(), StoreError
     store.put(tree, row)
 }
 
-fn delete<S: Alter>(store: &mut S, tree: u32, id: i64) -> Result<(), StoreError> {
+#[tactic(auto, using(crate::proofs::Lasting::written, crate::proofs::Lasting::unchanged))]
+fn delete<S: Alter>(store: &mut S, tree: u32, id: i64) -> Result<(), StoreError>
+    ensures edit { OnOk result (IsClean (S.Store.view store.new)
+        → SetsTree (S.Store.view store.old) (S.Store.view store.new) tree (without_rowid id)) }
+    ensures clean { IsClean (S.Store.view store.new) → IsClean (S.Store.view store.old) }
+    ensures last { KeepsLast (S.Store.view store.old) (S.Store.view store.new) }
+{
     let Shape::Table = store.shape(tree) else {
         return Err(StoreError::Broken);
     };
     store.delete(tree, id)
 }
 
-fn insert<S: Alter>(store: &mut S, tree: u32, entry: &Entry) -> Result<(), StoreError> {
+#[tactic(auto, using(crate::proofs::Lasting::written, crate::proofs::Lasting::unchanged))]
+fn insert<S: Alter>(store: &mut S, tree: u32, entry: &Entry) -> Result<(), StoreError>
+    ensures edit { OnOk result (IsClean (S.Store.view store.new)
+        → SetsTree (S.Store.view store.old) (S.Store.view store.new) tree
+        (insert_entry (order_of ((S.Store.view store.old).shape tree)) entry.now)) }
+    ensures clean { IsClean (S.Store.view store.new) → IsClean (S.Store.view store.old) }
+    ensures last { KeepsLast (S.Store.view store.old) (S.Store.view store.new) }
+{
     let Shape::Index(_) = store.shape(tree) else {
         return Err(StoreError::Broken);
     };
     store.insert(tree, entry)
 }
 
-fn remove<S: Alter>(store: &mut S, tree: u32, entry: &Entry) -> Result<(), StoreError> {
+#[tactic(auto, using(crate::proofs::Lasting::written, crate::proofs::Lasting::unchanged))]
+fn remove<S: Alter>(store: &mut S, tree: u32, entry: &Entry) -> Result<(), StoreError>
+    ensures edit { OnOk result (IsClean (S.Store.view store.new)
+        → SetsTree (S.Store.view store.old) (S.Store.view store.new) tree
+        (remove_entry (order_of ((S.Store.view store.old).shape tree)) entry.now)) }
+    ensures last { KeepsLast (S.Store.view store.old) (S.Store.view store.new) }
+{
     let Shape::Index(_) = store.shape(tree) else {
         return Err(StoreError::Broken);
     };
@@ -240,7 +277,10 @@ fn remove<S: Alter>(store: &mut S, tree: u32, entry: &Entry) -> Result<(), Store
 }
 
 /// The greatest rowid, and 0 where there is no row.
-fn greatest<S: Alter>(trees: &mut Trees<S>) -> Result<i64, StoreError> {
+#[tactic(auto, using(crate::proofs::Lasting::joined, crate::proofs::Lasting::unchanged))]
+fn greatest<S: Alter>(trees: &mut Trees<S>) -> Result<i64, StoreError>
+    ensures last { KeepsLast (S.Store.view trees.old.store) (S.Store.view trees.new.store) }
+{
     if let Some(last) = trees.last {
         return Ok(last);
     }
@@ -257,7 +297,10 @@ fn take_freed(freed: &mut Freed) -> Option<i64> {
 }
 
 /// A rowid that no row has.
-fn free_rowid<S: Alter>(trees: &mut Trees<S>, freed: &mut Freed) -> Result<i64, StoreError> {
+#[tactic(auto, using(crate::proofs::Lasting::joined, crate::proofs::Lasting::unchanged))]
+fn free_rowid<S: Alter>(trees: &mut Trees<S>, freed: &mut Freed) -> Result<i64, StoreError>
+    ensures last { KeepsLast (S.Store.view trees.old.store) (S.Store.view trees.new.store) }
+{
     if let Some(id) = take_freed(freed) {
         return Ok(id);
     }
@@ -268,39 +311,64 @@ fn free_rowid<S: Alter>(trees: &mut Trees<S>, freed: &mut Freed) -> Result<i64, 
     Ok(id)
 }
 
+/// Sets the row with the rowid.
+#[tactic(auto, using(crate::proofs::Lasting::joined, crate::proofs::Lasting::unchanged))]
 fn put_row<S: Alter>(
     trees: &mut Trees<S>,
     id: i64,
     name: &RowName,
     body: &[u8],
-) -> Result<(), StoreError> {
+) -> Result<(), StoreError>
+    ensures row { OnOk result (IsClean (S.Store.view trees.new.store)
+        → SetsRow trees.old.places id name.now body.now (S.Store.view trees.old.store)
+        (S.Store.view trees.new.store)) }
+    ensures places { trees.new.places ≡ trees.old.places }
+    ensures last { KeepsLast (S.Store.view trees.old.store) (S.Store.view trees.new.store) }
+{
     write_row(&mut trees.row, id, name, body)?;
     put(&mut trees.store, trees.places.rows, &trees.row)
 }
 
+/// Adds a row, with its entry in the index.
+#[tactic(auto, using(crate::proofs::Lasting::joined, crate::proofs::Lasting::unchanged))]
 fn add<S: Alter>(
     trees: &mut Trees<S>,
     id: i64,
     name: &RowName,
     body: &[u8],
-) -> Result<(), StoreError> {
+) -> Result<(), StoreError>
+    ensures edit { OnOk result (IsClean (S.Store.view trees.new.store)
+        → AddsRow trees.old.places id name.now body.now (S.Store.view trees.old.store)
+        (S.Store.view trees.new.store)) }
+    ensures last { KeepsLast (S.Store.view trees.old.store) (S.Store.view trees.new.store) }
+{
     put_row(trees, id, name, body)?;
     write_entry(&mut trees.found, name, id)?;
     insert(&mut trees.store, trees.places.names, &trees.found)
 }
 
-fn take_out<S: Alter>(trees: &mut Trees<S>, id: i64, name: &RowName) -> Result<(), StoreError> {
+/// Takes out a row and its entry in the index.
+#[tactic(auto, using(crate::proofs::Lasting::joined, crate::proofs::Lasting::unchanged))]
+fn take_out<S: Alter>(trees: &mut Trees<S>, id: i64, name: &RowName) -> Result<(), StoreError>
+    ensures edit { OnOk result (IsClean (S.Store.view trees.new.store)
+        → TakesRow trees.old.places id name.now (S.Store.view trees.old.store)
+        (S.Store.view trees.new.store)) }
+    ensures last { KeepsLast (S.Store.view trees.old.store) (S.Store.view trees.new.store) }
+{
     write_entry(&mut trees.found, name, id)?;
     remove(&mut trees.store, trees.places.names, &trees.found)?;
     delete(&mut trees.store, trees.places.rows, id)
 }
 
 /// Takes out the rows that go.
+#[tactic(auto, using(crate::proofs::Lasting::joined, crate::proofs::Lasting::unchanged))]
 fn take_all<S: Alter>(
     trees: &mut Trees<S>,
     steps: &[Step],
     freed: &mut Freed,
-) -> Result<(), StoreError> {
+) -> Result<(), StoreError>
+    ensures last { KeepsLast (S.Store.view trees.old.store) (S.Store.view trees.new.store) }
+{
     for step in steps {
         let (None, Some(id)) = (&step.change.body, step.id) else {
             continue;
@@ -312,11 +380,14 @@ fn take_all<S: Alter>(
 }
 
 /// Sets the rows that have a body.
+#[tactic(auto, using(crate::proofs::Lasting::joined, crate::proofs::Lasting::unchanged))]
 fn set_all<S: Alter>(
     trees: &mut Trees<S>,
     steps: &[Step],
     freed: &mut Freed,
-) -> Result<(), StoreError> {
+) -> Result<(), StoreError>
+    ensures last { KeepsLast (S.Store.view trees.old.store) (S.Store.view trees.new.store) }
+{
     for step in steps {
         let Some(body) = &step.change.body else {
             continue;
@@ -333,10 +404,13 @@ fn set_all<S: Alter>(
 }
 
 /// Finds out which changes make a difference.
+#[tactic(auto, using(crate::proofs::Lasting::joined, crate::proofs::Lasting::unchanged))]
 fn planned<'a, S: Alter>(
     trees: &mut Trees<S>,
     batch: &'a [Change],
-) -> Result<Vec<Step<'a>>, StoreError> {
+) -> Result<Vec<Step<'a>>, StoreError>
+    ensures last { KeepsLast (S.Store.view trees.old.store) (S.Store.view trees.new.store) }
+{
     let ordered = in_order(trees.alloc, batch)?;
     let Some(first) = ordered.first() else {
         return Ok(Vec::new(trees.alloc));
@@ -346,7 +420,10 @@ fn planned<'a, S: Alter>(
     steps_of(trees, ordered.as_slice())
 }
 
-fn make_all<S: Alter>(trees: &mut Trees<S>, batch: &[Change]) -> Result<(), StoreError> {
+#[tactic(auto, using(crate::proofs::Lasting::joined, crate::proofs::Lasting::unchanged))]
+fn make_all<S: Alter>(trees: &mut Trees<S>, batch: &[Change]) -> Result<(), StoreError>
+    ensures last { KeepsLast (S.Store.view trees.old.store) (S.Store.view trees.new.store) }
+{
     test(trees)?;
     let steps = planned(trees, batch)?;
     let mut freed = Freed {
@@ -358,7 +435,12 @@ fn make_all<S: Alter>(trees: &mut Trees<S>, batch: &[Change]) -> Result<(), Stor
 }
 
 /// Makes the changes of a batch in one transaction, which is rolled back where one of them fails.
-pub fn change_rows<S: Alter>(trees: &mut Trees<S>, batch: &[Change]) -> Result<(), StoreError> {
+#[tactic(auto, using(crate::proofs::Lasting::joined, crate::proofs::Lasting::unchanged))]
+pub fn change_rows<S: Alter>(trees: &mut Trees<S>, batch: &[Change]) -> Result<(), StoreError>
+    ensures made { OnOk result (IsClean (S.Store.view trees.new.store)
+        → (S.Store.view trees.new.store).committed ≡ (S.Store.view trees.new.store).trees) }
+    ensures undone { OnErr result (KeepsLast (S.Store.view trees.old.store) (S.Store.view trees.new.store)) }
+{
     trees.ahead.clear();
     trees.counted = None;
     let made = make_all(trees, batch);

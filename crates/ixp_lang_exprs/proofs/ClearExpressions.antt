@@ -16,7 +16,7 @@ use Rattle.ixp_lang_tokens.proofs.Known.{next_mark}
 use Rattle.ixp_lang_exprs.specs.declared.env.Signature.{Signature}
 use Rattle.ixp_lang_exprs.specs.declared.wanted.Wanted.{Wanted}
 use Rattle.ixp_lang_exprs.specs.declared.types.ValueType.TheVariants.{Bool as Truth}
-use Rattle.ixp_lang_exprs.specs.Operands.{Operand, one_type}
+use Rattle.ixp_lang_exprs.specs.Operands.{Operand, anything, one_type}
 use Rattle.ixp_lang_exprs.specs.Expressions.{Place, has_parts, attribute_form, Shape, plain, arguments, roa_values, Parts, wanted_part, part_form, some_parts, no_parts, enclosed, Chain, comparison_of, chain_part, chain_of, expression_of, Deeper, nothing, deeper, is_left, opened, negation_form, plain_form, call_form, name_form, named_form, called, check_form, roa_table, set_form, operand_form, unary_form, front}
 use Rattle.ixp_lang_exprs.proofs.Known.{none_apart}
 use Rattle.ixp_lang_exprs.proofs.ClearLists.{clear_never, clear_only, clear_ended}
@@ -43,19 +43,20 @@ expression_bars = marked mark.And ∷ marked mark.Or ∷ []
 abbrev pub expression_look : Look
 expression_look = full_look operand_starts expression_ends
 
-clear_attribute_text : (a : Attr) → Clearly (attribute_form a) (record { leads = false; full = false; starts = marked mark.Dot ∷ []; ends = marked mark.Dot ∷ [] }) []
-clear_attribute_text a =
-    clear_choice (clear_only (has_parts a) (clear_then (clear_mark mark.Dot) (λ x. clear_then (clear_token _ _ (known_part a)) (λ p. clear_gives _)))) (clear_gives _) refl refl
+clear_attribute_text : (wanted : Wanted) (a : Attr) → Clearly (attribute_form wanted a) (record { leads = false; full = false; starts = marked mark.Dot ∷ []; ends = marked mark.Dot ∷ [] }) []
+clear_attribute_text wanted a =
+    clear_checks
+    (clear_choice (clear_only (has_parts a) (clear_then (clear_mark mark.Dot) (λ x. clear_then (clear_token _ _ (known_part a)) (λ p. clear_gives _)))) (clear_gives _) refl refl)
 
 -- Chains.
-module _ (unary : Grammar Operand) (ku : Clearly unary unary_look []) where
+module _ (unary : Wanted → Grammar Operand) (ku : (wanted : Wanted) → Clearly (unary wanted) unary_look []) where
   pub clear_comparison : (wanted : Wanted) → Clearly (comparison_of unary wanted) comparison_look []
   clear_comparison wanted =
       clear_wider
-      (clear_sequence ku (λ left.
+      (clear_sequence (ku wanted) (λ left.
       clear_checks
       (clear_here (λ place.
-      clear_choice (clear_then (clear_token _ _ known_operator) (λ op. clear_checks (clear_sequence ku (λ right. clear_checks (clear_gives _)) refl))) (clear_gives _) refl refl))) refl)
+      clear_choice (clear_then (clear_token _ _ known_operator) (λ op. clear_checks (clear_sequence (ku anything) (λ right. clear_checks (clear_gives _)) refl))) (clear_gives _) refl refl))) refl)
       refl refl
 
   module _ (joint other : Mark) (joined : ExprTrees → ExprTree) where
@@ -132,15 +133,15 @@ module _ (expression : Wanted → Grammar Operand) (ke : (wanted : Wanted) → C
 
 abbrev pub IsClear : Deeper → Type 0
 IsClear nothing = Unit {0}
-IsClear (deeper unary) = Clearly unary unary_look []
+IsClear (deeper unary) = (wanted : Wanted) → Clearly (unary wanted) unary_look []
 
-clear_opened : {A : Type 0} {f : Grammar Operand → Grammar A} {l : Look} (m : Mark) (inner : Deeper) → IsClear inner → ((unary : Grammar Operand) → Clearly unary unary_look [] → Clearly (f unary) l [])
+clear_opened : {A : Type 0} {f : (Wanted → Grammar Operand) → Grammar A} {l : Look} (m : Mark) (inner : Deeper) → IsClear inner → ((unary : Wanted → Grammar Operand) → ((wanted : Wanted) → Clearly (unary wanted) unary_look []) → Clearly (f unary) l [])
     → Clearly (opened m inner f) (full_look (marked m ∷ []) l.ends) []
 clear_opened {A} {f} {l} m nothing ki kf = clear_bars (is_next (is_mark m)) Deep (marked m ∷ []) (next_mark m) (clear_never (full_look [] l.ends) []) (first_test (is_mark m))
 clear_opened {A} {f} {l} m (deeper unary) ki kf = clear_then (clear_mark m) (λ x. kf unary ki)
 
 clear_negation : (inner : Deeper) → IsClear inner → Clearly (negation_form inner) (full_look (marked mark.Not ∷ []) (marked mark.Dot ∷ [])) []
-clear_negation inner ki = clear_here (λ place. clear_opened mark.Not inner ki (λ unary ku. clear_sequence ku (λ operand. clear_checks (clear_gives _)) refl))
+clear_negation inner ki = clear_here (λ place. clear_opened mark.Not inner ki (λ unary ku. clear_sequence (ku anything) (λ operand. clear_checks (clear_gives _)) refl))
 
 clear_plain : (at : Place) (inner : Deeper) → IsClear inner → Clearly (plain_form at inner) (token_look (marked mark.Open ∷ [])) []
 clear_plain at inner ki =
@@ -177,19 +178,19 @@ clear_check_text at inner ki =
 clear_set : (at : Place) (inner : Deeper) → Clearly (set_form at inner) (token_look (marked mark.SetOpen ∷ [])) []
 clear_set at inner = clear_then (clear_mark mark.SetOpen) (λ x. clear_then (clear_elements at.names (is_left inner)) (λ s. clear_gives _))
 
-clear_operand : (at : Place) (inner : Deeper) → IsClear inner → Clearly (operand_form at inner) unary_look []
+clear_operand : (at : Place) (inner : Deeper) → IsClear inner → (wanted : Wanted) → Clearly (operand_form at inner wanted) unary_look []
 unfolding operand_form
-clear_operand at inner ki =
+clear_operand at inner ki wanted =
     clear_wider
     (clear_choice (clear_negation inner ki)
     (clear_choice (clear_plain at inner ki)
     (clear_choice (clear_check_text at inner ki)
     (clear_choice (clear_named at inner ki)
     (clear_choice (clear_token _ _ known_literal)
-    (clear_choice (clear_then (clear_token _ _ (known_attribute at)) clear_attribute_text) (clear_set at inner)
+    (clear_choice (clear_then (clear_token _ _ (known_attribute at)) (clear_attribute_text wanted)) (clear_set at inner)
     refl refl) refl refl) refl refl) refl refl) refl refl) refl refl)
     refl refl
 
-pub clear_unary : (at : Place) (levels : ℕ) → Clearly (unary_form at levels) unary_look []
+pub clear_unary : (at : Place) (levels : ℕ) (wanted : Wanted) → Clearly (unary_form at levels wanted) unary_look []
 clear_unary at zero = clear_operand at nothing tt
 clear_unary at (suc levels) = clear_operand at (deeper (unary_form at levels)) (clear_unary at levels)

@@ -12,8 +12,8 @@ pub use Rattle.ixp_lang_exprs.proofs.ClearExpressions.{operand_starts, unary_loo
 pub clear_expression_text : (at : Place) (levels : ℕ) (wanted : Wanted) → Clearly (expression_form at levels wanted) expression_look expression_bars
 clear_expression_text at levels wanted = clear_expression (unary_form at levels) (clear_unary at levels) wanted
 
-pub known_unary : (at : Place) (levels : ℕ) → Known (unary_form at levels) unary_look
-known_unary at levels = known_of (clear_unary at levels)
+pub known_unary : (at : Place) (levels : ℕ) (wanted : Wanted) → Known (unary_form at levels wanted) unary_look
+known_unary at levels wanted = known_of (clear_unary at levels wanted)
 
 pub known_expression_text : (at : Place) (levels : ℕ) (wanted : Wanted) → Known (expression_form at levels wanted) expression_look
 known_expression_text at levels wanted = known_of (clear_expression_text at levels wanted)

@@ -71,14 +71,14 @@ unmade view m NoMemory r h = tt
 unmade view m (Stop cause left) r h = absurd h
 
 -- behind the joint of a chain its first part is tested
-pub chain_tests : (u : Grammar Operand) (j : Joint) (first : Operand) (place : ℕ) (ts left : List Kind) → read (the_mark (joint_mark j)) ts ≡ Ok (tt, left)
+pub chain_tests : (u : Wanted → Grammar Operand) (j : Joint) (first : Operand) (place : ℕ) (ts left : List Kind) → read (the_mark (joint_mark j)) ts ≡ Ok (tt, left)
     → read (chain_of u (joint_mark j) (other_mark j) (joined_by j) first place) ts
     ≡ checked (fits first Truth place) (read (rounds (chain_part u (joint_mark j) (other_mark j) (joined_by j)) (begun_with first place)) left)
 chain_tests u j first place ts left p =
     ap (λ r. r >>= λ a. read (checks (fits first Truth place) (rounds (chain_part u (joint_mark j) (other_mark j) (joined_by j)) (begun_with first place))) a.1) p
 
 -- what follows the first comparison
-abbrev pub after_first : Grammar Operand → Operand → ℕ → Grammar Operand
+abbrev pub after_first : (Wanted → Grammar Operand) → Operand → ℕ → Grammar Operand
 after_first u first place =
     choice (chain_of u mark.And mark.Or conjunction first place)
     (choice (chain_of u mark.Or mark.And disjunction first place)

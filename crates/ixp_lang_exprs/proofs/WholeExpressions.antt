@@ -25,7 +25,7 @@ use Rattle.ixp_lang_exprs.specs.declared.env.Signature.{Signature}
 use Rattle.ixp_lang_exprs.specs.declared.wanted.Wanted.{Wanted}
 use Rattle.ixp_lang_exprs.specs.declared.types.ValueType.{ValueType}
 use Rattle.ixp_lang_exprs.specs.declared.types.ValueType.TheVariants.{Bool as Truth}
-use Rattle.ixp_lang_exprs.specs.Operands.{Operand, one_type}
+use Rattle.ixp_lang_exprs.specs.Operands.{Operand, anything, one_type}
 use Rattle.ixp_lang_exprs.specs.Expressions.{Place, has_parts, length_of, part_in, word_in, attribute_in, outside_define, check_word, operator_in, literal_in, front_in, attribute_form, Shape, plain, arguments, roa_values, part_end_in, may_go_on, may_end, Parts, part_form, some_parts, no_parts, with_part, ends_with, wanted_part, enclosed, Chain, chained, comparison_of, chain_part, chain_of, expression_of, Deeper, nothing, deeper, opened, negation_form, plain_form, call_form, name_form, named_form, called, check_form, roa_table, set_form, operand_form, unary_form, expression_form, front}
 use Rattle.ixp_lang_exprs.proofs.KnownTokens.{literals, checks_word, attributes, operators, parts, part_ends, known_literal, known_part, known_attribute, known_check, known_operator, known_part_end, front_tokens, known_front_token}
 use Rattle.ixp_lang_exprs.proofs.ClearExpressions.{operand_starts, unary_look, comparison_look, expression_bars, expression_look, behind_name, clear_chain_rounds, clear_part_text, clear_parts_rounds, clear_unary}
@@ -52,20 +52,21 @@ part_attribute at = record { supplied = supplied_takes _; clearly = clear_token 
 part_check : (at : Place) → Part (takes (word_in (outside_define at check_word))) (takes (word_in (outside_define at check_word))) (token_look checks_word) []
 part_check at = record { supplied = supplied_takes _; clearly = clear_token _ _ (known_check at) }
 
-whole_attribute_text : (a : Attr) → Whole (attribute_form a) (attribute_form a) (record { leads = false; full = false; starts = marked mark.Dot ∷ []; ends = marked mark.Dot ∷ [] }) []
-whole_attribute_text a =
-    whole_right (part_only (has_parts a) (part_of (whole_then (whole_mark mark.Dot) (λ x. whole_then (whole_part a) (λ p. whole_gives _))))) (whole_gives _) refl refl
+whole_attribute_text : (wanted : Wanted) (a : Attr) → Whole (attribute_form wanted a) (attribute_form wanted a) (record { leads = false; full = false; starts = marked mark.Dot ∷ []; ends = marked mark.Dot ∷ [] }) []
+whole_attribute_text wanted a =
+    whole_checks
+    (whole_right (part_only (has_parts a) (part_of (whole_then (whole_mark mark.Dot) (λ x. whole_then (whole_part a) (λ p. whole_gives _))))) (whole_gives _) refl refl)
 
 -- Chains.
 
-module _ (unary upper : Grammar Operand) (w : Whole unary upper unary_look []) where
+module _ (unary upper : Wanted → Grammar Operand) (w : (wanted : Wanted) → Whole (unary wanted) (upper wanted) unary_look []) where
   whole_comparison : (wanted : Wanted) → Whole (comparison_of unary wanted) (comparison_of upper wanted) comparison_look []
   whole_comparison wanted =
       whole_wider
-      (whole_sequence w (λ left.
+      (whole_sequence (w wanted) (λ left.
       whole_checks
       (whole_here (λ place.
-      whole_choice (whole_then whole_operator (λ o. whole_checks (whole_sequence w (λ right. whole_checks (whole_gives _)) refl refl))) (whole_gives _) refl refl))) refl refl)
+      whole_choice (whole_then whole_operator (λ o. whole_checks (whole_sequence (w anything) (λ right. whole_checks (whole_gives _)) refl refl))) (whole_gives _) refl refl))) refl refl)
       refl refl
 
   module _ (joint other : Mark) (joined : ExprTrees → ExprTree) where
@@ -107,9 +108,9 @@ module _ (unary upper : Grammar Operand) (w : Whole unary upper unary_look []) w
           can_end (chain_part upper joint other joined t) (rounds (chain_part upper joint other joined) u) (whole_chain_part apart t).clearly.clear (onward u)
           (text_behind (chain_part upper joint other joined t) (rounds (chain_part upper joint other joined) u) (full_look operand_starts (marked joint ∷ marked mark.Dot ∷ operators))
           (full_look operand_starts (marked joint ∷ marked mark.Dot ∷ operators)) (marked other ∷ []) (marked other ∷ []) (whole_chain_part apart t).clearly
-          (clear_chain_rounds upper w.clearly joint other joined apart u) free (last_part u) (onward u)))
+          (clear_chain_rounds upper (λ wanted. (w wanted).clearly) joint other joined apart u) free (last_part u) (onward u)))
           (λ t u i j. can_follow (chain_part upper joint other joined t) (rounds (chain_part upper joint other joined) u) (whole_chain_part apart t).clearly.clear (onward u));
-      clearly = clear_chain_rounds upper w.clearly joint other joined apart chain;
+      clearly = clear_chain_rounds upper (λ wanted. (w wanted).clearly) joint other joined apart chain;
       text = last_part chain;
     }
 
@@ -294,21 +295,21 @@ module _ (expression longer_one : Wanted → Grammar Operand) (w : (wanted : Wan
 -- What stands alone, and what it is where more levels are left.
 
 pub data Above : Deeper → Deeper → Type 1 where
-  first_level : (upper : Grammar Operand) → Clearly upper unary_look [] → HasText upper → Above nothing (deeper upper)
-  next_level : (unary upper : Grammar Operand) → Whole unary upper unary_look [] → Above (deeper unary) (deeper upper)
+  first_level : (upper : Wanted → Grammar Operand) → ((wanted : Wanted) → Clearly (upper wanted) unary_look []) → ((wanted : Wanted) → HasText (upper wanted)) → Above nothing (deeper upper)
+  next_level : (unary upper : Wanted → Grammar Operand) → ((wanted : Wanted) → Whole (unary wanted) (upper wanted) unary_look []) → Above (deeper unary) (deeper upper)
 
 -- what a check always refuses is supplied by what it checks
 refused_is : (upper : Grammar Operand) → Clearly upper unary_look [] → HasText upper → Whole (checks (Some (Deep, 0)) upper) upper unary_look []
 refused_is upper known text = record { supplied = supplied_end (checks (Some (Deep, 0)) upper) upper (λ x. refl) (λ x. inr (inl (x.1, refl))); clearly = known; text = text }
 
-whole_opened : {A : Type 0} {f : Grammar Operand → Grammar A} {l : Look} (m : Mark) (inner outer : Deeper) → Above inner outer
-    → ((unary upper : Grammar Operand) → Whole unary upper unary_look [] → Whole (f unary) (f upper) l []) → Whole (opened m inner f) (opened m outer f) (full_look (marked m ∷ []) l.ends) []
-whole_opened m _ _ (first_level upper known text) wf = whole_level m (λ x. wf (checks (Some (Deep, 0)) upper) upper (refused_is upper known text))
+whole_opened : {A : Type 0} {f : (Wanted → Grammar Operand) → Grammar A} {l : Look} (m : Mark) (inner outer : Deeper) → Above inner outer
+    → ((unary upper : Wanted → Grammar Operand) → ((wanted : Wanted) → Whole (unary wanted) (upper wanted) unary_look []) → Whole (f unary) (f upper) l []) → Whole (opened m inner f) (opened m outer f) (full_look (marked m ∷ []) l.ends) []
+whole_opened m _ _ (first_level upper known text) wf = whole_level m (λ x. wf (λ wanted. checks (Some (Deep, 0)) (upper wanted)) upper (λ wanted. refused_is (upper wanted) (known wanted) (text wanted)))
 whole_opened m _ _ (next_level unary upper w) wf = whole_then (whole_mark m) (λ x. wf unary upper w)
 
 whole_negation : (inner outer : Deeper) → Above inner outer → Whole (negation_form inner) (negation_form outer) (full_look (marked mark.Not ∷ []) (marked mark.Dot ∷ [])) []
 whole_negation inner outer above =
-    whole_here (λ place. whole_opened mark.Not inner outer above (λ unary upper w. whole_sequence w (λ operand. whole_checks (whole_gives _)) refl refl))
+    whole_here (λ place. whole_opened mark.Not inner outer above (λ unary upper w. whole_sequence (w anything) (λ operand. whole_checks (whole_gives _)) refl refl))
 
 whole_plain : (at : Place) (inner outer : Deeper) → Above inner outer → Whole (plain_form at inner) (plain_form at outer) (token_look (marked mark.Open ∷ [])) []
 whole_plain at inner outer above =
@@ -345,29 +346,29 @@ whole_set : (at : Place) (inner outer : Deeper) → Above inner outer → Whole 
 whole_set at _ _ (first_level upper known text) = whole_then (whole_mark mark.SetOpen) (λ x. whole_then (whole_elements at.names false) (λ s. whole_gives _))
 whole_set at _ _ (next_level unary upper w) = whole_then (whole_mark mark.SetOpen) (λ x. whole_then (whole_elements at.names true) (λ s. whole_gives _))
 
-whole_operand : (at : Place) (inner outer : Deeper) → Above inner outer → Whole (operand_form at inner) (operand_form at outer) unary_look []
+whole_operand : (at : Place) (inner outer : Deeper) → Above inner outer → (wanted : Wanted) → Whole (operand_form at inner wanted) (operand_form at outer wanted) unary_look []
 unfolding operand_form
-whole_operand at inner outer above =
+whole_operand at inner outer above wanted =
     whole_wider
     (whole_right (part_of (whole_negation inner outer above))
     (whole_right (part_of (whole_plain at inner outer above))
     (whole_right (part_check_text at inner outer above)
     (whole_right (part_of (whole_named at inner outer above))
     (whole_left whole_literal
-    (part_choice (part_then (part_attribute at) whole_attribute_text) (part_of (whole_set at inner outer above)) refl refl)
+    (part_choice (part_then (part_attribute at) (whole_attribute_text wanted)) (part_of (whole_set at inner outer above)) refl refl)
     refl refl) refl refl) refl refl) refl refl) refl refl)
     refl refl
 
 -- a number is a text at any place and number of levels
-operand_has_text : (at : Place) (inner : Deeper) → HasText (operand_form at inner)
+operand_has_text : (at : Place) (inner : Deeper) (wanted : Wanted) → HasText (operand_form at inner wanted)
 unfolding operand_form
-operand_has_text at inner p = (_, kind.Number 0 ∷ [], pred p, inr (inr (inr (inr (inl (refl, refl))))))
+operand_has_text at inner wanted p = (_, kind.Number 0 ∷ [], pred p, inr (inr (inr (inr (inl (refl, refl))))))
 
-unary_has_text : (at : Place) (levels : ℕ) → HasText (unary_form at levels)
+unary_has_text : (at : Place) (levels : ℕ) (wanted : Wanted) → HasText (unary_form at levels wanted)
 unary_has_text at zero = operand_has_text at nothing
 unary_has_text at (suc levels) = operand_has_text at (deeper (unary_form at levels))
 
-whole_unary : (at : Place) (levels more : ℕ) → levels < more → Whole (unary_form at levels) (unary_form at more) unary_look []
+whole_unary : (at : Place) (levels more : ℕ) → levels < more → (wanted : Wanted) → Whole (unary_form at levels wanted) (unary_form at more wanted) unary_look []
 whole_unary at levels zero less = absurd (omega arith)
 whole_unary at zero (suc more) less = whole_operand at nothing (deeper (unary_form at more)) (first_level (unary_form at more) (clear_unary at more) (unary_has_text at more))
 whole_unary at (suc levels) (suc more) less =

@@ -104,11 +104,12 @@ literal_in _ = None
 abbrev pub bare_attribute : Attr → Operand
 bare_attribute attr = record { tree = attribute attr; ty = attribute_type attr; is_open = has_parts attr; misfit = None }
 
--- an attribute, which a dot and a word make another one
-abbrev pub attribute_form : Attr → Grammar Operand
-attribute_form attr =
-    choice (only (has_parts attr) (sequence (the_mark mark.Dot) (λ tt. sequence (takes (word_in (part_in attr))) (λ part. gives (closed (attribute part) (attribute_type part))))))
-    (gives (bare_attribute attr))
+-- an attribute, which a dot and a word make another one; neither stands where it is in vain
+abbrev pub attribute_form : Wanted → Attr → Grammar Operand
+attribute_form wanted attr =
+    checks (in_vain wanted (bare_attribute attr))
+    (choice (only (has_parts attr) (sequence (the_mark mark.Dot) (λ tt. sequence (takes (word_in (part_in attr))) (λ part. gives (closed (attribute part) (attribute_type part))))))
+    (gives (bare_attribute attr)))
 
 -- Why a name that is no value stands in vain. What a definition calls is no name of the wrong sort: no text
 -- calls there.
@@ -323,18 +324,18 @@ part_joint joint other joined chain part =
     (sequence (the_mark joint) (λ tt. checks (option_map misfit_at (part_misfit part chain.place)) (gives (onward (longer chain part place)))))
     (gives (done (chained joined chain part)))))
 
--- Over what stands alone at a level, `unary`.
-module _ (unary : Grammar Operand) where
+-- Over what stands alone at a level, `unary`, where an expression that begins with it is wanted.
+module _ (unary : Wanted → Grammar Operand) where
   -- an operand, or a comparison of two
   abbrev pub comparison_of : Wanted → Grammar Operand
   comparison_of wanted =
-      sequence unary (λ left.
+      sequence (unary wanted) (λ left.
       checks (in_vain wanted left)
       (here (λ place.
       choice
       (sequence (takes operator_in) (λ op.
       checks (option_or (fits_left op left place) (no_truth wanted))
-      (sequence unary (λ right. checks (refused_now op left right place) (gives (compared_operand op left right place))))))
+      (sequence (unary anything) (λ right. checks (refused_now op left right place) (gives (compared_operand op left right place))))))
       (gives left))))
 
   -- one more part of a chain, and whether the chain goes on
@@ -358,14 +359,14 @@ module _ (unary : Grammar Operand) where
 -- what stands alone one level deeper, if a level is left
 pub data Deeper : Type 1 where
   nothing : Deeper
-  deeper : Grammar Operand → Deeper
+  deeper : (Wanted → Grammar Operand) → Deeper
 
 abbrev pub is_left : Deeper → Bool
 is_left nothing = false
 is_left (deeper unary) = true
 
 -- a mark that opens a level, and what stands behind it
-abbrev pub opened : {A : Type 0} → Mark → Deeper → (Grammar Operand → Grammar A) → Grammar A
+abbrev pub opened : {A : Type 0} → Mark → Deeper → ((Wanted → Grammar Operand) → Grammar A) → Grammar A
 opened mark (deeper unary) f = sequence (the_mark mark) (λ tt. f unary)
 opened mark nothing f = bars (is_next (is_mark mark)) Deep never
 
@@ -373,7 +374,7 @@ abbrev pub negation_form : Deeper → Grammar Operand
 negation_form inner =
     here (λ place.
     opened mark.Not inner (λ unary.
-    sequence unary (λ operand. checks (fits_negation operand place) (gives (negated operand)))))
+    sequence (unary anything) (λ operand. checks (fits_negation operand place) (gives (negated operand)))))
 
 -- an expression in parentheses, a pair or a triple
 abbrev pub plain_form : Place → Deeper → Grammar Operand
@@ -418,23 +419,23 @@ set_form at inner =
     sequence (the_mark mark.SetOpen) (λ tt. sequence (elements at.names (is_left inner)) (λ s. gives (closed (set_literal s.0) s.1)))
 
 -- what stands alone
-unfoldable pub operand_form : Place → Deeper → Grammar Operand
-operand_form at inner =
+unfoldable pub operand_form : Place → Deeper → Wanted → Grammar Operand
+operand_form at inner wanted =
     choice (negation_form inner)
     (choice (plain_form at inner)
     (choice (check_form at inner)
     (choice (named_form at inner)
     (choice (takes literal_in)
-    (choice (sequence (takes (word_in (outside_define at attribute_in))) attribute_form)
+    (choice (sequence (takes (word_in (outside_define at attribute_in))) (attribute_form wanted))
     (set_form at inner))))))
 
 -- what stands alone, with so many levels below it at most
-abbrev pub unary_form : Place → ℕ → Grammar Operand
+abbrev pub unary_form : Place → ℕ → Wanted → Grammar Operand
 unary_form at zero = operand_form at nothing
 unary_form at (suc levels) = operand_form at (deeper (unary_form at levels))
 
 -- An expression, with so many levels below it at most. Its first operand alone is tested against what is
--- wanted of it, as far as no token behind could help; what may stand behind the expression is tested before
+-- wanted of it, as far as no token behind could help, an attribute before a dot is read; what may stand behind the expression is tested before
 -- its type is.
 abbrev pub expression_form : Place → ℕ → Wanted → Grammar Operand
 expression_form at levels wanted = expression_of (unary_form at levels) wanted

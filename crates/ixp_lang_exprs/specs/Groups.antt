@@ -19,6 +19,7 @@ use Rattle.ixp_lang_exprs.specs.declared.group.Opened.{Opened}
 use Rattle.ixp_lang_exprs.specs.declared.group.Opening.{Opening}
 use Rattle.ixp_lang_exprs.specs.declared.group.Opening.TheVariants as opening
 use Rattle.ixp_lang_exprs.specs.declared.types.ValueType.TheVariants.{State}
+use Rattle.ixp_lang_exprs.specs.declared.wanted.Wanted.{Wanted}
 use Rattle.ixp_lang_exprs.specs.Names.{names_of}
 use Rattle.ixp_lang_exprs.specs.Lists.{never}
 use Rattle.ixp_lang_exprs.specs.Sets.{elements}
@@ -100,7 +101,7 @@ partless at plain place tokens = None
 partless at roa_values place tokens = None
 
 -- what stands alone one level deeper, where so many levels are left
-abbrev pub below_if : Bool → Grammar Operand → Deeper
+abbrev pub below_if : Bool → (Wanted → Grammar Operand) → Deeper
 below_if true unary = nothing
 below_if false unary = deeper unary
 
@@ -110,17 +111,17 @@ below at depth = below_if (depth == 0) (unary_form at (depth - 1))
 abbrev pub set_in : Place → Bool → Grammar Operand
 set_in at is_level_left = sequence (the_mark mark.SetOpen) (λ tt. sequence (elements at.names is_level_left) (λ s. gives (closed (set_literal s.0) s.1)))
 
-abbrev pub attribute_or_set : Place → Bool → Grammar Operand
-attribute_or_set at is_level_left = choice (sequence (takes (word_in (outside_define at attribute_in))) attribute_form) (set_in at is_level_left)
+abbrev pub attribute_or_set : Place → Wanted → Bool → Grammar Operand
+attribute_or_set at wanted is_level_left = choice (sequence (takes (word_in (outside_define at attribute_in))) (attribute_form wanted)) (set_in at is_level_left)
 
 -- literals, attributes and sets
-abbrev pub leaf_form : Place → Bool → Grammar Operand
-leaf_form at is_level_left = choice (takes literal_in) (attribute_or_set at is_level_left)
+abbrev pub leaf_form : Place → Wanted → Bool → Grammar Operand
+leaf_form at wanted is_level_left = choice (takes literal_in) (attribute_or_set at wanted is_level_left)
 
 -- the same, or the name of a value
-abbrev pub atom_form : Place → Bool → Grammar Operand
-atom_form at is_level_left =
-    choice (here (λ place. sequence a_name (λ name. named_value at name place))) (leaf_form at is_level_left)
+abbrev pub atom_form : Place → Wanted → Bool → Grammar Operand
+atom_form at wanted is_level_left =
+    choice (here (λ place. sequence a_name (λ name. named_value at name place))) (leaf_form at wanted is_level_left)
 
 -- the function that is next, where an expression may call one
 abbrev pub call_in : Place → List Kind → Option (List ℕ × Signature × List Kind)
@@ -129,19 +130,19 @@ call_in at (kind.Name name ∷ tokens) = option_map (λ s. (name, s, tokens)) (c
 call_in at (_ ∷ tokens) = None
 
 -- a call, the name of a value, or what has no name
-abbrev pub call_or : Place → Deeper → Grammar Operand
-call_or at inner = choice (named_form at inner) (leaf_form at (is_left inner))
+abbrev pub call_or : Place → Wanted → Deeper → Grammar Operand
+call_or at wanted inner = choice (named_form at inner) (leaf_form at wanted (is_left inner))
 
 -- or `roa_check`
-abbrev pub check_or : Place → Deeper → Grammar Operand
-check_or at inner = choice (check_form at inner) (call_or at inner)
+abbrev pub check_or : Place → Wanted → Deeper → Grammar Operand
+check_or at wanted inner = choice (check_form at inner) (call_or at wanted inner)
 
 -- or what is in parentheses
-abbrev pub plain_or : Place → Deeper → Grammar Operand
-plain_or at inner = choice (plain_form at inner) (check_or at inner)
+abbrev pub plain_or : Place → Wanted → Deeper → Grammar Operand
+plain_or at wanted inner = choice (plain_form at inner) (check_or at wanted inner)
 
 -- what is left to be read where a group begins, and where none does
-abbrev pub from_opening : Place → ℕ → List Kind → Option Opened → Read Operand
-from_opening at depth tokens None = read (atom_form at (nat_lt 0 depth)) tokens
-from_opening at depth tokens (Some opened) =
+abbrev pub from_opening : Place → Wanted → ℕ → List Kind → Option Opened → Read Operand
+from_opening at wanted depth tokens None = read (atom_form at wanted (nat_lt 0 depth)) tokens
+from_opening at wanted depth tokens (Some opened) =
     finishing opened.opening (read (enclosed at (expression_form at (depth - 1)) (shape_of (shape_in opened.opening)) opened.place) (kinds opened.behind.now))

@@ -44,7 +44,7 @@ use crate::operator::{Joint, joint_at, operator_at};
 use crate::parts::Parts;
 use crate::tree::made;
 use crate::types::{takes_left, takes_right};
-use crate::{Context, Signature, Typed, ValueType, Wanted, fits};
+use crate::{Context, Expected, Signature, Typed, ValueType, Wanted, fits};
 use ixp_lang::{Expr, Op};
 use ixp_lang_tokens::{Fault, Mark, Token, after_mark, mark_at};
 use std::alloc::Global;
@@ -251,22 +251,28 @@ impl Chain {
     }
 }
 
-/// An operand: a negation, what begins with a parenthesis, or what has none.
+/// An operand: a negation, what begins with a parenthesis, or what has none. What is wanted is an expression
+/// that begins with it.
 #[cycle(expr)]
 fn unary<'t>(
     cx: Context<'_>,
     depth: u32,
+    wanted: Wanted,
     tokens: &'t [Token],
 ) -> Result<(Typed, &'t [Token]), Fault>
     ensures reads { Gives (λ x. (operand_of x.0, kinds x.1.now)) result
-        (read (unary_form (place_of cx.entry) depth) (kinds tokens.now)) }
+        (read (unary_form (place_of cx.entry) depth wanted) (kinds tokens.now)) }
     ensures shorter { IfOk result (λ x. length x.1.now < length tokens.now) }
 {
     if let Some(behind) = after_mark(Mark::Not, tokens) {
         if depth == 0 {
             return Err(deep(tokens));
         }
-        let (operand, rest) = unary(cx, depth - 1, behind)?;
+        let any = Wanted {
+            expected: Expected::Anything,
+            place: 0,
+        };
+        let (operand, rest) = unary(cx, depth - 1, any, behind)?;
         return negated(cx.alloc, operand, tokens.len(), rest);
     }
     match opening_at(cx, depth, tokens)? {
@@ -277,7 +283,7 @@ fn unary<'t>(
             let typed = made(cx.alloc, opened.opening, parts)?;
             Ok((typed, rest))
         }
-        None => atom_at(cx, depth, tokens),
+        None => atom_at(cx, depth, wanted, tokens),
     }
 }
 
@@ -293,13 +299,17 @@ fn comparison<'t>(
         (read (comparison_of (unary_form (place_of cx.entry) depth) wanted) (kinds tokens.now)) }
     ensures shorter { IfOk result (λ x. length x.1.now < length tokens.now) }
 {
-    let (left, rest) = unary(cx, depth, tokens)?;
+    let (left, rest) = unary(cx, depth, wanted, tokens)?;
     wanted.begins(&left)?;
     let Some((op, behind)) = operator_at(rest) else {
         return Ok((left, rest));
     };
     fits_wanted(wanted, op, &left, rest.len())?;
-    let (right, end) = unary(cx, depth, behind)?;
+    let any = Wanted {
+        expected: Expected::Anything,
+        place: 0,
+    };
+    let (right, end) = unary(cx, depth, any, behind)?;
     compared_operand(cx.alloc, op, left, right, (rest.len(), end))
 }
 

@@ -17,6 +17,7 @@ ghost use Rattle.ixp_lang_tokens.specs.Pieces.{if_so};
 ghost use Rattle.ixp_lang_tokens.specs.Reading.{read, kinds, Gives};
 ghost use Rattle.ixp_lang_exprs.specs.Answers.{Refuses, Leads, Begun};
 ghost use Rattle.ixp_lang_exprs.specs.declared.group.Opening.TheVariants.{Call, Check};
+ghost use Rattle.ixp_lang_exprs.specs.declared.wanted.Wanted.{Wanted};
 ghost use Rattle.ixp_lang_exprs.specs.Lists.{never, first_in};
 ghost use Rattle.ixp_lang_exprs.specs.Groups.{
   least,
@@ -394,8 +395,8 @@ fn call_opening_at<'e, 't>(
     depth: u32,
     tokens: &'t [Token],
 ) -> Result<Option<Opened<'e, 't>>, Fault>
-    ensures reads { Leads (from_opening (place_of cx.entry) depth (kinds tokens.now)) result
-        (read (call_or (place_of cx.entry) (below (place_of cx.entry) depth)) (kinds tokens.now)) }
+    ensures reads { (wanted : Wanted) → Leads (from_opening (place_of cx.entry) wanted depth (kinds tokens.now)) result
+        (read (call_or (place_of cx.entry) wanted (below (place_of cx.entry) depth)) (kinds tokens.now)) }
     ensures deep { IfOk result (λ o. IfSome o (λ _. 0 < depth)) }
     ensures shorter { IfOk result (λ o. IfSome o (λ x. length x.behind.now < length tokens.now)) }
 {
@@ -431,8 +432,8 @@ fn check_opening_at<'e, 't>(
     depth: u32,
     tokens: &'t [Token],
 ) -> Result<Option<Opened<'e, 't>>, Fault>
-    ensures reads { Leads (from_opening (place_of cx.entry) depth (kinds tokens.now)) result
-        (read (check_or (place_of cx.entry) (below (place_of cx.entry) depth)) (kinds tokens.now)) }
+    ensures reads { (wanted : Wanted) → Leads (from_opening (place_of cx.entry) wanted depth (kinds tokens.now)) result
+        (read (check_or (place_of cx.entry) wanted (below (place_of cx.entry) depth)) (kinds tokens.now)) }
     ensures deep { IfOk result (λ o. IfSome o (λ _. 0 < depth)) }
     ensures shorter { IfOk result (λ o. IfSome o (λ x. length x.behind.now < length tokens.now)) }
 {
@@ -455,8 +456,8 @@ pub(crate) fn opening_at<'e, 't>(
     depth: u32,
     tokens: &'t [Token],
 ) -> Result<Option<Opened<'e, 't>>, Fault>
-    ensures reads { Leads (from_opening (place_of cx.entry) depth (kinds tokens.now)) result
-        (read (plain_or (place_of cx.entry) (below (place_of cx.entry) depth)) (kinds tokens.now)) }
+    ensures reads { (wanted : Wanted) → Leads (from_opening (place_of cx.entry) wanted depth (kinds tokens.now)) result
+        (read (plain_or (place_of cx.entry) wanted (below (place_of cx.entry) depth)) (kinds tokens.now)) }
     ensures deep { IfOk result (λ o. IfSome o (λ _. 0 < depth)) }
     ensures shorter { IfOk result (λ o. IfSome o (λ x. length x.behind.now < length tokens.now)) }
 {

@@ -8,7 +8,7 @@ ghost use Rattle.ixp_lang_tokens.specs.Reading.{read, kinds, Gives};
 ghost use Rattle.ixp_lang_exprs.specs.Types.{attribute_type};
 ghost use Rattle.ixp_lang_exprs.specs.Lists.{first_in};
 ghost use Rattle.ixp_lang_exprs.specs.Groups.{place_of, set_in, attribute_or_set, leaf_form, atom_form};
-ghost use Rattle.ixp_lang_exprs.specs.Answers.{fault_of};
+ghost use Rattle.ixp_lang_exprs.specs.Answers.{fault_of, Refuses};
 ghost use Rattle.ixp_lang_exprs.specs.Expressions.{
   literal_word,
   literal_in,
@@ -16,7 +16,7 @@ ghost use Rattle.ixp_lang_exprs.specs.Expressions.{
   no_value,
   named_value,
 };
-ghost use Rattle.ixp_lang_exprs.specs.Operands.{operand_of, closed};
+ghost use Rattle.ixp_lang_exprs.specs.Operands.{operand_of, closed, in_vain};
 ghost use Rattle.ixp_lang_exprs.specs.Expressions.{
   truth_in,
   state_in,
@@ -30,7 +30,7 @@ ghost use Rattle.ixp_lang_exprs.specs.Expressions.{is_path, part_in, word_in, ba
 use crate::context::unknown;
 use crate::set::set_at;
 use crate::types::attribute_type;
-use crate::{Context, Typed, ValueType};
+use crate::{Context, Typed, ValueType, Wanted};
 use ixp_lang::{Attr, Expr, Value};
 use ixp_lang_tokens::{Fault, Kind, Mark, Token, after_mark, mark_at, unexpected};
 use ixp_num::{Name, Validity};
@@ -188,12 +188,21 @@ fn bare_attribute(attr: Attr) -> Typed
     typed
 }
 
-/// The attribute, which a dot and a word make another one.
-fn attribute_at(attr: Attr, tokens: &[Token]) -> Result<(Typed, &[Token]), Fault>
+/// Whether the expression that begins with this attribute, or with a part of it, can be what is wanted.
+fn may_begin(wanted: Wanted, attr: Attr) -> Result<(), Fault>
+    ensures { Refuses result (in_vain wanted (bare_attribute attr)) }
+{
+    let bare = bare_attribute(attr);
+    wanted.begins(&bare)
+}
+
+/// The attribute, which a dot and a word make another one. It is refused before the dot, where it is in vain.
+fn attribute_at(wanted: Wanted, attr: Attr, tokens: &[Token]) -> Result<(Typed, &[Token]), Fault>
     ensures reads { Gives (λ x. (operand_of x.0, kinds x.1.now)) result
-        (read (attribute_form attr) (kinds tokens.now)) }
+        (read (attribute_form wanted attr) (kinds tokens.now)) }
     ensures shorter { IfOk result (λ x. length x.1.now ≤ length tokens.now) }
 {
+    may_begin(wanted, attr)?;
     if has_parts(attr)
         && let Some(after) = after_mark(Mark::Dot, tokens)
     {
@@ -310,26 +319,28 @@ fn set_in<'t>(
 fn attribute_or_set_at<'t>(
     cx: Context<'_>,
     depth: u32,
+    wanted: Wanted,
     tokens: &'t [Token],
 ) -> Result<(Typed, &'t [Token]), Fault>
     ensures reads { Gives (λ x. (operand_of x.0, kinds x.1.now)) result
-        (read (attribute_or_set (place_of cx.entry) (nat_lt 0 depth)) (kinds tokens.now)) }
+        (read (attribute_or_set (place_of cx.entry) wanted (nat_lt 0 depth)) (kinds tokens.now)) }
     ensures shorter { IfOk result (λ x. length x.1.now < length tokens.now) }
 {
     let Some((attr, behind)) = attribute_next(cx, tokens) else {
         return set_in(cx, depth, tokens);
     };
-    attribute_at(attr, behind)
+    attribute_at(wanted, attr, behind)
 }
 
 /// A literal, an attribute or a set.
 fn leaf_at<'t>(
     cx: Context<'_>,
     depth: u32,
+    wanted: Wanted,
     tokens: &'t [Token],
 ) -> Result<(Typed, &'t [Token]), Fault>
     ensures reads { Gives (λ x. (operand_of x.0, kinds x.1.now)) result
-        (read (leaf_form (place_of cx.entry) (nat_lt 0 depth)) (kinds tokens.now)) }
+        (read (leaf_form (place_of cx.entry) wanted (nat_lt 0 depth)) (kinds tokens.now)) }
     ensures shorter { IfOk result (λ x. length x.1.now < length tokens.now) }
 {
     let [first, rest @ ..] = tokens else {
@@ -338,17 +349,18 @@ fn leaf_at<'t>(
     if let Some(typed) = literal_of(&first.kind) {
         return Ok((typed, rest));
     }
-    attribute_or_set_at(cx, depth, tokens)
+    attribute_or_set_at(cx, depth, wanted, tokens)
 }
 
 /// An operand without parentheses and negations around it.
 pub(crate) fn atom_at<'t>(
     cx: Context<'_>,
     depth: u32,
+    wanted: Wanted,
     tokens: &'t [Token],
 ) -> Result<(Typed, &'t [Token]), Fault>
     ensures reads { Gives (λ x. (operand_of x.0, kinds x.1.now)) result
-        (read (atom_form (place_of cx.entry) (nat_lt 0 depth)) (kinds tokens.now)) }
+        (read (atom_form (place_of cx.entry) wanted (nat_lt 0 depth)) (kinds tokens.now)) }
     ensures shorter { IfOk result (λ x. length x.1.now < length tokens.now) }
 {
     let [first, rest @ ..] = tokens else {
@@ -356,6 +368,6 @@ pub(crate) fn atom_at<'t>(
     };
     match &first.kind {
         Kind::Name(name) => name_leaf(cx, name.get(), tokens, rest),
-        _ => leaf_at(cx, depth, tokens),
+        _ => leaf_at(cx, depth, wanted, tokens),
     }
 }

@@ -6,15 +6,18 @@ use Rattle.ixp_lang_tokens.specs.declared.token.Kind.{Kind}
 use Rattle.ixp_lang_tokens.specs.declared.fault.Cause.{Cause}
 use Rattle.ixp_lang_tokens.specs.Grammars.{takes, Took}
 use Rattle.ixp_lang.specs.Trees.{ExprTree, comparison}
+use Rattle.ixp_lang.specs.declared.expr.Attr.{Attr}
+use Rattle.ixp_lang.specs.declared.expr.Attr.TheVariants as attr
 use Rattle.ixp_lang.specs.declared.expr.Op.{Op}
 use Rattle.ixp_lang.specs.declared.expr.Op.TheVariants as op
 use Rattle.ixp_lang_exprs.specs.declared.types.ValueType.{ValueType}
 use Rattle.ixp_lang_exprs.specs.declared.types.ValueType.TheVariants.{Int, Bool as Truth}
 use Rattle.ixp_lang_exprs.specs.declared.wanted.Wanted.{Wanted}
-use Rattle.ixp_lang_exprs.specs.Types.{same_type, is_comparable, is_sought, is_compared, is_expected, takes_left, takes_right}
+use Rattle.ixp_lang_exprs.specs.Types.{same_type, attribute_type, is_comparable, is_sought, is_compared, is_expected, takes_left, takes_right}
 use Rattle.ixp_lang_exprs.specs.Lists.{never}
 use Rattle.ixp_lang_exprs.specs.Sets.{unless_so, if_missing}
 use Rattle.ixp_lang_exprs.specs.Operands.{Operand, misfit_at, settled, fits, fits_left, in_vain, no_truth, refused_now, compared_operand}
+use Rattle.ixp_lang_exprs.specs.Expressions.{bare_attribute, has_parts}
 pub use Rattle.ixp_lang_laws.proofs.Misfits.{Within, within_same, within_more, both_none, is_so, none_settled, if_none, none_part, none_unfit}
 
 pub within_less : (n m : ℕ) → Within (suc n) m → Within n m
@@ -87,6 +90,33 @@ left_compared op.Ge Int e = refl
 left_compared op.Ge _ e = absurd cc
 left_compared op.In t e = or_right (is_comparable t) (is_sought t) e
 left_compared op.NotIn t e = or_right (is_comparable t) (is_sought t) e
+
+-- what begins with an operand of such a type may be wanted: the operand, or what compares it
+abbrev pub Begins : Wanted → ValueType → Type 0
+Begins wanted t = (is_expected wanted.expected t || (is_compared t && is_expected wanted.expected Truth)) ≡ true
+
+pub begins_alone : (wanted : Wanted) (t : ValueType) → Wants wanted t → Begins wanted t
+begins_alone wanted t wants = or_left (is_expected wanted.expected t) _ wants
+
+pub begins_compared : (wanted : Wanted) (op : Op) (t : ValueType) → takes_left op t ≡ true → Wants wanted Truth → Begins wanted t
+begins_compared wanted op t left wants = or_right (is_expected wanted.expected t) _ (and_from (is_compared t) (is_expected wanted.expected Truth) (left_compared op t left) wants)
+
+or_between : (a b c : Bool) → (a || c) ≡ true → (a || (b || c)) ≡ true
+or_between true b c e = refl
+or_between false b c e = or_right b c e
+
+-- an attribute of such a type is no vain beginning
+pub attribute_hope : (wanted : Wanted) (a : Attr) → Begins wanted (attribute_type a) → in_vain wanted (bare_attribute a) ≡ None
+attribute_hope wanted a begins =
+    so_again _ _ (or_between (is_expected wanted.expected (attribute_type a)) (has_parts a && is_expected wanted.expected Int) (is_compared (attribute_type a) && is_expected wanted.expected Truth) begins)
+
+-- nor is one whose parts, which are numbers, are of such a type
+pub part_hope : (wanted : Wanted) (a : Attr) → has_parts a ≡ true → Begins wanted Int → in_vain wanted (bare_attribute a) ≡ None
+part_hope wanted attr.Net parts begins = so_again _ _ (or_right (is_expected wanted.expected (attribute_type attr.Net)) _ begins)
+part_hope wanted attr.Path parts begins = so_again _ _ (or_right (is_expected wanted.expected (attribute_type attr.Path)) _ begins)
+part_hope wanted attr.Pairs parts begins = so_again _ _ (or_right (is_expected wanted.expected (attribute_type attr.Pairs)) _ begins)
+part_hope wanted attr.Triples parts begins = so_again _ _ (or_right (is_expected wanted.expected (attribute_type attr.Triples)) _ begins)
+part_hope wanted _ parts begins = absurd cc
 
 -- nor is what an operator takes, where a comparison is wanted
 pub compared_hope : (wanted : Wanted) (op : Op) (e : ExprTree) (t : ValueType) (b : Bool) → takes_left op t ≡ true → Wants wanted Truth → in_vain wanted (sound e t b) ≡ None

@@ -16,14 +16,15 @@ use Rattle.ixp_lang_exprs.specs.declared.env.Signature.{Signature}
 use Rattle.ixp_lang_exprs.specs.declared.env.Declared.{Declared}
 use Rattle.ixp_lang_exprs.specs.declared.env.Declared.TheVariants.{Table, Parameter}
 use Rattle.ixp_lang_exprs.specs.declared.context.Scope.{Scope}
+use Rattle.ixp_lang_exprs.specs.declared.wanted.Wanted.{Wanted}
 use Rattle.ixp_lang_exprs.specs.Types.{same_type, attribute_type}
 use Rattle.ixp_lang_exprs.specs.Names.{Names, value_of, is_define}
 use Rattle.ixp_lang_exprs.specs.Sets.{if_missing}
-use Rattle.ixp_lang_exprs.specs.Operands.{Operand, closed, pair_tree, triple_tree, misfit_at}
+use Rattle.ixp_lang_exprs.specs.Operands.{Operand, closed, anything, pair_tree, triple_tree, misfit_at}
 use Rattle.ixp_lang_exprs.specs.Expressions.{Place, plain, arguments, roa_values, Parts, no_parts, part_form, enclosed, plain_tree, plain_operand, check_tree, check_word, no_roa_table, roa_table, called, type_or, no_value, negation_form, plain_form, call_form, name_form, operand_form, unary_form, expression_form, expression_of, literal_in, attribute_in, attribute_form, has_parts, Deeper, nothing, deeper, is_left, opened}
 use Rattle.ixp_print.specs.Texts.{is_compound}
 use Rattle.ixp_lang_laws.specs.Canonical.{expr_tokens, exprs_tokens, set_tokens, sign}
-use Rattle.ixp_lang_laws.proofs.Basics.{Within, sound, took_token, never_took, there, there_again, so_again, is_so}
+use Rattle.ixp_lang_laws.proofs.Basics.{Within, sound, Begins, took_token, never_took, there, there_again, so_again, is_so}
 use Rattle.ixp_lang_laws.proofs.Parentheses.{at, Again, Renewed, Going, Lone, parts_again, same_parts}
 use Rattle.ixp_lang_laws.proofs.Operators.{Alone, Single, single_plain, single_enclosed, expressed_again}
 use Rattle.ixp_lang_laws.proofs.Tokens.{OneToken, literal_again, outside_again, outside_is, is_attribute, attribute_is, attribute_again}
@@ -48,9 +49,9 @@ triple_simple (literal (value.Int l)) (literal (value.Int m)) (literal (value.In
 triple_simple _ _ _ = refl
 
 -- at every level
-any_level : (at : Place) (o : Operand) (ts rest : List Kind) → ((inner : Deeper) → Took (operand_form at inner) o ts rest) → (m : ℕ) → Took (unary_form at m) o ts rest
-any_level at o ts rest took zero = took nothing
-any_level at o ts rest took (suc m) = took (deeper (unary_form at m))
+any_level : (at : Place) (wanted : Wanted) (o : Operand) (ts rest : List Kind) → ((inner : Deeper) → Took (operand_form at inner wanted) o ts rest) → (m : ℕ) → Took (unary_form at m wanted) o ts rest
+any_level at wanted o ts rest took zero = took nothing
+any_level at wanted o ts rest took (suc m) = took (deeper (unary_form at m))
 
 no_table_again : (d : Option Declared) (left other place elsewhere : ℕ) → no_roa_table d left place ≡ None → no_roa_table d other elsewhere ≡ None
 no_table_again None left other place elsewhere e = absurd cc
@@ -60,15 +61,15 @@ no_table_again (Some _) left other place elsewhere e = absurd cc
 
 module _ (names : Names) (scope : Scope) where
   abbrev AloneAgain : ℕ → Type 0
-  AloneAgain n = (s : ℕ) (o : Operand) (ts rest : List Kind) → Took (unary_form (at names scope s) n) o ts rest → Single names scope n o.tree o.ty
+  AloneAgain n = (s : ℕ) (wanted : Wanted) (o : Operand) (ts rest : List Kind) → Took (unary_form (at names scope s) n wanted) o ts rest → Single names scope n o.tree o.ty
 
   abbrev Says : ℕ → Operand → Type 0
   Says n o = Single names scope n o.tree o.ty
 
   -- what needs no level
-  pub flat : (n : ℕ) (e : ExprTree) (t : ValueType) (b : Bool) → is_compound e ≡ false → ((s : ℕ) (rest : List Kind) (inner : Deeper) → Took (operand_form (at names scope s) inner) (sound e t b) (expr_tokens e rest) rest)
+  pub flat : (n : ℕ) (e : ExprTree) (t : ValueType) (b : Bool) → is_compound e ≡ false → ((s : ℕ) (wanted : Wanted) → Begins wanted t → (rest : List Kind) (inner : Deeper) → Took (operand_form (at names scope s) inner wanted) (sound e t b) (expr_tokens e rest) rest)
       → Single names scope n e t
-  flat n e t b simple reads = single_plain names scope n e t simple (λ m w. (b, λ s rest. any_level (at names scope s) (sound e t b) (expr_tokens e rest) rest (reads s rest) m))
+  flat n e t b simple reads = single_plain names scope n e t simple (λ m w. (b, λ s wanted begins rest. any_level (at names scope s) wanted (sound e t b) (expr_tokens e rest) rest (reads s wanted begins rest) m))
 
   pub literal_case : (n : ℕ) (o : Operand) (k : Kind) → literal_in k ≡ Some o → Says n o
   unfolding operand_form
@@ -76,17 +77,17 @@ module _ (names : Names) (scope : Scope) where
     where
       by_token : OneToken o → Says n o
       by_token (v, t, is, token, known, tokens) =
-          subst (λ x. Says n x) (sym is) (flat n (literal v) t false refl (λ s rest inner.
-          subst (λ ts. Took (operand_form (at names scope s) inner) (sound (literal v) t false) ts rest) (sym (tokens rest)) (inr (inr (inr (inr (inl (known, refl))))))))
+          subst (λ x. Says n x) (sym is) (flat n (literal v) t false refl (λ s wanted begins rest inner.
+          subst (λ ts. Took (operand_form (at names scope s) inner wanted) (sound (literal v) t false) ts rest) (sym (tokens rest)) (inr (inr (inr (inr (inl (known, refl))))))))
 
-  attribute_case : (n s : ℕ) (o : Operand) (a : Attr) (ts rest : List Kind) → is_define scope ≡ false → Took (attribute_form a) o ts rest → Says n o
+  attribute_case : (n s : ℕ) (wanted : Wanted) (o : Operand) (a : Attr) (ts rest : List Kind) → is_define scope ≡ false → Took (attribute_form wanted a) o ts rest → Says n o
   unfolding operand_form
-  attribute_case n s o a ts rest outside took = by_attribute (attribute_is a o ts rest took)
+  attribute_case n s wanted o a ts rest outside took = by_attribute (attribute_is wanted a o ts rest took)
     where
       by_attribute : is_attribute o → Says n o
       by_attribute (b, tree, ty) =
           subst (λ e. Single names scope n e o.ty) (sym tree) (subst (λ t. Single names scope n (attribute b) t) (sym ty)
-          (flat n (attribute b) (attribute_type b) (has_parts b) refl (λ s rest inner. inr (inr (inr (inr (inr (inl (attribute_again (at names scope s) b outside rest)))))))))
+          (flat n (attribute b) (attribute_type b) (has_parts b) refl (λ s other begins rest inner. inr (inr (inr (inr (inr (inl (attribute_again (at names scope s) other b outside begins rest)))))))))
 
   -- Sets, whose tuples need a level.
 
@@ -98,14 +99,14 @@ module _ (names : Names) (scope : Scope) where
   level_still zero w e = e
   level_still (suc n) w e = absurd w
 
-  set_spells : (n m : ℕ) → Within n m → (v : SetLit × ValueType) → SetAgain names (level_left n) v → (s : ℕ) (rest : List Kind)
-      → Took (unary_form (at names scope s) m) (sound (set_literal v.0) v.1 false) (set_tokens v.0 rest) rest
+  set_spells : (n m : ℕ) → Within n m → (v : SetLit × ValueType) → SetAgain names (level_left n) v → (s : ℕ) (wanted : Wanted) (rest : List Kind)
+      → Took (unary_form (at names scope s) m wanted) (sound (set_literal v.0) v.1 false) (set_tokens v.0 rest) rest
   unfolding operand_form
-  set_spells n zero w v again s rest = inr (inr (inr (inr (inr (inr (tt, _, (refl, refl), (v, rest, again false (level_still n w) rest, (refl, refl))))))))
-  set_spells n (suc m) w v again s rest = inr (inr (inr (inr (inr (inr (tt, _, (refl, refl), (v, rest, again true (λ e. refl) rest, (refl, refl))))))))
+  set_spells n zero w v again s wanted rest = inr (inr (inr (inr (inr (inr (tt, _, (refl, refl), (v, rest, again false (level_still n w) rest, (refl, refl))))))))
+  set_spells n (suc m) w v again s wanted rest = inr (inr (inr (inr (inr (inr (tt, _, (refl, refl), (v, rest, again true (λ e. refl) rest, (refl, refl))))))))
 
   pub set_case : (n : ℕ) (o : Operand) (v : SetLit × ValueType) → o ≡ closed (set_literal v.0) v.1 → SetAgain names (level_left n) v → Says n o
-  set_case n o v is again = subst (λ x. Says n x) (sym is) (single_plain names scope n (set_literal v.0) v.1 refl (λ m w. (false, λ s rest. set_spells n m w v again s rest)))
+  set_case n o v is again = subst (λ x. Says n x) (sym is) (single_plain names scope n (set_literal v.0) v.1 refl (λ m w. (false, λ s wanted begins rest. set_spells n m w v again s wanted rest)))
 
   -- Arguments.
 
@@ -154,7 +155,7 @@ module _ (names : Names) (scope : Scope) where
     where
       by_value : (t : ValueType) × (value_of scope (names name) ≡ Some t) → Says n o
       by_value (t, known) =
-          subst (λ x. Says n x) (sym is) (flat n (named name) (type_or (value_of scope (names name))) false refl (λ s rest inner. inr (inr (inr (inl (
+          subst (λ x. Says n x) (sym is) (flat n (named name) (type_or (value_of scope (names name))) false refl (λ s wanted begins rest inner. inr (inr (inr (inl (
             name,
             rest,
             (refl, refl),
@@ -171,7 +172,7 @@ module _ (names : Names) (scope : Scope) where
       by_level zero w = absurd w
       by_level (suc m) w = (
         false,
-        λ s rest.
+        λ s wanted begins rest.
             (let behind : List Kind = kind.Mark mark.Open ∷ exprs_tokens (exprs parts.trees) (kind.Mark mark.Close ∷ rest) in
             let place : ℕ = length (kind.Name name ∷ behind) in
             let new = spells m w s place rest in
@@ -213,7 +214,7 @@ module _ (names : Names) (scope : Scope) where
       by_level zero w = absurd w
       by_level (suc m) w = (
         false,
-        λ s rest.
+        λ s wanted begins rest.
             (let values : List Kind = exprs_tokens (exprs (a ∷ b ∷ [])) (kind.Mark mark.Close ∷ rest) in
             let whole : List Kind = expr_tokens (roa_check table a b) rest in
             let new = spells m w s (length whole) (length values) Truth rest in
@@ -278,8 +279,8 @@ module _ (names : Names) (scope : Scope) where
       by_level zero w = absurd w
       by_level (suc m) w = (
         false,
-        λ s rest.
-            subst (λ ts. Took (unary_form (at names scope s) (suc m)) (closed e t) ts rest) (tokens rest)
+        λ s wanted begins rest.
+            subst (λ ts. Took (unary_form (at names scope s) (suc m) wanted) (closed e t) ts rest) (tokens rest)
             (let first : ℕ = length (exprs_tokens (exprs es) (kind.Mark mark.Close ∷ rest)) in
             inr (inl (tt, _, (refl, refl), (same_parts parts first parts.ty, rest, spells m w s s first Truth rest, (is ∙ ap (λ xs. plain_tree xs parts.ty) (sym all), refl))))),
       )
@@ -314,29 +315,29 @@ module _ (names : Names) (scope : Scope) where
       by_level zero w = absurd w
       by_level (suc m) w =
           (let one = alone m w in
-          (false, λ s rest. inl (tt, _, (refl, refl), (sound e t one.0, rest, one.1 s rest, (so_again (same_type t Truth) _ truth, (refl, refl))))))
+          (false, λ s wanted begins rest. inl (tt, _, (refl, refl), (sound e t one.0, rest, one.1 s anything refl rest, (so_again (same_type t Truth) _ truth, (refl, refl))))))
 
   negation_case : (n : ℕ) → Below n → (s : ℕ) (o : Operand) (ts rest : List Kind) → Took (negation_form (inner_at s n)) o ts rest → Says n o
   negation_case zero below s o ts rest (barred, never) = absurd (never_took o ts rest never)
   negation_case (suc n) below s o ts rest (x, mid, not_, (operand, more, took, (fit, (is, same)))) =
-      subst (λ z. Says (suc n) z) (sym is) (negation_spells n operand.tree operand.ty (is_so (same_type operand.ty Truth) _ fit) (below s operand mid more took))
+      subst (λ z. Says (suc n) z) (sym is) (negation_spells n operand.tree operand.ty (is_so (same_type operand.ty Truth) _ fit) (below s anything operand mid more took))
 
   -- All operands.
 
   literal_taken : (n : ℕ) (o : Operand) → (k : Kind) × (literal_in k ≡ Some o) → Says n o
   literal_taken n o (k, e) = literal_case n o k e
 
-  operand_again : (n : ℕ) → Below n → (s : ℕ) (o : Operand) (ts rest : List Kind) → Took (operand_form (at names scope s) (inner_at s n)) o ts rest → Says n o
+  operand_again : (n : ℕ) → Below n → (s : ℕ) (wanted : Wanted) (o : Operand) (ts rest : List Kind) → Took (operand_form (at names scope s) (inner_at s n) wanted) o ts rest → Says n o
   unfolding operand_form
-  operand_again n below s o ts rest (inl took) = negation_case n below s o ts rest took
-  operand_again n below s o ts rest (inr (inl took)) = plain_case n below s o ts rest took
-  operand_again n below s o ts rest (inr (inr (inl (x, mid, word, took)))) =
+  operand_again n below s wanted o ts rest (inl took) = negation_case n below s o ts rest took
+  operand_again n below s wanted o ts rest (inr (inl took)) = plain_case n below s o ts rest took
+  operand_again n below s wanted o ts rest (inr (inr (inl (x, mid, word, took)))) =
       check_case n below s (length ts) o mid rest (let k = took_token _ x ts mid word in outside_is (at names scope s) check_word k.0 x k.1) took
-  operand_again n below s o ts rest (inr (inr (inr (inl (name, mid, token, took))))) = named_case n below s (length ts) o name mid rest (called (at names scope 0) name) refl took
-  operand_again n below s o ts rest (inr (inr (inr (inr (inl took))))) = literal_taken n o (took_token literal_in o ts rest took)
-  operand_again n below s o ts rest (inr (inr (inr (inr (inr (inl (a, mid, word, took))))))) =
-      attribute_case n s o a mid rest (let k = took_token _ a ts mid word in outside_is (at names scope s) attribute_in k.0 a k.1) took
-  operand_again n below s o ts rest (inr (inr (inr (inr (inr (inr (x, mid, open_, (v, more, took, (is, same))))))))) =
+  operand_again n below s wanted o ts rest (inr (inr (inr (inl (name, mid, token, took))))) = named_case n below s (length ts) o name mid rest (called (at names scope 0) name) refl took
+  operand_again n below s wanted o ts rest (inr (inr (inr (inr (inl took))))) = literal_taken n o (took_token literal_in o ts rest took)
+  operand_again n below s wanted o ts rest (inr (inr (inr (inr (inr (inl (a, mid, word, took))))))) =
+      attribute_case n s wanted o a mid rest (let k = took_token _ a ts mid word in outside_is (at names scope s) attribute_in k.0 a k.1) took
+  operand_again n below s wanted o ts rest (inr (inr (inr (inr (inr (inr (x, mid, open_, (v, more, took, (is, same))))))))) =
       set_case n o v is (by_level n v (set_again names (is_left (inner_at s n)) v mid more took))
     where
       by_level : (n : ℕ) (v : SetLit × ValueType) → SetAgain names (is_left (inner_at s n)) v → SetAgain names (level_left n) v
@@ -344,8 +345,8 @@ module _ (names : Names) (scope : Scope) where
       by_level (suc n) v again = again
 
   alone_again : (n : ℕ) → AloneAgain n
-  alone_again zero s o ts rest took = operand_again zero tt s o ts rest took
-  alone_again (suc n) s o ts rest took = operand_again (suc n) (alone_again n) s o ts rest took
+  alone_again zero s wanted o ts rest took = operand_again zero tt s wanted o ts rest took
+  alone_again (suc n) s wanted o ts rest took = operand_again (suc n) (alone_again n) s wanted o ts rest took
 
   -- each expression
   pub expression_again : (n : ℕ) → Again names scope n

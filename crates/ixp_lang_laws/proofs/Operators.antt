@@ -19,7 +19,7 @@ use Rattle.ixp_lang_exprs.specs.Operands.{Operand, misfit_at, fits_left, anythin
 use Rattle.ixp_lang_exprs.specs.Expressions.{operator_in, Chain, begun_with, longer, part_misfit, chained, comparison_of, chain_part, chain_of, expression_of, unary_form, expression_form, operand_form}
 use Rattle.ixp_print.specs.Texts.{is_chain, is_compound}
 use Rattle.ixp_lang_laws.specs.Canonical.{Before, operator, wrapped, expr_tokens, chain_tokens}
-use Rattle.ixp_lang_laws.proofs.Basics.{Within, within_less, sound, so_again, none_settled, none_unfit, none_part, if_none, is_so, none_refused, compared_again, both_none, Wants, truth_wanted, hope_again, compared_hope, left_again}
+use Rattle.ixp_lang_laws.proofs.Basics.{Within, within_less, sound, so_again, none_settled, none_unfit, none_part, if_none, is_so, none_refused, compared_again, both_none, Wants, truth_wanted, begins_alone, begins_compared, hope_again, compared_hope, left_again}
 use Rattle.ixp_lang_laws.proofs.Parentheses.{Unjoined, at, Reads, Meets, Fitting, Expressed, Again}
 
 pub operator_again : (o : Op) → operator_in (kind.Mark (operator o)) ≡ Some o
@@ -63,7 +63,7 @@ module _ (names : Names) (scope : Scope) where
   Joined n e t = Expressed names scope n e t × ((m : ℕ) → Within n m → Compared m e t (wrapped (is_chain e) (expr_tokens e)))
 
   compared_alone : (m : ℕ) (e : ExprTree) (t : ValueType) (text : Before) → Alone m e t text → Compared m e t text
-  compared_alone m e t text (b, reads) = (b, λ s wanted wants rest. (sound e t b, rest, reads s rest, (hope_again wanted e t b wants, inr (refl, refl))))
+  compared_alone m e t text (b, reads) = (b, λ s wanted wants rest. (sound e t b, rest, reads s wanted (begins_alone wanted t wants) rest, (hope_again wanted e t b wants, inr (refl, refl))))
 
   whole_compared : (m : ℕ) (e : ExprTree) (t : ValueType) → Compared m e t (expr_tokens e)
       → (b : Bool) × ((s : ℕ) (wanted : Wanted) → Wants wanted t → (rest : List Kind) → Unjoined rest → Took (expression_form (at names scope s) m wanted) (sound e t b) (expr_tokens e rest) rest)
@@ -103,7 +103,7 @@ module _ (names : Names) (scope : Scope) where
       by_case m w false h = (expressed (suc m) (within_less n (suc m) w)).alone h
       by_case m w true h = (
         false,
-        λ s rest. (let whole = (expressed m w).whole in
+        λ s wanted begins rest. (let whole = (expressed m w).whole in
             inr (inl (
               tt,
               _,
@@ -131,7 +131,7 @@ module _ (names : Names) (scope : Scope) where
         λ s wanted wants rest. (let one = alone_e m w in let other = alone_f m w in (
           sound e t one.0,
           _,
-          one.1 s _,
+          one.1 s wanted (begins_compared wanted op t left wants) _,
           (
             compared_hope wanted op e t one.0 left wants,
             inl (
@@ -140,7 +140,7 @@ module _ (names : Names) (scope : Scope) where
               (operator_again op, refl),
               (
                 left_again wanted op e t one.0 _ left wants,
-                (sound f u other.0, rest, other.1 s rest, (none_refused op e f t u one.0 other.0 _ right, (compared_again op e f t u one.0 other.0 _ right, refl))),
+                (sound f u other.0, rest, other.1 s anything refl rest, (none_refused op e f t u one.0 other.0 _ right, (compared_again op e f t u one.0 other.0 _ right, refl))),
               ),
             ),
           ),
@@ -148,20 +148,20 @@ module _ (names : Names) (scope : Scope) where
       )
 
   abbrev AloneAgain : ℕ → Type 0
-  AloneAgain n = (s : ℕ) (o : Operand) (ts rest : List Kind) → Took (unary_form (at names scope s) n) o ts rest → Single n o.tree o.ty
+  AloneAgain n = (s : ℕ) (wanted : Wanted) (o : Operand) (ts rest : List Kind) → Took (unary_form (at names scope s) n wanted) o ts rest → Single n o.tree o.ty
 
   abbrev ComparedAgain : ℕ → Type 0
   ComparedAgain n = (s : ℕ) (wanted : Wanted) (o : Operand) (ts rest : List Kind) → Took (comparison_of (unary_form (at names scope s) n) wanted) o ts rest → o.misfit ≡ None → Joined n o.tree o.ty
 
   comparison_again : (n : ℕ) → AloneAgain n → ComparedAgain n
   comparison_again n again s wanted o ts rest (left, mid, took, (hope, inr (is, same))) fine =
-      joined_single n o.tree o.ty (subst (λ x. Single n x.tree x.ty) (sym is) (again s left ts mid took))
+      joined_single n o.tree o.ty (subst (λ x. Single n x.tree x.ty) (sym is) (again s wanted left ts mid took))
   comparison_again n again s wanted o ts rest (left, mid, took, (hope, inl (op, others, operator_, (fit, (right, more, took_right, (fit_right, (is, same))))))) fine =
       let place : ℕ = length mid in
       let h : takes_left op left.ty ≡ true = is_so (takes_left op left.ty) _ (both_none (fits_left op left place) (no_truth wanted) fit).0 in
       let k : takes_right op left.ty right.ty ≡ true = if_none (takes_right op left.ty right.ty) place (ap (λ x. x.misfit) (sym is) ∙ fine) in
       subst (λ x. Joined n x.tree x.ty) (sym is)
-      (comparing n op left.tree right.tree left.ty right.ty h k (again s left ts mid took) (again s right others more took_right))
+      (comparing n op left.tree right.tree left.ty right.ty h k (again s wanted left ts mid took) (again s anything right others more took_right))
 
   -- Chains.
 
@@ -275,7 +275,7 @@ module _ (names : Names) (scope : Scope) where
   row_tokens joint other joined of_and es rest = refl
   row_tokens joint other joined of_or es rest = refl
 
-  in_expression : (joint other : Mark) (joined : ExprTrees → ExprTree) → Joint joint other joined → (g : Grammar Operand) (wanted : Wanted) (first o : Operand) (ts mid rest : List Kind) → Took (comparison_of g wanted) first ts mid
+  in_expression : (joint other : Mark) (joined : ExprTrees → ExprTree) → Joint joint other joined → (g : Wanted → Grammar Operand) (wanted : Wanted) (first o : Operand) (ts mid rest : List Kind) → Took (comparison_of g wanted) first ts mid
       → Took (chain_of g joint other joined first (length mid)) o mid rest → Took (expression_of g wanted) o ts rest
   in_expression joint other joined of_and g wanted first o ts mid rest took chain = (first, mid, took, inl chain)
   in_expression joint other joined of_or g wanted first o ts mid rest took chain = (first, mid, took, inr (inl chain))
@@ -316,7 +316,7 @@ module _ (names : Names) (scope : Scope) where
       row_again joint other joined j n first o h.1 (again s wanted first ts mid took h.0) (parts_of_chain joint other joined j n again s k (begun_with first place) o more rest parts fine)
 
   -- what is said as an expression, where all that stands alone is known
-  pub expressed_again : (n : ℕ) → ((s : ℕ) (o : Operand) (ts rest : List Kind) → Took (unary_form (at names scope s) n) o ts rest → Single n o.tree o.ty) → Again names scope n
+  pub expressed_again : (n : ℕ) → ((s : ℕ) (wanted : Wanted) (o : Operand) (ts rest : List Kind) → Took (unary_form (at names scope s) n wanted) o ts rest → Single n o.tree o.ty) → Again names scope n
   expressed_again n again s wanted o ts rest (first, mid, took, inl chain) fine = chain_again mark.And mark.Or conjunction of_and n (comparison_again n again) s wanted first o (length mid) ts mid rest took chain fine
   expressed_again n again s wanted o ts rest (first, mid, took, inr (inl chain)) fine = chain_again mark.Or mark.And disjunction of_or n (comparison_again n again) s wanted first o (length mid) ts mid rest took chain fine
   expressed_again n again s wanted o ts rest (first, mid, took, inr (inr (is, same))) fine =

@@ -20,7 +20,7 @@ use Rattle.ixp_lang_exprs.specs.Operands.{Operand, misfit_at, fits, anything, on
 use Rattle.ixp_lang_exprs.specs.Expressions.{Place, Shape, plain, arguments, roa_values, may_go_on, may_end, part_end_in, fits_argument, Parts, argument_wanted, wanted_part, with_part, too_great_if, fits_pair, fits_plain, fits_next, ends_with, part_form, comparison_of, unary_form, expression_form}
 use Rattle.ixp_print.specs.Texts.{is_chain, is_compound}
 use Rattle.ixp_lang_laws.specs.Canonical.{Before, expr_tokens, exprs_tokens}
-use Rattle.ixp_lang_laws.proofs.Basics.{Within, sound, took_token, both_none, none_both, is_so, so_again, none_settled, none_unfit, fits_again, Wants}
+use Rattle.ixp_lang_laws.proofs.Basics.{Within, sound, took_token, both_none, none_both, is_so, so_again, none_settled, none_unfit, fits_again, Wants, Begins}
 
 -- no chain goes on with these tokens
 abbrev pub Unjoined : List Kind → Type 0
@@ -157,9 +157,10 @@ module _ (names : Names) (scope : Scope) where
   abbrev pub at : ℕ → Place
   at s = record { names = names; scope = scope; statement = s }
 
-  -- a grammar has these tokens, before whatever follows, and they say this tree of this type
-  abbrev pub Reads : (ℕ → Grammar Operand) → ExprTree → ValueType → Before → Type 0
-  Reads g e t text = (b : Bool) × ((s : ℕ) (rest : List Kind) → Took (g s) (sound e t b) (text rest) rest)
+  -- a grammar has these tokens, before whatever follows, and they say this tree of this type, where what begins with
+  -- an operand of the type may be wanted
+  abbrev pub Reads : (ℕ → Wanted → Grammar Operand) → ExprTree → ValueType → Before → Type 0
+  Reads g e t text = (b : Bool) × ((s : ℕ) (wanted : Wanted) → Begins wanted t → (rest : List Kind) → Took (g s wanted) (sound e t b) (text rest) rest)
 
   -- the same where the tree's type is wanted
   abbrev pub Meets : (ℕ → Wanted → Grammar Operand) → ExprTree → ValueType → Before → Type 0

@@ -11,7 +11,7 @@ use Rattle.ixp_lang_exprs.specs.declared.context.Scope.{Scope}
 use Rattle.ixp_lang_exprs.specs.Types.{same_type, takes_left, takes_right}
 use Rattle.ixp_lang_exprs.specs.Names.{Names}
 use Rattle.ixp_lang_exprs.specs.declared.wanted.Wanted.{Wanted}
-use Rattle.ixp_lang_exprs.specs.Operands.{Operand, fits_negation, negated, compared_operand, fits_left, one_type, no_truth, fits as fits_type}
+use Rattle.ixp_lang_exprs.specs.Operands.{Operand, anything, fits_negation, negated, compared_operand, fits_left, one_type, no_truth, fits as fits_type}
 use Rattle.ixp_lang_exprs.specs.Expressions.{Chain, chained, part_misfit, comparison_of, chain_part, chain_of, expression_of}
 use Rattle.ixp_print.specs.Texts.{is_chain, is_compound}
 use Rattle.ixp_lang_laws.specs.Sound.{wrapped, some_of, two_or_more, type_of, fits, parts_fit}
@@ -121,17 +121,17 @@ module _ (names : Names) (scope : Scope) where
         joins.1 m _ (both (two_more chain.parts last.tree is.0) (all_joined n (chain.parts ++ last.tree ∷ []) (all_more (Joined n) chain.parts last.tree is.1 one) m w))),
   )
 
-  module _ (n : ℕ) (unary : Grammar Operand) (k : Says unary (Settled (Alone n))) where
+  module _ (n : ℕ) (unary : Wanted → Grammar Operand) (k : (wanted : Wanted) → Says (unary wanted) (Settled (Alone n))) where
     says_comparison : (wanted : Wanted) → Says (comparison_of unary wanted) (Sound (Part n))
     says_comparison wanted =
-        says_sequence k (λ left one.
+        says_sequence (k wanted) (λ left one.
         says_checks (λ hope.
         says_here (λ place.
         says_choice
         (says_then (says_token _) (λ op.
         says_checks (λ takes.
         let f : takes_left op left.ty ≡ true = is_so (takes_left op left.ty) _ (both_none (fits_left op left place) (no_truth wanted) takes).0 in
-        says_sequence k (λ right two. says_checks (λ now. says_gives (compared_sound n op left right place one two f))))))
+        says_sequence (k anything) (λ right two. says_checks (λ now. says_gives (compared_sound n op left right place one two f))))))
         (says_gives (one.0, λ none. (one.2.0, one.2.1))))))
 
     says_chain_part : (joint other : Mark) (tree : ExprTrees → ExprTree) → Joins tree → (chain : Chain) → IsChain n chain → Says (chain_part unary joint other tree chain) (Next (IsChain n) (Sound (Whole n)))

@@ -20,7 +20,7 @@ use Rattle.ixp_lang_exprs.specs.declared.env.Declared.TheVariants.{Table, Define
 use Rattle.ixp_lang_exprs.specs.declared.context.Scope.{Scope}
 use Rattle.ixp_lang_exprs.specs.Names.{Names, value_of, function_of, is_define}
 use Rattle.ixp_lang_exprs.specs.Sets.{if_missing}
-use Rattle.ixp_lang_exprs.specs.Operands.{Operand, closed}
+use Rattle.ixp_lang_exprs.specs.Operands.{Operand, closed, anything}
 use Rattle.ixp_lang_exprs.specs.declared.wanted.Wanted.{Wanted}
 use Rattle.ixp_lang_exprs.specs.Expressions.{Place, truth_in, state_in, literal_word, literal_in, word_in, attribute_in, attribute_form, has_parts, type_or, named_value, check_tree, expression_of, no_roa_table, roa_table, called, outside_define, check_word, Deeper, nothing, deeper, is_left, opened, negation_form, plain_form, name_form, named_form, checked_form, check_form, set_form, operand_form, unary_form, expression_form}
 use Rattle.ixp_lang_laws.specs.Sound.{is_left as a_level_left, is_roa_table, returned, params_of, arguments_fit}
@@ -89,11 +89,12 @@ module _ (names : Names) (scope : Scope) where
   attribute_fits : (n : ℕ) (a : Attr) → is_define scope ≡ false → Whole names scope n (attribute a)
   attribute_fits n a out m w = is_off (is_define scope) out
 
-  says_attribute : (n : ℕ) (a : Attr) → is_define scope ≡ false → Says (attribute_form a) (Lone n)
-  says_attribute n a out =
+  says_attribute : (n : ℕ) (wanted : Wanted) (a : Attr) → is_define scope ≡ false → Says (attribute_form wanted a) (Lone n)
+  says_attribute n wanted a out =
+      says_checks (λ hope.
       says_choice
       (says_only (has_parts a) (says_then (says_mark mark.Dot) (λ x. says_then (says_token _) (λ part. says_gives (refl, refl, (attribute_fits n part out, attribute_fits n part out, attribute_fits n part out))))))
-      (says_gives (refl, refl, (attribute_fits n a out, attribute_fits n a out, attribute_fits n a out)))
+      (says_gives (refl, refl, (attribute_fits n a out, attribute_fits n a out, attribute_fits n a out))))
 
   -- Calls and checks.
 
@@ -132,9 +133,9 @@ module _ (names : Names) (scope : Scope) where
   abbrev Below : ℕ → Deeper → Type 0
   Below n nothing = Unit {0}
   Below zero (deeper unary) = ⊥
-  Below (suc n) (deeper unary) = Says unary (Lone n)
+  Below (suc n) (deeper unary) = (wanted : Wanted) → Says (unary wanted) (Lone n)
 
-  says_opened : {A : Type 0} (m : Mark) (n : ℕ) (inner : Deeper) (f : Grammar Operand → Grammar A) (P : ℕ → A → Type 0) → Below n inner → ((k : ℕ) (unary : Grammar Operand) → Says unary (Lone k) → Says (f unary) (P (suc k)))
+  says_opened : {A : Type 0} (m : Mark) (n : ℕ) (inner : Deeper) (f : (Wanted → Grammar Operand) → Grammar A) (P : ℕ → A → Type 0) → Below n inner → ((k : ℕ) (unary : Wanted → Grammar Operand) → ((wanted : Wanted) → Says (unary wanted) (Lone k)) → Says (f unary) (P (suc k)))
       → Says (opened m inner f) (P n)
   says_opened m n nothing f P below kf = says_bars says_never
   says_opened m zero (deeper unary) f P below kf = absurd below
@@ -151,7 +152,7 @@ module _ (at : Place) (n : ℕ) (inner : Deeper) (below : Below at.names at.scop
   says_negation =
       says_here (λ place.
       says_opened at.names at.scope mark.Not n inner _ (Lone at.names at.scope) below (λ k unary ku.
-      says_sequence ku (λ o one. says_checks (λ now. says_gives (negated_sound at.names at.scope k o place one now)))))
+      says_sequence (ku anything) (λ o one. says_checks (λ now. says_gives (negated_sound at.names at.scope k o place one now)))))
 
   says_enclosed : Says (plain_form at inner) (Lone at.names at.scope n)
   says_enclosed =
@@ -201,18 +202,18 @@ module _ (at : Place) (n : ℕ) (inner : Deeper) (below : Below at.names at.scop
   says_set : Says (set_form at inner) (Lone at.names at.scope n)
   says_set = says_then (says_mark mark.SetOpen) (λ x. says_sequence (says_elements at.names (is_left inner)) (λ s is. says_gives (set_sound s is)))
 
-  says_operand : Says (operand_form at inner) (Lone at.names at.scope n)
+  says_operand : (wanted : Wanted) → Says (operand_form at inner wanted) (Lone at.names at.scope n)
   unfolding operand_form
-  says_operand =
+  says_operand wanted =
       says_choice says_negation
       (says_choice says_enclosed
       (says_choice says_check
       (says_choice says_named
       (says_choice (says_takes (literal_says at.names at.scope n))
-      (says_choice (says_sequence (says_takes (outside at attribute_in)) (λ a out. says_attribute at.names at.scope n a out))
+      (says_choice (says_sequence (says_takes (outside at attribute_in)) (λ a out. says_attribute at.names at.scope n wanted a out))
       says_set)))))
 
-says_unary : (at : Place) (n : ℕ) → Says (unary_form at n) (Lone at.names at.scope n)
+says_unary : (at : Place) (n : ℕ) (wanted : Wanted) → Says (unary_form at n wanted) (Lone at.names at.scope n)
 says_unary at zero = says_operand at zero nothing tt
 says_unary at (suc n) = says_operand at (suc n) (deeper (unary_form at n)) (says_unary at n)
 

@@ -90,7 +90,7 @@ module _ (names : Names) (scope : Scope) where
 
   attribute_fit : (n : ℕ) (a : Attr) → is_define scope ≡ false → Fit n (attribute a)
   unfolding operand_form
-  attribute_fit n a outside = (flat names scope n (attribute a) (attribute_type a) (has_parts a) refl (λ s rest inner. inr (inr (inr (inr (inr (inl (attribute_again (at names scope s) a outside rest)))))))).0
+  attribute_fit n a outside = (flat names scope n (attribute a) (attribute_type a) (has_parts a) refl (λ s wanted begins rest inner. inr (inr (inr (inr (inr (inl (attribute_again (at names scope s) wanted a outside begins rest)))))))).0
 
   -- Tuples.
 

@@ -15,6 +15,7 @@ use Rattle.ixp_lang.specs.declared.expr.Attr.{Attr}
 use Rattle.ixp_lang.specs.declared.expr.Attr.TheVariants as attr
 use Rattle.ixp_lang_exprs.specs.declared.types.ValueType.{ValueType}
 use Rattle.ixp_lang_exprs.specs.declared.types.ValueType.TheVariants.{Int, Bool as Truth, Ip, Prefix, State}
+use Rattle.ixp_lang_exprs.specs.declared.wanted.Wanted.{Wanted}
 use Rattle.ixp_lang_exprs.specs.Types.{attribute_type}
 use Rattle.ixp_lang_exprs.specs.Names.{is_define}
 use Rattle.ixp_lang_exprs.specs.Lists.{only}
@@ -22,7 +23,7 @@ use Rattle.ixp_lang_exprs.specs.Operands.{Operand, closed}
 use Rattle.ixp_lang_exprs.specs.Expressions.{Place, word_in, truth_in, state_in, literal_word, literal_in, has_parts, part_in, attribute_in, attribute_form, outside_define}
 use Rattle.ixp_print.specs.Texts.{bool_text, state_text}
 use Rattle.ixp_lang_laws.specs.Canonical.{value_tokens, attr_tokens}
-use Rattle.ixp_lang_laws.proofs.Basics.{sound, never_took}
+use Rattle.ixp_lang_laws.proofs.Basics.{sound, never_took, Begins, attribute_hope, part_hope}
 
 -- Literals.
 
@@ -85,27 +86,27 @@ outside_is at class _ a e = absurd cc
 abbrev pub is_attribute : Operand → Type 0
 is_attribute o = (a : Attr) × (o.tree ≡ attribute a) × (o.ty ≡ attribute_type a)
 
-pub attribute_is : (a : Attr) (o : Operand) (ts rest : List Kind) → Took (attribute_form a) o ts rest → is_attribute o
-attribute_is a o ts rest (inr (is, same)) = (a, ap (λ x. x.tree) is, ap (λ x. x.ty) is)
-attribute_is a o ts rest (inl took) = by_parts (has_parts a) took
+pub attribute_is : (wanted : Wanted) (a : Attr) (o : Operand) (ts rest : List Kind) → Took (attribute_form wanted a) o ts rest → is_attribute o
+attribute_is wanted a o ts rest (hope, inr (is, same)) = (a, ap (λ x. x.tree) is, ap (λ x. x.ty) is)
+attribute_is wanted a o ts rest (hope, inl took) = by_parts (has_parts a) took
   where
     by_parts : (b : Bool)
         → Took (only b (sequence (the_mark mark.Dot) (λ tt. sequence (takes (word_in (part_in a))) (λ part. gives (closed (attribute part) (attribute_type part)))))) o ts rest → is_attribute o
     by_parts true (x, others, dot, (part, more, word, (is, same))) = (part, ap (λ x. x.tree) is, ap (λ x. x.ty) is)
     by_parts false never = absurd (never_took o ts rest never)
 
-pub attribute_again : (at : Place) (a : Attr) → is_define at.scope ≡ false → (rest : List Kind)
-    → Took (sequence (takes (word_in (outside_define at attribute_in))) attribute_form) (sound (attribute a) (attribute_type a) (has_parts a)) (attr_tokens a rest) rest
-attribute_again at attr.Net out rest = (attr.Net, _, (outside_again at attribute_in (codes "net") attr.Net out refl, refl), inr (refl, refl))
-attribute_again at attr.NetLen out rest = (attr.Net, _, (outside_again at attribute_in (codes "net") attr.Net out refl, refl), inl (tt, _, (refl, refl), (attr.NetLen, _, (refl, refl), (refl, refl))))
-attribute_again at attr.From out rest = (attr.From, _, (outside_again at attribute_in (codes "from") attr.From out refl, refl), inr (refl, refl))
-attribute_again at attr.NextHop out rest = (attr.NextHop, _, (outside_again at attribute_in (codes "bgp_next_hop") attr.NextHop out refl, refl), inr (refl, refl))
-attribute_again at attr.Path out rest = (attr.Path, _, (outside_again at attribute_in (codes "bgp_path") attr.Path out refl, refl), inr (refl, refl))
-attribute_again at attr.First out rest = (attr.Path, _, (outside_again at attribute_in (codes "bgp_path") attr.Path out refl, refl), inl (tt, _, (refl, refl), (attr.First, _, (refl, refl), (refl, refl))))
-attribute_again at attr.Last out rest = (attr.Path, _, (outside_again at attribute_in (codes "bgp_path") attr.Path out refl, refl), inl (tt, _, (refl, refl), (attr.Last, _, (refl, refl), (refl, refl))))
-attribute_again at attr.Len out rest = (attr.Path, _, (outside_again at attribute_in (codes "bgp_path") attr.Path out refl, refl), inl (tt, _, (refl, refl), (attr.Len, _, (refl, refl), (refl, refl))))
-attribute_again at attr.Pairs out rest = (attr.Pairs, _, (outside_again at attribute_in (codes "bgp_community") attr.Pairs out refl, refl), inr (refl, refl))
-attribute_again at attr.PairsLen out rest = (attr.Pairs, _, (outside_again at attribute_in (codes "bgp_community") attr.Pairs out refl, refl), inl (tt, _, (refl, refl), (attr.PairsLen, _, (refl, refl), (refl, refl))))
-attribute_again at attr.Triples out rest = (attr.Triples, _, (outside_again at attribute_in (codes "bgp_large_community") attr.Triples out refl, refl), inr (refl, refl))
-attribute_again at attr.TriplesLen out rest =
-    (attr.Triples, _, (outside_again at attribute_in (codes "bgp_large_community") attr.Triples out refl, refl), inl (tt, _, (refl, refl), (attr.TriplesLen, _, (refl, refl), (refl, refl))))
+pub attribute_again : (at : Place) (wanted : Wanted) (a : Attr) → is_define at.scope ≡ false → Begins wanted (attribute_type a) → (rest : List Kind)
+    → Took (sequence (takes (word_in (outside_define at attribute_in))) (attribute_form wanted)) (sound (attribute a) (attribute_type a) (has_parts a)) (attr_tokens a rest) rest
+attribute_again at wanted attr.Net out begins rest = (attr.Net, _, (outside_again at attribute_in (codes "net") attr.Net out refl, refl), (attribute_hope wanted attr.Net begins, inr (refl, refl)))
+attribute_again at wanted attr.NetLen out begins rest = (attr.Net, _, (outside_again at attribute_in (codes "net") attr.Net out refl, refl), (part_hope wanted attr.Net refl begins, inl (tt, _, (refl, refl), (attr.NetLen, _, (refl, refl), (refl, refl)))))
+attribute_again at wanted attr.From out begins rest = (attr.From, _, (outside_again at attribute_in (codes "from") attr.From out refl, refl), (attribute_hope wanted attr.From begins, inr (refl, refl)))
+attribute_again at wanted attr.NextHop out begins rest = (attr.NextHop, _, (outside_again at attribute_in (codes "bgp_next_hop") attr.NextHop out refl, refl), (attribute_hope wanted attr.NextHop begins, inr (refl, refl)))
+attribute_again at wanted attr.Path out begins rest = (attr.Path, _, (outside_again at attribute_in (codes "bgp_path") attr.Path out refl, refl), (attribute_hope wanted attr.Path begins, inr (refl, refl)))
+attribute_again at wanted attr.First out begins rest = (attr.Path, _, (outside_again at attribute_in (codes "bgp_path") attr.Path out refl, refl), (part_hope wanted attr.Path refl begins, inl (tt, _, (refl, refl), (attr.First, _, (refl, refl), (refl, refl)))))
+attribute_again at wanted attr.Last out begins rest = (attr.Path, _, (outside_again at attribute_in (codes "bgp_path") attr.Path out refl, refl), (part_hope wanted attr.Path refl begins, inl (tt, _, (refl, refl), (attr.Last, _, (refl, refl), (refl, refl)))))
+attribute_again at wanted attr.Len out begins rest = (attr.Path, _, (outside_again at attribute_in (codes "bgp_path") attr.Path out refl, refl), (part_hope wanted attr.Path refl begins, inl (tt, _, (refl, refl), (attr.Len, _, (refl, refl), (refl, refl)))))
+attribute_again at wanted attr.Pairs out begins rest = (attr.Pairs, _, (outside_again at attribute_in (codes "bgp_community") attr.Pairs out refl, refl), (attribute_hope wanted attr.Pairs begins, inr (refl, refl)))
+attribute_again at wanted attr.PairsLen out begins rest = (attr.Pairs, _, (outside_again at attribute_in (codes "bgp_community") attr.Pairs out refl, refl), (part_hope wanted attr.Pairs refl begins, inl (tt, _, (refl, refl), (attr.PairsLen, _, (refl, refl), (refl, refl)))))
+attribute_again at wanted attr.Triples out begins rest = (attr.Triples, _, (outside_again at attribute_in (codes "bgp_large_community") attr.Triples out refl, refl), (attribute_hope wanted attr.Triples begins, inr (refl, refl)))
+attribute_again at wanted attr.TriplesLen out begins rest =
+    (attr.Triples, _, (outside_again at attribute_in (codes "bgp_large_community") attr.Triples out refl, refl), (part_hope wanted attr.Triples refl begins, inl (tt, _, (refl, refl), (attr.TriplesLen, _, (refl, refl), (refl, refl)))))

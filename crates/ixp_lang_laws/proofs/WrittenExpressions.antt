@@ -15,7 +15,7 @@ use Rattle.ixp_lang_exprs.specs.declared.types.ValueType.{ValueType}
 use Rattle.ixp_lang_exprs.specs.declared.types.ValueType.TheVariants.{Bool as Truth, Int, Ip, Prefix, State}
 use Rattle.ixp_lang_exprs.specs.declared.env.Signature.{Signature}
 use Rattle.ixp_lang_exprs.specs.declared.wanted.Wanted.{Wanted}
-use Rattle.ixp_lang_exprs.specs.Operands.{Operand, closed, one_type, literal_number, pair_with, triple_with}
+use Rattle.ixp_lang_exprs.specs.Operands.{Operand, closed, anything, one_type, literal_number, pair_with, triple_with}
 use Rattle.ixp_lang_exprs.specs.Expressions.{Place, truth_in, state_in, literal_word, literal_in, attribute_form, has_parts, named_value, Shape, plain, arguments, roa_values, Parts, wanted_part, with_part, ends_with, part_form, some_parts, front, enclosed, plain_tree, check_tree, Chain, comparison_of, chain_part, chain_of, expression_of, Deeper, nothing, deeper, is_left, opened, negation_form, plain_form, name_form, named_form, roa_table, checked_form, check_form, set_form, operand_form, unary_form, expression_form, called}
 use Rattle.ixp_print.specs.Texts.{is_chain, is_compound}
 use Rattle.ixp_lang_laws.specs.Canonical.{sign, expr_tokens, exprs_tokens, more_exprs_tokens, chain_tokens, more_chain_tokens}
@@ -137,10 +137,11 @@ attribute_is attr.PairsLen rest written = (tt, (tt, (tt, written)))
 attribute_is attr.Triples rest written = (tt, written)
 attribute_is attr.TriplesLen rest written = (tt, (tt, (tt, written)))
 
-keeps_attribute : (a : Attr) → Keeps (attribute_form a) IsOperand
-keeps_attribute a =
-    keeps_choice (keeps_only (has_parts a) (keeps_then (keeps_mark mark.Dot) (λ x. keeps_then (keeps_token _) (λ part. keeps_gives (attribute_is part)))))
-    (keeps_gives (attribute_is a))
+keeps_attribute : (wanted : Wanted) (a : Attr) → Keeps (attribute_form wanted a) IsOperand
+keeps_attribute wanted a =
+    keeps_checks
+    (keeps_choice (keeps_only (has_parts a) (keeps_then (keeps_mark mark.Dot) (λ x. keeps_then (keeps_token _) (λ part. keeps_gives (attribute_is part)))))
+    (keeps_gives (attribute_is a)))
 
 keeps_value : (at : Place) (n : List ℕ) (left : ℕ) → IsName n → Keeps (named_value at n left) IsOperand
 keeps_value at n left is = keeps_checks (keeps_gives (λ rest written. (is, written)))
@@ -183,14 +184,14 @@ IsChain chain = AreAll IsExpr chain.parts
 abbrev Joins : (ExprTrees → ExprTree) → Type 0
 Joins joined = (es : List ExprTree) → AreAll IsExpr es → IsExpr (joined (exprs es))
 
-module _ (unary : Grammar Operand) (k : Keeps unary IsOperand) where
+module _ (unary : Wanted → Grammar Operand) (k : (wanted : Wanted) → Keeps (unary wanted) IsOperand) where
   keeps_comparison : (wanted : Wanted) → Keeps (comparison_of unary wanted) IsOperand
   keeps_comparison wanted =
-      keeps_sequence k (λ left one.
+      keeps_sequence (k wanted) (λ left one.
       keeps_checks
       (keeps_here (λ place.
       keeps_choice
-      (keeps_then (keeps_token _) (λ op. keeps_checks (keeps_sequence k (λ right two. keeps_checks (keeps_gives (comparison_writes op left.tree right.tree one two))))))
+      (keeps_then (keeps_token _) (λ op. keeps_checks (keeps_sequence (k anything) (λ right two. keeps_checks (keeps_gives (comparison_writes op left.tree right.tree one two))))))
       (keeps_gives one))))
 
   keeps_chain_part : (joint other : Mark) (joined : ExprTrees → ExprTree) → Joins joined → (chain : Chain) → IsChain chain → Keeps (chain_part unary joint other joined chain) (Kept IsChain IsOperand)
@@ -217,16 +218,16 @@ module _ (unary : Grammar Operand) (k : Keeps unary IsOperand) where
 
 abbrev KeepsBelow : Deeper → Type 0
 KeepsBelow nothing = Unit {0}
-KeepsBelow (deeper unary) = Keeps unary IsOperand
+KeepsBelow (deeper unary) = (wanted : Wanted) → Keeps (unary wanted) IsOperand
 
-keeps_opened : {A : Type 0} {P : A → Type 0} (m : Mark) (inner : Deeper) (f : Grammar Operand → Grammar A) → KeepsBelow inner → ((unary : Grammar Operand) → Keeps unary IsOperand → Keeps (f unary) P) → Keeps (opened m inner f) P
+keeps_opened : {A : Type 0} {P : A → Type 0} (m : Mark) (inner : Deeper) (f : (Wanted → Grammar Operand) → Grammar A) → KeepsBelow inner → ((unary : Wanted → Grammar Operand) → ((wanted : Wanted) → Keeps (unary wanted) IsOperand) → Keeps (f unary) P) → Keeps (opened m inner f) P
 keeps_opened m (deeper unary) f k kf = keeps_then (keeps_mark m) (λ x. kf unary k)
 keeps_opened m nothing f k kf = keeps_bars keeps_never
 
 module _ (at : Place) (fit : NumbersFit at.names) (inner : Deeper) (k : KeepsBelow inner) where
   keeps_negation : Keeps (negation_form inner) IsOperand
   keeps_negation =
-      keeps_here (λ place. keeps_opened mark.Not inner _ k (λ unary ku. keeps_sequence ku (λ o one. keeps_checks (keeps_gives (negation_writes o.tree one)))))
+      keeps_here (λ place. keeps_opened mark.Not inner _ k (λ unary ku. keeps_sequence (ku anything) (λ o one. keeps_checks (keeps_gives (negation_writes o.tree one)))))
 
   keeps_plain : Keeps (plain_form at inner) IsOperand
   keeps_plain =
@@ -263,18 +264,18 @@ module _ (at : Place) (fit : NumbersFit at.names) (inner : Deeper) (k : KeepsBel
       keeps_then (keeps_mark mark.SetOpen) (λ x.
       keeps_sequence (keeps_elements at.names fit (is_left inner)) (λ s is. keeps_gives (λ rest written. (tt, is (sign mark.SetClose rest) (tt, written)))))
 
-  keeps_operand : Keeps (operand_form at inner) IsOperand
+  keeps_operand : (wanted : Wanted) → Keeps (operand_form at inner wanted) IsOperand
   unfolding operand_form
-  keeps_operand =
+  keeps_operand wanted =
       keeps_choice keeps_negation
       (keeps_choice keeps_plain
       (keeps_choice keeps_check
       (keeps_choice keeps_named
       (keeps_choice (keeps_takes literal_keeps)
-      (keeps_choice (keeps_then (keeps_token _) (λ a. keeps_attribute a))
+      (keeps_choice (keeps_then (keeps_token _) (λ a. keeps_attribute wanted a))
       keeps_set)))))
 
-keeps_unary : (at : Place) → NumbersFit at.names → (levels : ℕ) → Keeps (unary_form at levels) IsOperand
+keeps_unary : (at : Place) → NumbersFit at.names → (levels : ℕ) (wanted : Wanted) → Keeps (unary_form at levels wanted) IsOperand
 keeps_unary at fit zero = keeps_operand at fit nothing tt
 keeps_unary at fit (suc levels) = keeps_operand at fit (deeper (unary_form at levels)) (keeps_unary at fit levels)
 

@@ -2,7 +2,9 @@ pub mod Batches
 pub mod Faults
 pub mod Keeping
 pub mod KeptTable
+pub mod KeptTold
 pub mod Nothing
+pub mod OneState
 pub mod Reading
 pub mod RegistryRows
 pub mod RightStates

@@ -1,5 +1,5 @@
 //! The laws. The functions do nothing: each is called for what it ensures.
-ghost use Rattle.std.specs.Prelude.{◌<◌, ◌≤◌, ◌^◌, ◌-◌, length, Result, Some};
+ghost use Rattle.std.specs.Prelude.{◌≡◌, ◌<◌, ◌≤◌, ◌^◌, ◌-◌, length, Result, Some};
 ghost use Rattle.ixp_machine_edits.specs.Edits.{IsLawful};
 ghost use Rattle.ixp_machine_steps.specs.Openings.{first_state};
 ghost use Rattle.ixp_registry.specs.declared.registry.Registry.{Registry};
@@ -7,7 +7,7 @@ ghost use Rattle.ixp_machine_steps.specs.declared.state.Entry.{Entry};
 ghost use Rattle.ixp_machine_steps.specs.declared.state.State.{State};
 ghost use Rattle.ixp_machine_steps.specs.States.{ValidState};
 ghost use Rattle.ixp_machine_steps.specs.Steps.{step};
-ghost use Rattle.ixp_store_rows.specs.States.{stored_rows};
+ghost use Rattle.ixp_store_rows.specs.States.{stored_rows, tables};
 ghost use Rattle.ixp_store_words.specs.declared.fault.LoadFault.{LoadFault};
 ghost use Rattle.ixp_store_words.specs.Answers.{IsLoaded, IsStoreOf, LoadsAll};
 ghost use Rattle.ixp_store_words.specs.Storing.{IsStorable};
@@ -33,4 +33,10 @@ pub fn valid_states_have_few_rows()
 pub fn stores_are_loaded_as_their_states()
     ensures { (s : State) (rows : Table) (r : Result State LoadFault) → ValidState s → IsStorable s
         → IsStoreOf s rows → LoadsAll (Some rows) r → IsLoaded s r }
+{}
+
+/// A store tells its state: two valid states that may be stored and have the same rows are one.
+pub fn stores_tell_their_states()
+    ensures { (s t : State) → ValidState s → IsStorable s → ValidState t → IsStorable t → tables s ≡ tables t
+        → s ≡ t }
 {}

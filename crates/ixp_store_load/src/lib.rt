@@ -18,6 +18,7 @@ mod opened;
 
 pub use ixp_store_words::{Damage, LoadFault};
 pub use laws::{
-    requests_keep_states_storable, stores_are_loaded_as_their_states, valid_states_have_few_rows,
+    requests_keep_states_storable, stores_are_loaded_as_their_states, stores_tell_their_states,
+    valid_states_have_few_rows,
 };
 pub use opened::load;

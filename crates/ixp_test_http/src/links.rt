@@ -1,7 +1,7 @@
 //! Links in memory that are served by a desk that has no memory.
 use ixp_api::{Call, Outcome};
 use ixp_http_link::{Desk, Served, serve};
-use ixp_io::{MemSink, MemSource, Plan};
+use ixp_io::{MemLink, MemSink, MemSource, Plan};
 use ixp_num_tables::{Items, put};
 use std::alloc::{AllocError, Global};
 use std::str::from_utf8;
@@ -46,21 +46,16 @@ fn put_statuses(out: &mut Vec<u8>, written: &[u8]) -> Result<(), AllocError> {
 // calls there were, and the replies.
 fn told(alloc: Global, text: &str, most: usize) -> Result<Vec<u8>, AllocError> {
     let bytes = Items::from_slice(alloc, text.as_bytes())?;
-    let mut source = MemSource::new(bytes, Plan::smooth(alloc)).in_pieces(most.max(1));
-    let mut sink = MemSink::new(alloc, Plan::smooth(alloc));
+    let mut link = MemLink {
+        source: MemSource::new(bytes, Plan::smooth(alloc)).in_pieces(most.max(1)),
+        sink: MemSink::new(alloc, Plan::smooth(alloc)),
+    };
     let mut desk = Counter { done: 0 };
     let mut calls = 0;
-    let Served { end, requests } = serve(
-        alloc,
-        &mut desk,
-        &mut calls,
-        &mut (),
-        &mut source,
-        &mut sink,
-    );
+    let Served { end, requests } = serve(alloc, &mut desk, &mut calls, &mut (), &mut link);
     let text = format!(in alloc; "{end:?} {requests} {calls}")?;
     let mut out = Vec::from_slice(alloc, text.as_bytes())?;
-    put_statuses(&mut out, sink.written())?;
+    put_statuses(&mut out, link.sink.written())?;
     Ok(out)
 }
 

@@ -87,11 +87,13 @@ fn answer_all<L: Source + Sink>(link: &mut L) -> Result<(), Failed> {
     Err(Failed)
 }
 
-impl<L: Source + Sink + Drop> Host<L> for Echo {
-    fn host<R: Wait, C: Clock>(&self, rt: &R, seat: &mut u64, mut link: L, clock: &mut C) {
+impl<L: Source + Sink> Host<L> for Echo {
+    ghost hosted = { λ before link after left. Unit {0} };
+
+    fn host<R: Wait, C: Clock>(&self, rt: &R, seat: &mut u64, link: &mut L, clock: &mut C) {
         *seat = seat.saturating_add(1);
         self.seats.fetch_add(*seat, Ordering::SeqCst);
-        if answer_all(&mut link).is_ok() && clock.now() == 7 {
+        if answer_all(link).is_ok() && clock.now() == 7 {
             self.ended.fetch_add(1, Ordering::SeqCst);
         }
         self.bell.lock(rt).rung = true;

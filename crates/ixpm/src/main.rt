@@ -30,6 +30,7 @@ const HELP: &str = "ixpm: the registry of an internet exchange, and its route se
   ixpm restore     reads the dump of a registry on standard input, and puts it into the store, the file ixpm.db of the
                    current folder, which has to be empty
   ixpm dump        writes the dump of the registry in the store
+  ixpm upgrade     makes a store of the first version one of today's, and writes how many route servers it has
   ixpm session     answers the HTTP requests on standard input, over the registry in the store
   ixpm serve P W N serves N HTTP connections on port P of 127.0.0.1, by W workers, 1 to 62, over the registry in the store;
                    then it writes how many it served

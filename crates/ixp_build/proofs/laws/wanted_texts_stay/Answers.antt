@@ -1,4 +1,4 @@
-use Rattle.ixp_build.proofs.Noting.{alike_after, alike_at_first}
+use Rattle.ixp_build.proofs.Later.{alike_after, alike_at_first}
 use Rattle.ixp_build.proofs.laws.wanted_texts_stay.Goals as goal
 
 pub returns-clause-first : goal.returns-clause-first

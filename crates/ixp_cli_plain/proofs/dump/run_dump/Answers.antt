@@ -10,7 +10,13 @@ pub returns : goal.returns
 returns g c =
     let out = g.K.Stream in (
       c.in-Ok.state,
-      (c.in-Ok.ensures.valid, c.in-Ok.ensures.storable, c.in-Ok.ensures.state),
+      record {
+        valid = c.in-Ok.ensures.valid;
+        storable = c.in-Ok.ensures.storable;
+        state = c.in-Ok.ensures.state;
+        all = record { whole = c.in-Ok.ensures.complete; nothing = c.in-Ok.ensures.nothing };
+        version = c.in-Ok.ensures.version;
+      },
       refl,
       c.load.ensures.kept,
       subst (λ (t : List ℕ). TakesPart (out.written c.args.output.now) (out.written c.write_all.new.sink) t) (c.as_slice.ensures.value ∙ c.in-Ok-dump_of.ensures) c.in-Err-write_all.ensures.err,

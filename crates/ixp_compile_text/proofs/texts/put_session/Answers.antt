@@ -13,6 +13,6 @@ returns-clause-part c =
     let q = c.args.router.now in
     let s = session_of c.in-Some.session in
     let is : session_at r q c.args.interface.now ≡ Some s = search rules in
-    c.in_ok-put_part.ensures
+    c.in_ok-put_fragment.ensures
     ∙ ap (λ (t : List ℕ). c.args.out.now.items ++ t)
-    (ap (λ (x : Inputs). config_text (session_part (record x { prefixes = c.in-Some.session.prefixes.now }))) c.in_ok-i.ensures ∙ text_of_session r q c.args.interface.now s is)
+    (ap (λ (x : Inputs). config_text (session_part x)) c.inputs_in_rows-i.ensures ∙ text_of_session r q c.args.interface.now s is)

@@ -1,4 +1,4 @@
 use Rattle.ixp_desk_serve.proofs.server.serve_door.Given as goal
 
 abbrev pub ghosts-serve_lent : goal.ghosts-serve_lent
-ghosts-serve_lent g a = record { lent = a.loan.keeper.ghost_name }
+ghosts-serve_lent g a = record { lent = a.loan.it.ghost_name }

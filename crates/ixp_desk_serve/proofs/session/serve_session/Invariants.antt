@@ -1,4 +1,4 @@
 use Rattle.ixp_desk_serve.proofs.session.serve_session.Given as goal
 
-abbrev pub ghosts-serve_lent : goal.ghosts-serve_lent
-ghosts-serve_lent g a = record { lent = a.loan.keeper.ghost_name }
+abbrev pub ghosts-serve_joined : goal.ghosts-serve_joined
+ghosts-serve_joined g a = record { input = a.source.it.ghost_name; output = a.sink.it.ghost_name }

@@ -9,6 +9,7 @@ invariant-loop-buf g l =
     record {
       together : Together (told.left l.fn.link) (told.left l.link) l.fn.buf l.buf;
       grows : length l.fn.buf ≤ length l.buf;
+      rest : length l.fn.buf ≤ l.size + chunk → length l.buf ≤ l.size + chunk;
       still : l.size ≤ length l.fn.buf → told.left l.link ≡ told.left l.fn.link;
       bounded : l.size + chunk ≤ most_held → length l.fn.buf ≤ most_held → length l.buf ≤ most_held;
       counts : told.read_faults l.fn.link ≤ told.read_faults l.link;

@@ -1,7 +1,8 @@
-use Rattle.std.proofs.Common.{◌≡◌, ℕ, Bool, true, false, List, sym, ap, ◌∙◌, arith}
+use Rattle.std.proofs.Common.{◌≡◌, ℕ, true, false, List, refl, sym, ap, ◌∙◌, arith}
 use Rattle.ixp_http.specs.Heads.{is_open, start_of}
 use Rattle.ixp_http.proofs.Starts.{settled, settled_done}
-use Rattle.ixp_http.proofs.Together.{together_then}
+use Rattle.ixp_http.proofs.Quiet.{one_read, small_holds}
+use Rattle.ixp_http.proofs.Together.{taken_all, together_none, together_then}
 use Rattle.ixp_http.proofs.next.fill_head.Goals as goal
 
 pub returns-then-not-is_open-clause-settled : goal.returns-then-not-is_open-clause-settled
@@ -54,3 +55,48 @@ pub returns-then-not-branch-clause-same : goal.returns-then-not-branch-clause-sa
 returns-then-not-branch-clause-same g c =
     let going : is_open (start_of c.loop-start.buf) ≡ true = cc (c.start_of-start.ensures.exact, c.as_slice.ensures, c.is_open.ensures, c.if-not-is_open.false) in
     contradicts c.args.buf.now c.loop-start.buf going c.loop-start.invariant.same
+
+pub loop-start-init : goal.loop-start-init
+loop-start-init g c =
+    let told = g.L.Stream in
+    record {
+      together = together_none (told.left c.args.link.now) c.args.buf.now;
+      still = λ closed. refl;
+      same = λ closed. refl;
+      bounded = λ few. few;
+      rest = λ few. small_holds c.args.buf.now (start_of c.args.buf.now) few;
+      counts = omega arith;
+      written = refl;
+      write_faults = refl;
+    }
+
+pub returns-then-not-branch-clause-taken : goal.returns-then-not-branch-clause-taken
+returns-then-not-branch-clause-taken g c few =
+    let told = g.L.Stream in
+    taken_all _ _ _ _ _
+    (together_then (told.left c.args.link.now) (told.left c.loop-start.link) (told.left c.read_line.new.link) c.args.buf.now c.loop-start.buf
+    c.read_line.new.buf c.loop-start.invariant.together c.in_ok-read_line.ensures.together)
+    (omega (arith, c.in_ok-read_line.ensures.bounded))
+
+pub returns-then-not-branch-clause-rest : goal.returns-then-not-branch-clause-rest
+returns-then-not-branch-clause-rest g c few =
+    let going : is_open (start_of c.loop-start.buf) ≡ true = cc (c.start_of-start.ensures.exact, c.as_slice.ensures, c.is_open.ensures, c.if-not-is_open.false) in
+    one_read c.loop-start.buf c.read_line.new.buf going c.in_ok-read_line.ensures.quiet
+
+pub loop-start-preserved : goal.loop-start-preserved
+loop-start-preserved g c =
+    let told = g.L.Stream in
+    let held = c.loop-start.invariant in
+    let read = c.in_ok-read_line.ensures in
+    let going : is_open (start_of c.loop-start.buf) ≡ true = cc (c.start_of-start.ensures.exact, c.as_slice.ensures, c.is_open.ensures, c.if-not-is_open.false) in
+    record {
+      together = together_then (told.left c.args.link.now) (told.left c.loop-start.link) (told.left c.read_line.new.link) c.args.buf.now
+          c.loop-start.buf c.read_line.new.buf held.together read.together;
+      still = contradicts c.args.buf.now c.loop-start.buf going held.same;
+      same = contradicts c.args.buf.now c.loop-start.buf going held.same;
+      bounded = λ few. omega (arith, read.bounded);
+      rest = λ few. one_read c.loop-start.buf c.read_line.new.buf going read.quiet;
+      counts = omega (arith, held.counts, read.counts);
+      written = read.written ∙ held.written;
+      write_faults = read.write_faults ∙ held.write_faults;
+    }

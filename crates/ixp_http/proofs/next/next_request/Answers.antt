@@ -1,12 +1,15 @@
-use Rattle.std.proofs.Common.{◌≡◌, ◌++◌, ◌∙◌, ℕ, List, refl, sym, subst}
+use Rattle.std.proofs.Common.{◌≡◌, ◌≤◌, ◌+◌, ◌++◌, ◌∙◌, ℕ, List, length, refl, sym, subst}
+use Rattle.std.proofs.lemmas.Result.{err_from_is_err_and}
 use Rattle.ixp_http.specs.declared.head.Start.{Start}
 use Rattle.ixp_http.specs.declared.head.Start.TheVariants.{Headed}
 use Rattle.ixp_io.specs.Told.{WhereTold}
-use Rattle.ixp_http.specs.Heads.{start_of}
+use Rattle.ixp_http.specs.Answers.{HoldsOneRead}
+use Rattle.ixp_http.specs.Heads.{chunk, start_of}
 use Rattle.ixp_http.specs.Messages.{Begins, First, bad, cut, message}
 use Rattle.ixp_http.proofs.Held.{message_settled}
 use Rattle.ixp_http.proofs.Starts.{placed}
 use Rattle.ixp_http.proofs.Bodies.{first_plain, first_headed}
+use Rattle.ixp_http.proofs.Together.{leaves_err, leaves_headed}
 use Rattle.ixp_http.proofs.next.next_request.Goals as goal
 
 pub with_head-requires : goal.with_head-requires
@@ -53,3 +56,18 @@ returns-in-Headed-clause-still g c r rest first =
     (subst (λ (s : Start). Begins c.fill_head.new.buf s (message r rest)) is
     (subst (λ (b : List ℕ). First b (message r rest)) (sym (c.fill_head.ensures.same settled)) first))
     ∙ c.fill_head.ensures.still settled
+
+pub returns-in_err-start-clause-leaves : goal.returns-in_err-start-clause-leaves
+returns-in_err-start-clause-leaves g c =
+    let p = err_from_is_err_and c.from_residual.result c.from_residual.ensures.1 in
+    leaves_err _ _ _ _ c.from_residual.result p.0 p.1 c.fill_head.ensures.taken
+
+pub returns-in-Headed-clause-leaves : goal.returns-in-Headed-clause-leaves
+returns-in-Headed-clause-leaves g c =
+    let told = g.L.Stream in
+    let is : start_of c.fill_head.new.buf ≡ Headed c.in-Headed.from c.in-Headed.len = sym c.in_ok-start.ensures.start ∙ c.in-Headed.is in
+    let one : length c.args.buf.now ≤ chunk → length c.fill_head.new.buf ≤ (c.in-Headed.from + c.in-Headed.len) + chunk =
+    λ few. subst (λ (s : Start). HoldsOneRead s c.fill_head.new.buf) is (c.in_ok-start.ensures.rest few) in
+    leaves_headed (c.in-Headed.from + c.in-Headed.len) (told.left c.args.link.now) (told.left c.fill_head.new.link) (told.left c.with_head.new.link)
+    c.args.buf.now c.fill_head.new.buf c.with_head.new.buf c.with_head.result c.in_ok-start.ensures.together one c.fill_head.ensures.bounded
+    c.with_head.ensures.leaves

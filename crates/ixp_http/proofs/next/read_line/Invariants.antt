@@ -1,6 +1,7 @@
 use Rattle.std.proofs.Common.{◌≡◌, ◌≤◌, ◌<◌, ◌+◌, ◌-◌, length}
 use Rattle.ixp_http.specs.Answers.{Together}
 use Rattle.ixp_http.specs.Heads.{chunk, head_limit}
+use Rattle.ixp_http.proofs.Quiet.{SoFar}
 use Rattle.ixp_http.proofs.next.read_line.Given as goal
 
 abbrev pub invariant-loop-buf : goal.invariant-loop-buf
@@ -8,6 +9,7 @@ invariant-loop-buf g l =
     let told = g.L.Stream in
     record {
       together : Together (told.left l.fn.link) (told.left l.link) l.fn.buf l.buf;
+      quiet : SoFar l.fn.buf l.buf;
       grows : length l.fn.buf ≤ length l.buf;
       bounded : length l.buf < head_limit + chunk;
       counts : told.read_faults l.fn.link ≤ told.read_faults l.link;

@@ -1,6 +1,9 @@
--- the cursor may be used
+-- the cursor may be used, and the last commit stands
 use Rattle.std.proofs.Common.{IsSome}
+use Rattle.ixp_keeper_sql.specs.Written.{KeepsLast}
 use Rattle.ixp_keeper_sql.proofs.audit.count_rows.Given as goal
 
 abbrev pub invariant-rows : goal.invariant-rows
-invariant-rows g l = IsSome ((g.S.Store.view l.store).cursors 1)
+invariant-rows g l =
+    IsSome ((g.S.Store.view l.store).cursors 1)
+    × KeepsLast (g.S.Store.view l.fn.store) (g.S.Store.view l.store)

@@ -1,8 +1,10 @@
--- both cursors may be used
+-- both cursors may be used, and the last commit stands
 use Rattle.std.proofs.Common.{IsSome}
+use Rattle.ixp_keeper_sql.specs.Written.{KeepsLast}
 use Rattle.ixp_keeper_sql.proofs.walking.gather.Given as goal
 
 abbrev pub invariant-each : goal.invariant-each
 invariant-each g l =
     IsSome ((g.S.Store.view l.store).cursors 0)
     × IsSome ((g.S.Store.view l.store).cursors 1)
+    × KeepsLast (g.S.Store.view l.fn.store) (g.S.Store.view l.store)

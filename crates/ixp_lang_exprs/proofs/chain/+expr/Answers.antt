@@ -2,7 +2,7 @@ use Rattle.std.proofs.Common.{◌≡◌, ◌≤◌, length, ℕ, ◌-◌, List, 
 use Rattle.ixp_lang_tokens.specs.Grammars.{Step, checks, rounds}
 use Rattle.ixp_lang_tokens.specs.Reading.{read, read_rounds, kinds, Gives, checked, ◌>>=◌}
 use Rattle.ixp_lang_exprs.specs.declared.types.ValueType.TheVariants.{Bool as Truth}
-use Rattle.ixp_lang_exprs.specs.Operands.{operand_of, fits, one_type, in_vain, Operand}
+use Rattle.ixp_lang_exprs.specs.Operands.{operand_of, fits, anything, one_type, in_vain, Operand}
 use Rattle.ixp_lang_exprs.specs.Groups.{place_of, shape_of, parts_of, from_opening, finishing, finished, finished_read, shape_in}
 use Rattle.ixp_lang_exprs.specs.Joints.{joint_mark, other_mark, joined_by, chain_of, ended_chain}
 use Rattle.ixp_lang_exprs.specs.Expressions.{Chain, Parts as TheParts, part_form, part_ending, chain_part, begun_with, part_joint, unary_form, comparison_of, expression_form, enclosed, wanted_part, no_parts}
@@ -38,9 +38,9 @@ comparison-returns-in_err-right-clause-reads t c =
     let left = operand_of c.in_ok-left.left in
     let n = length c.in_ok-left.rest.now in
     let whole = operator_known u c.args.wanted (kinds c.args.tokens.now) (kinds c.in_ok-left.rest.now) (kinds c.in-Some.behind.now) left c.in-Some.op n (sym (kinds_length c.in_ok-left.rest.now)) c.in_ok-left.ensures.reads c.in_ok-begins.ensures (sym c.in-Some.ensures.reads)
-    ∙ ap (λ o. checked o (read u (kinds c.in-Some.behind.now) >>= right_read u c.args.wanted c.in-Some.op left n)) c.in_ok-fits_wanted.ensures in
+    ∙ ap (λ o. checked o (read (u anything) (kinds c.in-Some.behind.now) >>= right_read u c.args.wanted c.in-Some.op left n)) c.in_ok-fits_wanted.ensures in
     rw (p.1, p.2) (subst (λ r. Gives {X = Operand × List Kind} (λ x. x) (Err c.in_err-right.field-0.0) r) (sym whole)
-    (passed_on c.in_err-right.field-0.0 (read u (kinds c.in-Some.behind.now)) (right_read u c.args.wanted c.in-Some.op left n) c.in_err-right.ensures.reads))
+    (passed_on c.in_err-right.field-0.0 (read (u anything) (kinds c.in-Some.behind.now)) (right_read u c.args.wanted c.in-Some.op left n) c.in_err-right.ensures.reads))
 
 pub comparison-returns-clause-reads : goal.comparison-returns-clause-reads
 comparison-returns-clause-reads t c =
@@ -48,7 +48,7 @@ comparison-returns-clause-reads t c =
     let left = operand_of c.in_ok-left.left in
     let n = length c.in_ok-left.rest.now in
     let whole = operator_known u c.args.wanted (kinds c.args.tokens.now) (kinds c.in_ok-left.rest.now) (kinds c.in-Some.behind.now) left c.in-Some.op n (sym (kinds_length c.in_ok-left.rest.now)) c.in_ok-left.ensures.reads c.in_ok-begins.ensures (sym c.in-Some.ensures.reads)
-    ∙ ap (λ o. checked o (read u (kinds c.in-Some.behind.now) >>= right_read u c.args.wanted c.in-Some.op left n)) c.in_ok-fits_wanted.ensures
+    ∙ ap (λ o. checked o (read (u anything) (kinds c.in-Some.behind.now) >>= right_read u c.args.wanted c.in-Some.op left n)) c.in_ok-fits_wanted.ensures
     ∙ ap (λ r. r >>= right_read u c.args.wanted c.in-Some.op left n) c.in_ok-right.ensures.reads in
     subst (λ r. Gives (λ x. (operand_of x.0, kinds x.1.now)) c.compared_operand.result r) (sym whole) c.compared_operand.ensures.reads
 
@@ -110,15 +110,15 @@ unary-returns-in_err-operand-clause-reads t c =
     let p = err_from_is_err_and c.from_residual.result c.from_residual.ensures.1 in
     let at = place_of c.args.cx in
     rw (p.1, p.2) (subst (λ r. Gives {X = Operand × List Kind} (λ x. x) (Err c.in_err-operand.field-0.0) r)
-    (sym (not_more at c.args.depth (kinds c.args.tokens.now) (kinds c.in-Some.behind.now) c.if-depth-eq0.false (sym c.in-Some.ensures.reads)))
-    (passed_on c.in_err-operand.field-0.0 (read (unary_form at (c.args.depth - 1)) (kinds c.in-Some.behind.now)) (λ a. negation_of a (length (kinds c.args.tokens.now))) c.in_err-operand.ensures.reads))
+    (sym (not_more at c.args.depth c.args.wanted (kinds c.args.tokens.now) (kinds c.in-Some.behind.now) c.if-depth-eq0.false (sym c.in-Some.ensures.reads)))
+    (passed_on c.in_err-operand.field-0.0 (read (unary_form at (c.args.depth - 1) anything) (kinds c.in-Some.behind.now)) (λ a. negation_of a (length (kinds c.args.tokens.now))) c.in_err-operand.ensures.reads))
 
 pub unary-returns-in-Some-clause-reads : goal.unary-returns-in-Some-clause-reads
 unary-returns-in-Some-clause-reads t c =
     let at = place_of c.args.cx in
     let ts = kinds c.args.tokens.now in
     subst (λ r. Gives (λ x. (operand_of x.0, kinds x.1.now)) c.negated.result r)
-    (sym (not_more at c.args.depth ts (kinds c.in-Some.behind.now) c.if-depth-eq0.false (sym c.in-Some.ensures.reads)
+    (sym (not_more at c.args.depth c.args.wanted ts (kinds c.in-Some.behind.now) c.if-depth-eq0.false (sym c.in-Some.ensures.reads)
     ∙ ap (λ r. r >>= λ a. negation_of a (length ts)) c.in_ok-operand.ensures.reads
     ∙ ap (λ n. negation_of (operand_of c.in_ok-operand.operand, kinds c.in_ok-operand.rest.now) n) (kinds_length c.args.tokens.now)))
     c.negated.ensures.reads
@@ -127,27 +127,27 @@ pub unary-returns-in_err-opened-clause-reads : goal.unary-returns-in_err-opened-
 unary-returns-in_err-opened-clause-reads t c =
     let p = err_from_is_err_and c.from_residual-in_err-opened.result c.from_residual-in_err-opened.ensures.1 in
     let at = place_of c.args.cx in
-    rw (p.1, p.2) (subst (λ r. Gives {X = Operand × List Kind} (λ x. x) (Err c.in_err-opened.field-0.0) r) (sym (not_none at c.args.depth (kinds c.args.tokens.now) (sym c.in_default.ensures.reads)))
-    (leads_to (from_opening at c.args.depth (kinds c.args.tokens.now)) c.in_err-opened.field-0.0 _ c.in_err-opened.ensures.reads))
+    rw (p.1, p.2) (subst (λ r. Gives {X = Operand × List Kind} (λ x. x) (Err c.in_err-opened.field-0.0) r) (sym (not_none at c.args.depth c.args.wanted (kinds c.args.tokens.now) (sym c.in_default.ensures.reads)))
+    (leads_to (from_opening at c.args.wanted c.args.depth (kinds c.args.tokens.now)) c.in_err-opened.field-0.0 _ (c.in_err-opened.ensures.reads c.args.wanted)))
 
 pub unary-returns-in_ok-typed-in-Some-2-clause-reads :
     goal.unary-returns-in_ok-typed-in-Some-2-clause-reads
 unary-returns-in_ok-typed-in-Some-2-clause-reads t c =
-    not_none (place_of c.args.cx) c.args.depth (kinds c.args.tokens.now) (sym c.in_default.ensures.reads)
-    ∙ (rw c.in-Some-2.is at c.in_ok-opened.ensures.reads)
+    not_none (place_of c.args.cx) c.args.depth c.args.wanted (kinds c.args.tokens.now) (sym c.in_default.ensures.reads)
+    ∙ (rw c.in-Some-2.is at (c.in_ok-opened.ensures.reads c.args.wanted))
     ∙ ap (finishing c.in-Some-2.opened.opening) (rw c.shape-shape.ensures at c.in_ok-parts-in-Some-2.ensures.reads)
     ∙ ap (λ o. Ok (o, kinds c.in_ok-parts-in-Some-2.rest.now)) (sym c.in_ok-typed-in-Some-2.ensures)
 
 pub unary-returns-in-None-clause-reads : goal.unary-returns-in-None-clause-reads
 unary-returns-in-None-clause-reads t c =
     subst (λ r. Gives (λ x. (operand_of x.0, kinds x.1.now)) c.atom_at.result r)
-    (sym (not_none (place_of c.args.cx) c.args.depth (kinds c.args.tokens.now) (sym c.in_default.ensures.reads) ∙ (rw c.in-None.is at c.in_ok-opened.ensures.reads))) c.atom_at.ensures.reads
+    (sym (not_none (place_of c.args.cx) c.args.depth c.args.wanted (kinds c.args.tokens.now) (sym c.in_default.ensures.reads) ∙ (rw c.in-None.is at (c.in_ok-opened.ensures.reads c.args.wanted)))) c.atom_at.ensures.reads
 
 pub comparison-returns-in_err-left-clause-reads : goal.comparison-returns-in_err-left-clause-reads
 comparison-returns-in_err-left-clause-reads t c =
     let p = err_from_is_err_and c.from_residual.result c.from_residual.ensures.1 in
     let u = unary_form (place_of c.args.cx) c.args.depth in
-    rw (p.1, p.2) (passed_on c.in_err-left.field-0.0 (read u (kinds c.args.tokens.now)) (left_read u c.args.wanted) c.in_err-left.ensures.reads)
+    rw (p.1, p.2) (passed_on c.in_err-left.field-0.0 (read (u c.args.wanted) (kinds c.args.tokens.now)) (left_read u c.args.wanted) c.in_err-left.ensures.reads)
 
 pub expression-returns-in_err-first-clause-reads : goal.expression-returns-in_err-first-clause-reads
 expression-returns-in_err-first-clause-reads t c =
@@ -202,14 +202,14 @@ pub unary-returns-then-depth-eq0-clause-reads : goal.unary-returns-then-depth-eq
 unary-returns-then-depth-eq0-clause-reads t c =
     let at = place_of c.args.cx in
     let ts = kinds c.args.tokens.now in
-    rw c.deep.ensures (not_at_last at c.args.depth ts (kinds c.in-Some.behind.now) c.if-depth-eq0.true (sym c.in-Some.ensures.reads) ∙ ap (λ n. Err (Deep, n)) (kinds_length c.args.tokens.now))
+    rw c.deep.ensures (not_at_last at c.args.depth c.args.wanted ts (kinds c.in-Some.behind.now) c.if-depth-eq0.true (sym c.in-Some.ensures.reads) ∙ ap (λ n. Err (Deep, n)) (kinds_length c.args.tokens.now))
 
 pub unary-returns-in_err-parts-in-Some-2-clause-reads : goal.unary-returns-in_err-parts-in-Some-2-clause-reads
 unary-returns-in_err-parts-in-Some-2-clause-reads t c =
     let p = err_from_is_err_and c.from_residual-in_err-parts-in-Some-2.result c.from_residual-in_err-parts-in-Some-2.ensures.1 in
     let at = place_of c.args.cx in
     let opened = c.in-Some-2.opened in
-    let whole = not_none at c.args.depth (kinds c.args.tokens.now) (sym c.in_default.ensures.reads) ∙ (rw c.in-Some-2.is at c.in_ok-opened.ensures.reads) in
+    let whole = not_none at c.args.depth c.args.wanted (kinds c.args.tokens.now) (sym c.in_default.ensures.reads) ∙ (rw c.in-Some-2.is at (c.in_ok-opened.ensures.reads c.args.wanted)) in
     rw (p.1, p.2) (subst (λ r. Gives {X = Operand × List Kind} (λ x. x) (Err c.in_err-parts-in-Some-2.field-0.0) r) (sym whole)
     (passed_on c.in_err-parts-in-Some-2.field-0.0 (read (enclosed at (expression_form at (c.args.depth - 1)) (shape_of (shape_in opened.opening)) opened.place) (kinds opened.behind.now)) (finished_read opened.opening)
     (rw c.shape-shape.ensures at c.in_err-parts-in-Some-2.ensures.reads)))
@@ -218,7 +218,7 @@ pub unary-returns-in_err-typed-in-Some-2-clause-reads : goal.unary-returns-in_er
 unary-returns-in_err-typed-in-Some-2-clause-reads t c =
     let p = err_from_is_err_and c.from_residual-in_err-typed-in-Some-2.result c.from_residual-in_err-typed-in-Some-2.ensures.1 in
     rw (p.1, p.2) (unmade operand_of (finished c.in-Some-2.opened.opening (parts_of c.in_ok-parts-in-Some-2.parts)) c.in_err-typed-in-Some-2.field-0.0
-    (read (unary_form (place_of c.args.cx) c.args.depth) (kinds c.args.tokens.now)) c.in_err-typed-in-Some-2.ensures)
+    (read (unary_form (place_of c.args.cx) c.args.depth c.args.wanted) (kinds c.args.tokens.now)) c.in_err-typed-in-Some-2.ensures)
 
 pub parts_at-returns-in_err-rest-clause-reads : goal.parts_at-returns-in_err-rest-clause-reads
 parts_at-returns-in_err-rest-clause-reads t c =

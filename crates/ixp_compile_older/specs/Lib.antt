@@ -1,0 +1,4 @@
+pub mod Registries
+pub mod Tables
+pub mod Fates
+pub mod Texts

@@ -1,0 +1,4 @@
+pub mod Images
+pub mod RouterTexts
+pub mod Stores
+pub mod Outcomes
