@@ -1,4 +1,4 @@
-"""What the benches of `ixpm serve` share: a server from its start to its end, links to it, and clients in processes of their own."""
+"""What the benches of `ixpm serve` share: a server from its start to its end, links to it, clients in processes of their own, and a table of figures."""
 import multiprocessing
 import os
 import socket
@@ -83,17 +83,34 @@ class Link:
         self.socket.close()
 
 
+class Table:
+    """What was measured, row by row; whether all bounds are met."""
+
+    def __init__(self):
+        self.met = True
+        self.row("what", "figure", "beside it", "wanted", "")
+
+    def row(self, what, figure, beside, wanted, result):
+        print(("%-55s %-24s %-31s %-27s %s" % (what, figure, beside, wanted, result)).rstrip(), flush=True)
+
+    def add(self, what, figure, beside, wanted, met):
+        self.met &= met is not False
+        self.row(what, figure, beside, wanted, {True: "ok", False: "failed", None: "-"}[met])
+
+
 def free_port():
     with socket.create_server(("127.0.0.1", 0)) as it:
         return it.getsockname()[1]
 
 
 class Server:
-    """`ixpm serve` over the store of a folder, from its start to SIGTERM. Its `started` is how many seconds passed before its first reply."""
+    """`ixpm serve` over the store of a folder, from its start to SIGTERM. Its `started` is how many seconds passed before its first reply. With a port for
+    routers it gives them the registry's ROAs."""
 
-    def __init__(self, program, folder, workers=8):
+    def __init__(self, program, folder, workers=8, rtr=None):
         self.port, begun = free_port(), time.monotonic()
-        self.process = subprocess.Popen([program, "serve", str(self.port), str(workers), "1000000"], cwd=folder, stdout=subprocess.DEVNULL)
+        words = [program, "serve", str(self.port), str(workers), "1000000"] + ([] if rtr is None else ["rtr", str(rtr), "1000000"])
+        self.process = subprocess.Popen(words, cwd=folder, stdout=subprocess.DEVNULL)
         try:
             link = self.first_link(begun + SECONDS)
             link.ask("GET /members/1")

@@ -45,7 +45,8 @@ fn play_run<R: Threads + Wait + Sync>(
     let mut input = MemSource::new(bytes, reads).in_pieces(most.max(1));
     let mut output = MemSink::new(alloc, writes).in_pieces((asked.most_written as usize).max(1));
     let mut errors = MemSink::new(alloc, Plan::smooth(alloc));
-    let mut door = MemDoor::new(VecDeque::new(alloc), Plan::smooth(alloc));
+    let none = VecDeque::new(alloc);
+    let mut door = MemDoor::new(alloc, none, VecDeque::new(alloc), Plan::smooth(alloc));
     let status = run(
         rt,
         alloc,

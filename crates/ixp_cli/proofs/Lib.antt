@@ -4,3 +4,4 @@ pub mod Loaded
 pub mod WaitingRuns
 pub mod Complete
 pub mod Told
+pub mod Lines

@@ -1,5 +1,5 @@
 -- Of a store that can be loaded neither damage nor an older version is told.
-use Rattle.std.proofs.Common.{◌≡◌, inl, inr, ℕ, Bool, true, false, Option, Some, None, Err, refl, sym, subst, arith, ◌∙◌, ap}
+use Rattle.std.proofs.Common.{◌≡◌, inl, inr, ℕ, Bool, true, false, Option, Some, None, is_some, Err, refl, sym, subst, arith, ◌∙◌, ap}
 use Rattle.ixp_io.specs.Tables.{Table}
 use Rattle.ixp_store_words.specs.Answers.{LoadsAll}
 use Rattle.ixp_store_words.specs.declared.fault.LoadFault.{LoadFault}
@@ -43,20 +43,20 @@ module _ (n : ℕ) (fails_not : fails n ≡ false) (serves_not : serves n ≡ fa
   session_status s before after session.NoMemory end can rows is e ends = by end NoMemory is ends refl
   session_status s before after (session.Served served) end can rows is e ends = serves_none end n serves_not is (served_status served end ends)
 
-  server_status : (k : ℕ) (o p : Flow) (s t : Store) (d e : DoorAt) (x : ServerEnd) (end : End) → CanBeLoaded s → status_of end ≡ n
-      → ServerEnds s.rows t.rows s.faults t.faults d.given e.given d.faults e.faults k x → IsServerEnd k o p x end → ⊥
-  server_status k o p s t d e server.Served end can is ends (inl (same, takes)) = by end Done is same refl
-  server_status k o p s t d e server.Served end can is ends (inr (same, part, rose)) = by end WriteFault is same refl
-  server_status k o p s t d e server.DoorFault end can is ends (same, output) = door_not (sym is ∙ ap status_of same)
-  server_status k o p s t d e server.NoMemory end can is ends (same, output) = by end NoMemory is same refl
-  server_status k o p s t d e (server.Unopened fault) end can is (loads, rows, cause, links, doors) (un, output) = fails_none s fault end n can loads.all fails_not is un
+  server_status : (f : Bool) (k : ℕ) (o p : Flow) (s t : Store) (d e : DoorAt) (x : ServerEnd) (end : End) → CanBeLoaded s → status_of end ≡ n
+      → ServerEnds f s.rows t.rows s.faults t.faults d.given e.given d.faults e.faults k x → IsServerEnd k o p x end → ⊥
+  server_status f k o p s t d e (server.Served routers) end can is ends (inl (same, takes)) = by end Done is same refl
+  server_status f k o p s t d e (server.Served routers) end can is ends (inr (same, part, rose)) = by end WriteFault is same refl
+  server_status f k o p s t d e server.DoorFault end can is ends (same, output) = door_not (sym is ∙ ap status_of same)
+  server_status f k o p s t d e server.NoMemory end can is ends (same, output) = by end NoMemory is same refl
+  server_status f k o p s t d e (server.Unopened fault) end can is (loads, rows, cause, links, doors) (un, output) = fails_none s fault end n can loads.all fails_not is un
 
   wait_status : (w : Waiting) (before after : Outside) (d e : DoorAt) (end : End) → CanBeLoaded before.store → status_of end ≡ n
       → WaitEnds w before.input after.input before.output after.output before.store after.store before.second after.second d e end → ⊥
   wait_status Session before after d e end can is ((x, ends, same), door) =
       session_status before.store (objects before.input before.output before.store before.second) (objects after.input after.output after.store after.second) x end can refl is ends same
-  wait_status (Serve port workers k) before after d e end can is ((x, ends, same), input) =
-      server_status k before.output after.output before.store after.store d e x end can is ends same
+  wait_status (Serve port workers k routers) before after d e end can is ((x, ends, same), input) =
+      server_status (is_some routers) k before.output after.output before.store after.store d e x end can is ends same
 
   never : (command : Option Command) (before after : Outside) (d e : DoorAt) → CanBeLoaded before.store → (Runs command before after (Some n) → ⊥) → AllRuns command before after d e n → ⊥
   never command before after d e can plain (inl ((still, runs), same)) = plain runs

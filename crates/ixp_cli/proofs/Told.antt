@@ -1,5 +1,5 @@
 -- Which stores are dumped whole, and which are told to be damaged or old.
-use Rattle.std.proofs.Common.{◌≡◌, inl, inr, ℕ, true, false, Option, Some, Ok, Err, refl, sym, subst, arith, ◌∙◌, ap}
+use Rattle.std.proofs.Common.{◌≡◌, inl, inr, ℕ, Bool, true, false, Option, Some, is_some, Ok, Err, refl, sym, subst, arith, ◌∙◌, ap}
 use Rattle.ixp_io.specs.Faults.{Rose}
 use Rattle.ixp_io.specs.Tables.{Table}
 use Rattle.ixp_io.specs.Told.{WhereTold}
@@ -69,19 +69,19 @@ module _ (n : ℕ) (P : Table → Type 0) (serves_not : serves n ≡ false) (doo
   by_session before after session.NoMemory end is e ends = absurd (by end NoMemory is ends refl)
   by_session before after (session.Served served) end is e ends = absurd (no (sym serves_not ∙ holds_at serves end n is (served_status served end ends)))
 
-  by_server : (k : ℕ) (o p : Flow) (s t : Store) (d e : DoorAt) (x : ServerEnd) (end : End) → status_of end ≡ n
-      → ServerEnds s.rows t.rows s.faults t.faults d.given e.given d.faults e.faults k x → IsServerEnd k o p x end → WhereTold s.rows P
-  by_server k o p s t d e server.Served end is ends (inl (same, takes)) = absurd (by end Done is same refl)
-  by_server k o p s t d e server.Served end is ends (inr (same, part, rose)) = absurd (by end WriteFault is same refl)
-  by_server k o p s t d e server.DoorFault end is ends (same, output) = absurd (door_not (sym is ∙ ap status_of same))
-  by_server k o p s t d e server.NoMemory end is ends (same, output) = absurd (by end NoMemory is same refl)
-  by_server k o p s t d e (server.Unopened fault) end is (loads, rows, cause, links, doors) (un, output) = told s.rows fault end is un loads.version loads.all loads.damage
+  by_server : (f : Bool) (k : ℕ) (o p : Flow) (s t : Store) (d e : DoorAt) (x : ServerEnd) (end : End) → status_of end ≡ n
+      → ServerEnds f s.rows t.rows s.faults t.faults d.given e.given d.faults e.faults k x → IsServerEnd k o p x end → WhereTold s.rows P
+  by_server f k o p s t d e (server.Served routers) end is ends (inl (same, takes)) = absurd (by end Done is same refl)
+  by_server f k o p s t d e (server.Served routers) end is ends (inr (same, part, rose)) = absurd (by end WriteFault is same refl)
+  by_server f k o p s t d e server.DoorFault end is ends (same, output) = absurd (door_not (sym is ∙ ap status_of same))
+  by_server f k o p s t d e server.NoMemory end is ends (same, output) = absurd (by end NoMemory is same refl)
+  by_server f k o p s t d e (server.Unopened fault) end is (loads, rows, cause, links, doors) (un, output) = told s.rows fault end is un loads.version loads.all loads.damage
 
   by_wait : (w : Waiting) (before after : Outside) (d e : DoorAt) (end : End) → status_of end ≡ n
       → WaitEnds w before.input after.input before.output after.output before.store after.store before.second after.second d e end → WhereTold before.store.rows P
   by_wait Session before after d e end is ((x, ends, same), door) =
       by_session (objects before.input before.output before.store before.second) (objects after.input after.output after.store after.second) x end is ends same
-  by_wait (Serve port workers k) before after d e end is ((x, ends, same), input) = by_server k before.output after.output before.store after.store d e x end is ends same
+  by_wait (Serve port workers k routers) before after d e end is ((x, ends, same), input) = by_server (is_some routers) k before.output after.output before.store after.store d e x end is ends same
 
   by_run : (command : Option Command) (before after : Outside) (d e : DoorAt) → (Runs command before after (Some n) → WhereTold before.store.rows P) → AllRuns command before after d e n
       → WhereTold before.store.rows P
@@ -126,12 +126,12 @@ module _ (n : ℕ) (s u : Store) (is_none : (st : State) → Holds s st → ⊥)
   session_told before after (session.Served served) end rows now later (first, loads, count, e) ends =
       absurd (is_none first.state (holds s first.state (subst (λ (t : Option Table). Loads t (Ok first.state)) rows loads)))
 
-  server_told : (k : ℕ) (o p : Flow) (d e : DoorAt) (x : ServerEnd) (end : End) → ServerEnds s.rows u.rows s.faults u.faults d.given e.given d.faults e.faults k x
+  server_told : (f : Bool) (k : ℕ) (o p : Flow) (d e : DoorAt) (x : ServerEnd) (end : End) → ServerEnds f s.rows u.rows s.faults u.faults d.given e.given d.faults e.faults k x
       → IsServerEnd k o p x end → IsStatusOr n s u (Some (status_of end))
-  server_told k o p d e server.Served end (st, loads, ends, keeps) is = absurd (is_none st (holds s st loads))
-  server_told k o p d e server.DoorFault end (st, loads, ends, keeps) is = absurd (is_none st (holds s st loads))
-  server_told k o p d e server.NoMemory end (st, loads, ends, keeps) is = absurd (is_none st (holds s st loads))
-  server_told k o p d e (server.Unopened fault) end (loads, rows, cause, links, doors) (un, output) = told end fault un cause loads.version
+  server_told f k o p d e (server.Served routers) end (st, loads, ends, keeps) is = absurd (is_none st (holds s st loads))
+  server_told f k o p d e server.DoorFault end (st, loads, ends, keeps) is = absurd (is_none st (holds s st loads))
+  server_told f k o p d e server.NoMemory end (st, loads, ends, keeps) is = absurd (is_none st (holds s st loads))
+  server_told f k o p d e (server.Unopened fault) end (loads, rows, cause, links, doors) (un, output) = told end fault un cause loads.version
 
 wait_told : (n : ℕ) (w : Waiting) (before after : Outside) (d e : DoorAt) (end : End) → ((st : State) → Holds before.store st → ⊥)
     → ((x : End) (fault : LoadFault) → Unloaded fault x → (fault ≡ load.KeeperFault → Rose before.store.faults after.store.faults) → WhereTold before.store.rows (TellsVersion (Err fault))
@@ -141,8 +141,8 @@ wait_told : (n : ℕ) (w : Waiting) (before after : Outside) (d e : DoorAt) (end
 wait_told n Session before after d e end is_none told ((x, ends, same), door) =
     session_told n before.store after.store is_none told (objects before.input before.output before.store before.second) (objects after.input after.output after.store after.second) x end refl refl refl
     ends same
-wait_told n (Serve port workers k) before after d e end is_none told ((x, ends, same), input) =
-    server_told n before.store after.store is_none told k before.output after.output d e x end ends same
+wait_told n (Serve port workers k routers) before after d e end is_none told ((x, ends, same), input) =
+    server_told n before.store after.store is_none told (is_some routers) k before.output after.output d e x end ends same
 
 run_told : (n : ℕ) (command : Command) (status : ℕ) (before after : Outside) (d e : DoorAt) → loads_store command ≡ true → ((st : State) → Holds before.store st → ⊥)
     → ((x : End) (fault : LoadFault) → Unloaded fault x → (fault ≡ load.KeeperFault → Rose before.store.faults after.store.faults) → WhereTold before.store.rows (TellsVersion (Err fault))

@@ -1,5 +1,5 @@
 -- How the commands end that wait: `session` and `serve`.
-use Rattle.std.specs.Prelude.{◌≡◌, ◌⊎◌, ℕ, Bool, true, false, List, [], ◌∷◌, ◌++◌, Option, Some, codes, decimal}
+use Rattle.std.specs.Prelude.{◌≡◌, ◌⊎◌, ℕ, Bool, true, false, List, [], ◌∷◌, ◌++◌, Option, None, Some, is_some, codes, decimal}
 use Rattle.ixp_io.specs.Faults.{Rose}
 use Rattle.ixp_io.specs.Told.{Takes, TakesPart}
 use Rattle.ixp_io_workers.specs.Doors.{Gave}
@@ -39,23 +39,31 @@ pub record DoorAt : Type 0 where
 abbrev pub served_text : ℕ → List ℕ
 served_text n = codes "served " ++ (decimal n ++ 10 ∷ [])
 
--- the output took that so many links were served, or a first part of it, and a write failed
-abbrev pub IsServed : ℕ → Flow → Flow → End → Type 0
-IsServed n output output' end =
-    ((end ≡ Done) × Takes output.bytes output'.bytes (served_text n))
-    ⊎ ((end ≡ WriteFault) × TakesPart output.bytes output'.bytes (served_text n) × Rose output.faults output'.faults)
+-- and once so many links of routers were, where there was a door for them
+abbrev pub routers_text : Option ℕ → List ℕ
+routers_text None = []
+routers_text (Some n) = codes "rtr " ++ (decimal n ++ 10 ∷ [])
+
+abbrev pub served_lines : ℕ → Option ℕ → List ℕ
+served_lines n routers = served_text n ++ routers_text routers
+
+-- the output took that so many links were served, and so many of routers, or a first part of it, and a write failed
+abbrev pub IsServed : ℕ → Option ℕ → Flow → Flow → End → Type 0
+IsServed n routers output output' end =
+    ((end ≡ Done) × Takes output.bytes output'.bytes (served_lines n routers))
+    ⊎ ((end ≡ WriteFault) × TakesPart output.bytes output'.bytes (served_lines n routers) × Rose output.faults output'.faults)
 
 -- how a run ends by how its server did, and what is written
 abbrev pub IsServerEnd : ℕ → Flow → Flow → ServerEnd → End → Type 0
-IsServerEnd n output output' server.Served end = IsServed n output output' end
+IsServerEnd n output output' (server.Served routers) end = IsServed n routers output output' end
 IsServerEnd n output output' server.DoorFault end = (end ≡ DoorFault) × (output' ≡ output)
 IsServerEnd n output output' server.NoMemory end = (end ≡ NoMemory) × (output' ≡ output)
 IsServerEnd n output output' (server.Unopened fault) end = Unloaded fault end × (output' ≡ output)
 
--- A server of so many links was run, and the run ends as it did.
-abbrev pub ServeRuns : ℕ → Flow → Flow → Store → Store → DoorAt → DoorAt → End → Type 0
-ServeRuns n output output' store store' door door' end =
-    (e : ServerEnd) × ServerEnds store.rows store'.rows store.faults store'.faults door.given door'.given door.faults door'.faults n e
+-- A server of so many links was run, with a further door for routers or without one, and the run ends as it did.
+abbrev pub ServeRuns : Bool → ℕ → Flow → Flow → Store → Store → DoorAt → DoorAt → End → Type 0
+ServeRuns further n output output' store store' door door' end =
+    (e : ServerEnd) × ServerEnds further store.rows store'.rows store.faults store'.faults door.given door'.given door.faults door'.faults n e
     × IsServerEnd n output output' e end
 
 -- the objects of a session
@@ -74,8 +82,8 @@ objects input output store given = record {
 abbrev pub WaitEnds : Waiting → Flow → Flow → Flow → Flow → Store → Store → Option ℕ → Option ℕ → DoorAt → DoorAt → End → Type 0
 WaitEnds Session input input' output output' store store' given given' door door' end =
     SessionRuns (objects input output store given) (objects input' output' store' given') end × (door' ≡ door)
-WaitEnds (Serve port workers links) input input' output output' store store' given given' door door' end =
-    ServeRuns links output output' store store' door door' end × (input' ≡ input)
+WaitEnds (Serve port workers links routers) input input' output output' store store' given given' door door' end =
+    ServeRuns (is_some routers) links output output' store store' door door' end × (input' ≡ input)
 
 -- A run of a command that waits: it ends in one way, which its status says, and of which a line on the errors tells.
 pub record WaitRuns (waiting : Waiting) (before after : Outside) (door door' : DoorAt) (status : ℕ) : Type 0 where
@@ -89,10 +97,21 @@ AllRuns command before after door door' status =
     (PlainRuns command before after (Some status) × (door' ≡ door))
     ⊎ ((waiting : Waiting) × (command ≡ Some (Wait waiting)) × WaitRuns waiting before after door door' status)
 
--- the door gave as many links as were asked for, which is written, or memory ran out
-abbrev pub ServesAll : ℕ → Outside → Outside → DoorAt → DoorAt → ℕ → Type 0
-ServesAll n before after door door' status =
-    (status ≡ 8) ⊎ ((status ≡ 0) × Gave door.given door'.given n × Takes before.output.bytes after.output.bytes (served_text n))
+-- The door gave as many links as were asked for, which is written. How many a further door gave is written exactly
+-- where there was one.
+abbrev pub ServedAll : Bool → ℕ → Flow → Flow → DoorAt → DoorAt → Type 0
+ServedAll further n output output' door door' =
+    Gave door.given door'.given n × ((routers : Option ℕ) × (is_some routers ≡ further) × Takes output.bytes output'.bytes (served_lines n routers))
+
+-- All was served, or memory ran out, or a further door couldn't be opened.
+abbrev pub ServesAll : Bool → ℕ → Outside → Outside → DoorAt → DoorAt → ℕ → Type 0
+ServesAll further n before after door door' status =
+    (status ≡ 8) ⊎ ((status ≡ 7) × (further ≡ true)) ⊎ ((status ≡ 0) × ServedAll further n before.output after.output door door')
+
+-- the command opens a further door, for routers
+abbrev pub opens_further : Option Command → Bool
+opens_further (Some (Wait (Serve port workers links routers))) = is_some routers
+opens_further command = false
 
 -- the command loads the store, of today's version
 abbrev pub loads_store : Command → Bool

@@ -1,46 +1,53 @@
 //! Laws of runs that wait. The functions do nothing: each is called for what it ensures.
-ghost use Rattle.std.specs.Prelude.{◌≡◌, ℕ, true, Option, Some};
+ghost use Rattle.std.specs.Prelude.{◌≡◌, ◌⊎◌, ℕ, true, Option, Some, is_some};
 ghost use Rattle.ixp_io.specs.Faults.{Rose};
 ghost use Rattle.ixp_io.specs.Tables.{Table};
-ghost use Rattle.ixp_io.specs.Told.{Takes, WhereTold};
-ghost use Rattle.ixp_io_workers.specs.Doors.{Gave};
+ghost use Rattle.ixp_io.specs.Told.{WhereTold};
 ghost use Rattle.ixp_machine_steps.specs.declared.state.State.{State};
 ghost use Rattle.ixp_cli_plain.specs.declared.command.Command.{Command};
 ghost use Rattle.ixp_cli_plain.specs.declared.command.Command.TheVariants.{Demo, Dump, Upgrade, Wait};
-ghost use Rattle.ixp_cli_plain.specs.declared.command.Waiting.{Waiting};
+ghost use Rattle.ixp_cli_plain.specs.declared.command.RtrPort.{RtrPort};
 ghost use Rattle.ixp_cli_plain.specs.declared.command.Waiting.TheVariants.{Serve};
 ghost use Rattle.ixp_cli_plain.specs.Demos.{demo_text};
 ghost use Rattle.ixp_cli_plain.specs.Dumps.{IsDamaged, IsOld, IsStatusOr, IsStoredAs, IsWhole, dump_of};
 ghost use Rattle.ixp_cli_plain.specs.Runs.{CanBeLoaded, Outside};
 ghost use Rattle.ixp_cli_plain.specs.Upgraded.{Becomes, IsDamagedFor, IsWholeRaise};
 ghost use Rattle.ixp_store_upgrade.specs.Upgrades.{FitsNoVersion};
-ghost use Rattle.ixp_cli.specs.Waits.{AllRuns, DoorAt, ServesAll, loads_store, served_text};
+ghost use Rattle.ixp_cli.specs.Waits.{
+  AllRuns,
+  DoorAt,
+  ServedAll,
+  ServesAll,
+  loads_store,
+  opens_further,
+};
 
 /// A server that ends with status 0 was given as many links as were asked for, where its door tells that, and
-/// has written so.
+/// has written so; and it has written how many links a further door gave exactly where routers were to be served.
 #[tactic(auto, using(crate::proofs::Servers::all_served))]
 pub fn servers_serve_all_links()
-    ensures { (port workers n : ℕ) (before after : Outside) (door door' : DoorAt)
-        → AllRuns (Some (Wait (Serve port workers n))) before after door door' 0
-        → Gave door.given door'.given n × Takes before.output.bytes after.output.bytes (served_text n) }
+    ensures { (port workers n : ℕ) (routers : Option RtrPort) (before after : Outside) (door door' : DoorAt)
+        → AllRuns (Some (Wait (Serve port workers n routers))) before after door door' 0
+        → ServedAll (is_some routers) n before.output after.output door door' }
 {}
 
 /// A server over a store that can be loaded ends with status 0, was given as many links as were asked for, and has
-/// written so, unless a call of the store, the output or the door fails or memory runs out. What the links were
-/// answered isn't said.
+/// written so, unless a call of the store, the output or the door fails, memory runs out, or a further door for
+/// routers can't be opened. What the links were answered isn't said.
 pub fn servers_are_complete()
-    ensures { (port workers n status : ℕ) (before after : Outside) (door door' : DoorAt)
-        → CanBeLoaded before.store → ¬ (Rose before.store.faults after.store.faults)
+    ensures { (port workers n status : ℕ) (routers : Option RtrPort) (before after : Outside)
+        (door door' : DoorAt) → CanBeLoaded before.store → ¬ (Rose before.store.faults after.store.faults)
         → ¬ (Rose before.output.faults after.output.faults) → ¬ (Rose door.faults door'.faults)
-        → AllRuns (Some (Wait (Serve port workers n))) before after door door' status
-        → ServesAll n before after door door' status }
+        → AllRuns (Some (Wait (Serve port workers n routers))) before after door door' status
+        → ServesAll (is_some routers) n before after door door' status }
 {}
 
-/// Status 7 comes only where the door's count of faults rose.
+/// Status 7 comes only where the door's count of faults rose, or where a further door for routers was to be opened.
 #[tactic(auto, using(crate::proofs::Servers::door_failed))]
 pub fn door_faults_have_a_cause()
     ensures { (command : Option Command) (before after : Outside) (door door' : DoorAt)
-        → AllRuns command before after door door' 7 → Rose door.faults door'.faults }
+        → AllRuns command before after door door' 7
+        → Rose door.faults door'.faults ⊎ (opens_further command ≡ true) }
 {}
 
 /// Damage is told of no store that has the rows of a state that requests lead to, or none; nor is such a

@@ -9,5 +9,7 @@ mod running;
 mod server;
 mod session;
 
-pub use ixp_cli_plain::{Command, End, INPUT_LIMIT, LinkCode, Question, Waiting, run_plain};
+pub use ixp_cli_plain::{
+    Command, End, INPUT_LIMIT, LinkCode, Question, RtrPort, Waiting, run_plain,
+};
 pub use running::run;

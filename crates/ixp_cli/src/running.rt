@@ -19,7 +19,7 @@ fn run_waiting<
     K: Sink,
     P: Keeper + Send,
     C: Clock + Send,
-    D: Door + Send,
+    D: Door + Drop + Send,
     G: Gate + Sync,
 >(
     rt: &R,
@@ -50,17 +50,18 @@ where
             port,
             workers,
             links,
+            routers,
         } => run_server(
-            rt, alloc, output, keeper, clock, door, gate, port, workers, links,
+            rt, alloc, output, keeper, clock, door, gate, port, workers, links, routers,
         ),
     }
 }
 
 /// Runs the command that the words are: `session` over the input and the output as one link, `serve` over the
-/// links of the door, and all others as [`run_plain`](crate::run_plain) does. With `session` the status is 0 where
+/// links of the door, and of a further one for routers, and all others as [`run_plain`](crate::run_plain) does. With `session` the status is 0 where
 /// the link closed, 2 where its input held what is no request or ended inside one, or the link had all the requests
 /// that it may have. With `serve` it is 0 where as many links were served as the words say, and 7 where the door
-/// failed. While it serves, `gate` is passed by the thread that makes texts.
+/// failed or the further one couldn't be opened. While it serves, `gate` is passed by the thread that makes texts.
 pub fn run<
     R: Threads + Wait + Sync,
     S: Source,
@@ -68,7 +69,7 @@ pub fn run<
     E: Sink,
     P: Keeper + Send,
     C: Clock + Send,
-    D: Door + Send,
+    D: Door + Drop + Send,
     G: Gate + Sync,
 >(
     rt: &R,

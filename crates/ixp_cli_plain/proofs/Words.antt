@@ -17,10 +17,23 @@ three_words (a ∷ b ∷ []) many few = absurd (omega (arith, many))
 three_words (a ∷ b ∷ c ∷ []) many few = refl
 three_words (a ∷ b ∷ c ∷ d ∷ ws) many few = absurd (omega (arith, few))
 
-pub more_words : (ws : List (Bor (List ℕ))) → 5 ≤ length ws → IsNone ws
+pub five_or_six : (ws : List (Bor (List ℕ))) → 5 ≤ length ws → length ws < 7 → IsNone ws
+five_or_six [] many few = absurd (omega (arith, many))
+five_or_six (a ∷ []) many few = absurd (omega (arith, many))
+five_or_six (a ∷ b ∷ []) many few = absurd (omega (arith, many))
+five_or_six (a ∷ b ∷ c ∷ []) many few = absurd (omega (arith, many))
+five_or_six (a ∷ b ∷ c ∷ d ∷ []) many few = absurd (omega (arith, many))
+five_or_six (a ∷ b ∷ c ∷ d ∷ e ∷ []) many few = refl
+five_or_six (a ∷ b ∷ c ∷ d ∷ e ∷ f ∷ []) many few = refl
+five_or_six (a ∷ b ∷ c ∷ d ∷ e ∷ f ∷ g ∷ ws) many few = absurd (omega (arith, few))
+
+pub more_words : (ws : List (Bor (List ℕ))) → 8 ≤ length ws → IsNone ws
 more_words [] many = absurd (omega (arith, many))
 more_words (a ∷ []) many = absurd (omega (arith, many))
 more_words (a ∷ b ∷ []) many = absurd (omega (arith, many))
 more_words (a ∷ b ∷ c ∷ []) many = absurd (omega (arith, many))
 more_words (a ∷ b ∷ c ∷ d ∷ []) many = absurd (omega (arith, many))
-more_words (a ∷ b ∷ c ∷ d ∷ e ∷ ws) many = refl
+more_words (a ∷ b ∷ c ∷ d ∷ e ∷ []) many = absurd (omega (arith, many))
+more_words (a ∷ b ∷ c ∷ d ∷ e ∷ f ∷ []) many = absurd (omega (arith, many))
+more_words (a ∷ b ∷ c ∷ d ∷ e ∷ f ∷ g ∷ []) many = absurd (omega (arith, many))
+more_words (a ∷ b ∷ c ∷ d ∷ e ∷ f ∷ g ∷ h ∷ ws) many = refl

@@ -44,7 +44,7 @@ use Rattle.ixp_machine_steps.specs.States.{ValidState}
 use Rattle.ixp_store_rows.specs.States.{tables}
 use Rattle.ixp_store_upgrade.specs.Upgrades.{TellsDamaged, Upgrades, UpgradesAll}
 use Rattle.ixp_cli_plain.specs.Restores.{Store, IsDumpOf, Fills, IsFilled, Restores}
-use Rattle.ixp_cli_plain.specs.Serving.{serve_by}
+use Rattle.ixp_cli_plain.specs.Serving.{serve_by, serve_rtr_by}
 use Rattle.ixp_cli_plain.specs.Sessions.{code_word, Unloaded}
 
 -- the command that a word is
@@ -63,7 +63,7 @@ command_with word other =
 -- a demo exchange has at most 4000 members, and a server at most 62 workers
 abbrev pub IsSized : Option Command → Type 0
 IsSized (Some (Demo members)) = members ≤ 4000
-IsSized (Some (Wait (Serve port workers links))) = workers ≤ 62
+IsSized (Some (Wait (Serve port workers links routers))) = workers ≤ 62
 IsSized command = Unit {0}
 
 -- the command that a word, a set name, a family and a listing are, or a word, a port, a number of workers and one of
@@ -79,7 +79,10 @@ command_in (word ∷ []) = command_by word
 command_in (word ∷ other ∷ []) = command_with word other
 command_in (word ∷ other ∷ third ∷ []) = None
 command_in (word ∷ other ∷ third ∷ fourth ∷ []) = command_of word other third fourth
-command_in (word ∷ other ∷ third ∷ fourth ∷ fifth ∷ words) = None
+command_in (word ∷ other ∷ third ∷ fourth ∷ fifth ∷ []) = None
+command_in (word ∷ other ∷ third ∷ fourth ∷ fifth ∷ sixth ∷ []) = None
+command_in (word ∷ other ∷ third ∷ fourth ∷ fifth ∷ sixth ∷ seventh ∷ []) = serve_rtr_by word other third fourth fifth sixth seventh
+command_in (word ∷ other ∷ third ∷ fourth ∷ fifth ∷ sixth ∷ seventh ∷ eighth ∷ words) = None
 
 -- the command asks a question
 abbrev pub IsQuestion : Option Command → Type 0

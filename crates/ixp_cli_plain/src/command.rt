@@ -21,7 +21,14 @@ ghost use Rattle.std.specs.Prelude.{
 ghost use Rattle.ixp_cli_plain.specs.declared.command.Command.TheVariants.{Ask, Demo, Wait as Waits};
 ghost use Rattle.ixp_cli_plain.specs.declared.command.Question.TheVariants.{Generate as AskFor};
 ghost use Rattle.ixp_cli_plain.specs.Demos.{members_in};
-ghost use Rattle.ixp_cli_plain.specs.Serving.{number_in, serve_by, serve_with};
+ghost use Rattle.ixp_cli_plain.specs.Serving.{
+  number_in,
+  rtr_port,
+  serve_both,
+  serve_by,
+  serve_rtr_by,
+  serve_with,
+};
 ghost use Rattle.ixp_cli_plain.specs.Expansions.{IsAsked, expand_with, family_in, listing_in};
 ghost use Rattle.ixp_cli_plain.specs.Restores.{Store};
 ghost use Rattle.ixp_cli_plain.specs.Runs.{
@@ -100,13 +107,25 @@ pub enum Question {
     },
 }
 
+/// A port for routers that ask for ROAs, and how many of their links are served.
+#[derive(Clone, Copy, Debug, PartialEq, Eq, Drop)]
+pub struct RtrPort {
+    pub port: u16,
+    pub links: u32,
+}
+
 /// A command that waits for others.
 #[derive(Clone, Copy, Debug, PartialEq, Eq, Drop)]
 pub enum Waiting {
     /// Answers the requests of the input.
     Session,
-    /// Answers the requests of so many links of a port, by so many workers.
-    Serve { port: u16, workers: u32, links: u32 },
+    /// Answers the requests of so many links of a port, by so many workers, and the queries of routers.
+    Serve {
+        port: u16,
+        workers: u32,
+        links: u32,
+        routers: Option<RtrPort>,
+    },
 }
 
 /// A command of the program.
@@ -266,9 +285,14 @@ fn number_in(greatest: u64, word: &[u8]) -> Option<u64>
     }
 }
 
-/// `serve` with a port, a number of workers and a number of links.
-fn serve_with(port: &[u8], workers: &[u8], links: &[u8]) -> Option<Command>
-    ensures command { result ≡ serve_with port.now workers.now links.now }
+/// `serve` with a port, a number of workers and a number of links, and what there is for routers.
+fn serve_with(
+    port: &[u8],
+    workers: &[u8],
+    links: &[u8],
+    routers: Option<RtrPort>,
+) -> Option<Command>
+    ensures command { result ≡ serve_with port.now workers.now links.now routers }
     ensures sized { IsSized result }
 {
     let port = number_in(LAST_PORT, port)?;
@@ -278,8 +302,38 @@ fn serve_with(port: &[u8], workers: &[u8], links: &[u8]) -> Option<Command>
         port: port as u16,
         workers: workers as u32,
         links: links as u32,
+        routers,
     };
     Some(Command::Wait { waiting })
+}
+
+/// A port and a number of links for routers.
+fn rtr_port(port: &[u8], links: &[u8]) -> Option<RtrPort>
+    ensures { result ≡ rtr_port port.now links.now }
+{
+    let port = number_in(LAST_PORT, port)?;
+    let links = number_in(MOST_LINKS, links)?;
+    Some(RtrPort {
+        port: port as u16,
+        links: links as u32,
+    })
+}
+
+/// `serve` with a port, a number of workers and a number of links, and a port and a number of links for routers.
+fn serve_both(
+    port: &[u8],
+    workers: &[u8],
+    links: &[u8],
+    rtr: &[u8],
+    routers: &[u8],
+) -> Option<Command>
+    ensures command { result ≡ serve_both port.now workers.now links.now rtr.now routers.now }
+    ensures sized { IsSized result }
+{
+    match rtr_port(rtr, routers) {
+        Some(rtr) => serve_with(port, workers, links, Some(rtr)),
+        None => None,
+    }
 }
 
 /// The command that a word is with a port, a number of workers and a number of links.
@@ -289,7 +343,30 @@ fn serve_by(word: &[u8], port: &[u8], workers: &[u8], links: &[u8]) -> Option<Co
     ensures sized { IsSized result }
 {
     if word == b"serve".as_slice() {
-        serve_with(port, workers, links)
+        serve_with(port, workers, links, None)
+    } else {
+        None
+    }
+}
+
+/// The command that a word is with a port, a number of workers and a number of links, and then with the word `rtr`,
+/// a port and a number of links.
+#[tactic(auto, unfolding(crate::specs::Serving::serve_rtr_by))]
+fn serve_rtr_by(
+    word: &[u8],
+    port: &[u8],
+    workers: &[u8],
+    links: &[u8],
+    second: &[u8],
+    rtr: &[u8],
+    routers: &[u8],
+) -> Option<Command>
+    ensures command { result
+        ≡ serve_rtr_by word.now port.now workers.now links.now second.now rtr.now routers.now }
+    ensures sized { IsSized result }
+{
+    if word == b"serve".as_slice() && second == b"rtr".as_slice() {
+        serve_both(port, workers, links, rtr, routers)
     } else {
         None
     }
@@ -334,6 +411,15 @@ fn command_in(alloc: Global, words: &[&str]) -> Result<Option<Command>, AllocErr
             family.as_bytes(),
             listing.as_bytes(),
         ),
+        [word, port, workers, links, second, rtr, routers] => Ok(serve_rtr_by(
+            word.as_bytes(),
+            port.as_bytes(),
+            workers.as_bytes(),
+            links.as_bytes(),
+            second.as_bytes(),
+            rtr.as_bytes(),
+            routers.as_bytes(),
+        )),
         _ => Ok(None),
     }
 }

@@ -22,6 +22,6 @@ mod restore;
 mod unloading;
 mod upgrading;
 
-pub use command::{Command, INPUT_LIMIT, Question, Waiting, run_command, run_plain};
+pub use command::{Command, INPUT_LIMIT, Question, RtrPort, Waiting, run_command, run_plain};
 pub use end::{End, LinkCode, report, write_counted};
 pub use unloading::unloaded;

@@ -1,5 +1,5 @@
 -- How a server ends whose store was loaded.
-use Rattle.std.proofs.Common.{◌≡◌, ℕ, Option, Result, Ok, Err}
+use Rattle.std.proofs.Common.{◌≡◌, ℕ, Bool, Option, Result, Ok, Err}
 use Rattle.ixp_io.specs.Tables.{Table}
 use Rattle.ixp_machine_steps.specs.declared.state.State.{State}
 use Rattle.ixp_store_words.specs.declared.fault.LoadFault.{LoadFault}
@@ -17,9 +17,9 @@ loaded {D} {P} history rows faults keeper d o = by_load o.loaded o.loads o.comes
     by_load (Ok s) loads comes = (s, loads)
     by_load (Err x) loads comes = absurd comes
 
-pub served : (rows rows' : Option Table) (faults faults' : ℕ) (links links' : Option ℕ) (doors doors' n : ℕ) (end : ServerEnd) → ((s : State) × Loads rows (Ok s))
-    → DoorEnds links links' doors doors' n end → KeepsSome rows' faults' → ServerEnds rows rows' faults faults' links links' doors doors' n end
-served rows rows' faults faults' links links' doors doors' n Served s ends keeps = (s.0, s.1, ends, keeps)
-served rows rows' faults faults' links links' doors doors' n DoorFault s ends keeps = (s.0, s.1, ends, keeps)
-served rows rows' faults faults' links links' doors doors' n NoMemory s ends keeps = (s.0, s.1, ends, keeps)
-served rows rows' faults faults' links links' doors doors' n (Unopened fault) s ends keeps = absurd ends
+pub served : (further : Bool) (rows rows' : Option Table) (faults faults' : ℕ) (links links' : Option ℕ) (doors doors' n : ℕ) (end : ServerEnd) → ((s : State) × Loads rows (Ok s))
+    → DoorEnds further links links' doors doors' n end → KeepsSome rows' faults' → ServerEnds further rows rows' faults faults' links links' doors doors' n end
+served further rows rows' faults faults' links links' doors doors' n (Served routers) s ends keeps = (s.0, s.1, ends, keeps)
+served further rows rows' faults faults' links links' doors doors' n DoorFault s ends keeps = (s.0, s.1, ends, keeps)
+served further rows rows' faults faults' links links' doors doors' n NoMemory s ends keeps = (s.0, s.1, ends, keeps)
+served further rows rows' faults faults' links links' doors doors' n (Unopened fault) s ends keeps = absurd ends

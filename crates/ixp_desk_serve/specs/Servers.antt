@@ -1,5 +1,7 @@
 -- How a server ends, and what became of its store and its door.
-use Rattle.std.specs.Prelude.{◌≡◌, ℕ, List, Option, Ok, Err}
+use Rattle.std.specs.Prelude.{◌≡◌, ◌⊎◌, ℕ, Bool, true, List, Option, is_some, Result, Ok, Err}
+use Rattle.std.specs.declared.alloc.AllocError.{AllocError}
+use Rattle.ixp_io.specs.declared.stream.Failed.{Failed}
 use Rattle.ixp_io.specs.Faults.{Rose}
 use Rattle.ixp_io.specs.Tables.{Table}
 use Rattle.ixp_io_workers.specs.Doors.{Gave}
@@ -11,6 +13,8 @@ use Rattle.ixp_desk_lock.specs.Sights.{Sight}
 use Rattle.ixp_desk.specs.Openings.{Loads}
 use Rattle.ixp_http_link.specs.declared.ends.Served.{Served as Link}
 use Rattle.ixp_desk_link.specs.Serving.{IsServed}
+use Rattle.ixp_desk_rtr.specs.declared.link.RtrEnd.{RtrEnd}
+use Rattle.ixp_desk_rtr.specs.Routers.{Serves}
 use Rattle.ixp_desk_serve.specs.declared.server.ServerEnd.{ServerEnd}
 use Rattle.ixp_desk_serve.specs.declared.server.ServerEnd.TheVariants.{Unopened, NoMemory, DoorFault, Served}
 
@@ -19,22 +23,33 @@ abbrev pub IsHosted : Sight → Sight → Option (List ℕ) → Option (List ℕ
 IsHosted s t left left' written written' unread unwritten =
     (given : Option ℕ) × (given' : Option ℕ) × (served : Link) × IsServed (s, given) (t, given') left left' written written' unread unwritten served
 
+-- A router's link was served by the desk's cache of ROAs.
+abbrev pub IsRouted : Option (List ℕ) → Option (List ℕ) → Option (List ℕ) → Option (List ℕ) → Type 0 → Type 0 → Type 0
+IsRouted left left' written written' unread unwritten = (end : RtrEnd) × Serves left left' written written' unread unwritten end
+
 -- the store has the rows of the state after some legal history
 abbrev pub KeepsSome : Option Table → ℕ → Type 0
 KeepsSome rows faults = (v : Log × Option Turn) × KeepsStore v rows faults
 
--- How the links of a door end: served, the door gave as many as were asked for, where it tells that; a fault of the
--- door comes only where its count rose.
-abbrev pub DoorEnds : Option ℕ → Option ℕ → ℕ → ℕ → ℕ → ServerEnd → Type 0
-DoorEnds links links' doors doors' n Served = Gave links links' n
-DoorEnds links links' doors doors' n DoorFault = Rose doors doors'
-DoorEnds links links' doors doors' n NoMemory = Unit {0}
-DoorEnds links links' doors doors' n (Unopened fault) = ⊥
+-- how a server ends by what became of the door's links
+abbrev pub end_of : Result (Result (Unit {0}) Failed) AllocError → Option ℕ → ServerEnd
+end_of (Err short) routers = NoMemory
+end_of (Ok (Err failed)) routers = DoorFault
+end_of (Ok (Ok done)) routers = Served routers
+
+-- How the links of a door end: served, the door gave as many as were asked for, where it tells that, and how many
+-- routers' links a further door gave is told where routers were to be served. A fault comes only where the door's count
+-- rose, or where a further door was to be opened, which may fail, too.
+abbrev pub DoorEnds : Bool → Option ℕ → Option ℕ → ℕ → ℕ → ℕ → ServerEnd → Type 0
+DoorEnds further links links' doors doors' n (Served routers) = Gave links links' n × (is_some routers ≡ further)
+DoorEnds further links links' doors doors' n DoorFault = Rose doors doors' ⊎ (further ≡ true)
+DoorEnds further links links' doors doors' n NoMemory = Unit {0}
+DoorEnds further links links' doors doors' n (Unopened fault) = ⊥
 
 -- How a server ends. The store couldn't be loaded: it has its rows, and the door wasn't touched. Or it was loaded,
 -- and the door's links ended so; the store has the rows of the state after some legal history then.
-abbrev pub ServerEnds : Option Table → Option Table → ℕ → ℕ → Option ℕ → Option ℕ → ℕ → ℕ → ℕ → ServerEnd → Type 0
-ServerEnds rows rows' faults faults' links links' doors doors' n (Unopened fault) =
+abbrev pub ServerEnds : Bool → Option Table → Option Table → ℕ → ℕ → Option ℕ → Option ℕ → ℕ → ℕ → ℕ → ServerEnd → Type 0
+ServerEnds further rows rows' faults faults' links links' doors doors' n (Unopened fault) =
     Loads rows (Err fault) × (rows' ≡ rows) × (fault ≡ load.KeeperFault → Rose faults faults') × (links' ≡ links) × (doors' ≡ doors)
-ServerEnds rows rows' faults faults' links links' doors doors' n end =
-    (s : State) × Loads rows (Ok s) × DoorEnds links links' doors doors' n end × KeepsSome rows' faults'
+ServerEnds further rows rows' faults faults' links links' doors doors' n end =
+    (s : State) × Loads rows (Ok s) × DoorEnds further links links' doors doors' n end × KeepsSome rows' faults'

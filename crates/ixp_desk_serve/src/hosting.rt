@@ -3,10 +3,11 @@ use ixp_board::{BoardName, Note, Publish};
 use ixp_desk::{DeskSeat, Shared, worker_turn};
 use ixp_desk_history::DeskStory;
 use ixp_desk_link::serve_link;
+use ixp_desk_rtr::{RoaCache, rtr_link};
 use ixp_io::{Clock, Gate, Keeper, Sink, Source};
-use ixp_io_workers::{Background, Host};
+use ixp_io_workers::{Background, Help, Host};
 use std::alloc::Global;
-use std::sync::Wait;
+use std::sync::{Mutex, Wait};
 
 /// A desk whose links are served by threads, while one more makes the texts that edits touched.
 #[derive(Drop)]
@@ -50,5 +51,26 @@ impl<
     fn host<R: Wait, C: Clock>(&self, rt: &R, seat: &mut DeskSeat<N>, link: &mut L, clock: &mut C) {
         let mut desk = self.shared;
         let _served = serve_link(rt, self.alloc, &mut desk, seat, link, clock);
+    }
+}
+
+/// A desk whose ROAs are given to routers: helpers serve their links by one cache.
+#[derive(Drop)]
+pub(crate) struct Routers<'a, P: Keeper + Drop, N: BoardName, W: Publish<Note<DeskStory, N>>> {
+    pub(crate) shared: &'a Shared<P, N, W>,
+    pub(crate) cache: Mutex<RoaCache<N>>,
+}
+
+impl<P: Keeper + Drop, N: BoardName, W: Publish<Note<DeskStory, N>>, L: Source + Sink> Help<L>
+    for Routers<'_, P, N, W> {
+    ghost use Rattle.ixp_io.specs.Faults.{Rose};
+    ghost use Rattle.ixp_desk_serve.specs.Servers.{IsRouted};
+
+    ghost helped = { λ l m. IsRouted (L.left l) (L.left m) (L.written l) (L.written m)
+        (Rose (L.read_faults l) (L.read_faults m)) (Rose (L.write_faults l) (L.write_faults m)) };
+
+    fn help<R: Wait>(&self, rt: &R, link: &mut L) {
+        let mut desk = self.shared;
+        let _end = rtr_link(rt, &mut desk, &self.cache, link);
     }
 }

@@ -1,8 +1,8 @@
 //! A desk over a store that is lent: it serves one link, or the links of a door by threads.
 //!
 //! [`serve_session`] serves one link by a desk of one seat. [`serve_door`] serves the links of a door by worker
-//! threads, each with a seat of its own, while a thread beside them makes the texts that edits touched. Both load
-//! the store first. `specs/Sessions.antt` and `specs/Servers.antt` say how they end, and what is known of the store
+//! threads, each with a seat of its own, while a thread beside them makes the texts that edits touched; and those of
+//! routers, which ask for ROAs at a further door ([`RtrDoor`]). Both load the store first. `specs/Sessions.antt` and `specs/Servers.antt` say how they end, and what is known of the store
 //! then.
 #![tactic(auto)]
 
@@ -13,5 +13,5 @@ mod server;
 mod session;
 
 pub use lent::Lending;
-pub use server::{ServerEnd, serve_door};
+pub use server::{RtrDoor, ServerEnd, serve_door};
 pub use session::{SessionEnd, serve_session};

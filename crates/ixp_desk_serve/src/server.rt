@@ -1,20 +1,31 @@
 //! The links of a door over a desk that threads share.
-ghost use Rattle.std.specs.Prelude.{◌≡◌, ◌<◌, ◌≤◌, ◌+◌, vec_len};
+ghost use Rattle.std.specs.Prelude.{◌≡◌, ◌<◌, ◌≤◌, ◌+◌, true, is_some, IfOk, OnOk, OnErr, vec_len};
 ghost use Rattle.ixp_io.specs.Faults.{Rose};
-ghost use Rattle.ixp_desk_serve.specs.Servers.{DoorEnds, KeepsSome, ServerEnds};
+ghost use Rattle.ixp_io.specs.Told.{WhereTold};
+ghost use Rattle.ixp_io_workers.specs.Doors.{Gave};
+ghost use Rattle.ixp_desk_serve.specs.Servers.{DoorEnds, KeepsSome, ServerEnds, end_of};
 
-use crate::hosting::Hosting;
+use crate::hosting::{Hosting, Routers};
 use crate::lent::{Lending, Lent, Loan, take_back};
 use ixp_board::{BoardName, Note, Publish};
 use ixp_desk::{Desk, DeskSeat, Shared, open_desk};
 use ixp_desk_history::DeskStory;
-use ixp_io::{Clock, Door, Gate, Keeper};
-use ixp_io_workers::serve;
+use ixp_desk_rtr::RoaCache;
+use ixp_io::{Clock, Door, Failed, Gate, Keeper};
+use ixp_io_workers::{Helpers, serve, serve_helped};
 use ixp_store_words::LoadFault;
-use std::alloc::Global;
+use std::alloc::{AllocError, Global};
 use std::marker::{Brand, PhantomData};
-use std::sync::Wait;
+use std::sync::{Mutex, Wait};
 use std::thread::Threads;
+
+/// A further door, for routers that ask for ROAs.
+#[derive(Clone, Copy, Debug, PartialEq, Eq, Drop)]
+pub struct RtrDoor {
+    pub port: u16,
+    /// How many links are to be served.
+    pub links: u32,
+}
 
 /// How a server ended.
 #[derive(Debug, Drop)]
@@ -22,20 +33,97 @@ pub enum ServerEnd {
     /// The store couldn't be loaded.
     Unopened(LoadFault),
     NoMemory,
-    /// The door failed.
+    /// The door failed, or the further one couldn't be opened.
     DoorFault,
-    /// As many links were served as were asked for.
-    Served,
+    /// As many links were served as were asked for, and so many of routers: as many as were asked for, unless the
+    /// further door failed.
+    Served { routers: Option<u32> },
 }
 
-/// Serves so many links of the door at the port by threads, each with one of the seats.
+/// How the links of the door ended, with those of routers.
+fn end_of(served: Result<Result<(), Failed>, AllocError>, routers: Option<u32>) -> ServerEnd
+    ensures { result ≡ end_of served routers }
+{
+    match served {
+        Err(_) => ServerEnd::NoMemory,
+        Ok(Err(_)) => ServerEnd::DoorFault,
+        Ok(Ok(())) => ServerEnd::Served { routers },
+    }
+}
+
+/// A further door that listens at the port.
+fn further_at<D: Door + Drop>(door: &mut D, port: u16) -> Result<D, Failed>
+    ensures fresh { IfOk result (λ further. WhereTold (D.links further) (λ n. n ≡ 0)) }
+    ensures kept { D.links door.new ≡ D.links door.old }
+    ensures counts { D.faults door.old ≤ D.faults door.new }
+{
+    let mut further = door.second()?;
+    further.listen(port)?;
+    Ok(further)
+}
+
+/// Serves so many links of the door by threads, each with one of the seats but the last, while helpers serve those of
+/// routers at a further door, by a cache on that seat. The cache's session is the clock's second.
+fn serve_both<
+    R: Threads + Wait + Sync,
+    N: BoardName + Send + Sync,
+    P: Keeper + Drop + Send,
+    W: Publish<Note<DeskStory, N>> + Send,
+    C: Clock + Send,
+    D: Door + Drop + Send,
+    G: Gate + Sync,
+>(
+    rt: &R,
+    alloc: Global,
+    shared: &Shared<P, N, W>,
+    seats: Vec<DeskSeat<N>>,
+    clock: &mut C,
+    door: &mut D,
+    gate: &G,
+    links: u32,
+    at: RtrDoor,
+) -> ServerEnd
+where
+    D::Link: Drop + Send,
+    requires seats { 2 ≤ vec_len seats }
+    ensures ends { DoorEnds true (D.links door.old) (D.links door.new) (D.faults door.old) (D.faults door.new)
+        links result }
+    ensures counts { D.faults door.old ≤ D.faults door.new }
+{
+    let Ok(further) = further_at(door, at.port) else {
+        return ServerEnd::DoorFault;
+    };
+    let mut seats = seats;
+    let Some(seat) = seats.pop() else {
+        return ServerEnd::NoMemory;
+    };
+    let session = (clock.now() % 65536) as u16;
+    let Ok(cache) = RoaCache::open(alloc, seat, session) else {
+        return ServerEnd::NoMemory;
+    };
+    let routers = Routers {
+        shared,
+        cache: Mutex::new(cache),
+    };
+    let host = Hosting {
+        alloc,
+        shared,
+        gate,
+    };
+    let helpers = Helpers::new(further, at.links, routers);
+    let served = serve_helped(rt, alloc, door, clock, &host, seats, links, &helpers);
+    let (given, _further) = helpers.finish(rt);
+    end_of(served, Some(given))
+}
+
+/// Serves so many links of the door at the port by threads, each with one of the seats, and those of routers.
 fn serve_shared<
     R: Threads + Wait + Sync,
     N: BoardName + Send + Sync,
     P: Keeper + Drop + Send,
     W: Publish<Note<DeskStory, N>> + Send,
     C: Clock + Send,
-    D: Door + Send,
+    D: Door + Drop + Send,
     G: Gate + Sync,
 >(
     rt: &R,
@@ -47,26 +135,30 @@ fn serve_shared<
     gate: &G,
     port: u16,
     links: u32,
+    routers: Option<RtrDoor>,
 ) -> ServerEnd
 where
     D::Link: Drop + Send,
     requires seats { 1 ≤ vec_len seats }
-    ensures ends { DoorEnds (D.links door.old) (D.links door.new) (D.faults door.old) (D.faults door.new) links
-        result }
+    requires more { is_some routers ≡ true → 2 ≤ vec_len seats }
+    ensures ends { DoorEnds (is_some routers) (D.links door.old) (D.links door.new) (D.faults door.old)
+        (D.faults door.new) links result }
     ensures counts { D.faults door.old ≤ D.faults door.new }
 {
     if door.listen(port).is_err() {
         return ServerEnd::DoorFault;
     }
-    let host = Hosting {
-        alloc,
-        shared,
-        gate,
-    };
-    match serve(rt, alloc, door, clock, &host, seats, links) {
-        Err(_) => ServerEnd::NoMemory,
-        Ok(Err(_)) => ServerEnd::DoorFault,
-        Ok(Ok(())) => ServerEnd::Served,
+    match routers {
+        Some(at) => serve_both(rt, alloc, shared, seats, clock, door, gate, links, at),
+        None => {
+            let host = Hosting {
+                alloc,
+                shared,
+                gate,
+            };
+            let served = serve(rt, alloc, door, clock, &host, seats, links);
+            end_of(served, None)
+        }
     }
 }
 
@@ -76,7 +168,7 @@ fn serve_desk<
     N: BoardName + Send + Sync,
     P: Keeper + Drop + Send,
     C: Clock + Send,
-    D: Door + Send,
+    D: Door + Drop + Send,
     G: Gate + Sync,
 >(
     rt: &R,
@@ -87,12 +179,14 @@ fn serve_desk<
     gate: &G,
     port: u16,
     links: u32,
+    routers: Option<RtrDoor>,
 ) -> (ServerEnd, P)
 where
     D::Link: Drop + Send,
     requires name { desk.0 ≡ N.book }
     requires some { 0 < desk.2 }
-    ensures ends { DoorEnds (D.links door.old) (D.links door.new) (D.faults door.old) (D.faults door.new) links
+    requires more { is_some routers ≡ true → 1 < desk.2 }
+    ensures ends { DoorEnds (is_some routers) (D.links door.old) (D.links door.new) (D.faults door.old) (D.faults door.new) links
         result.0 }
     ensures counts { D.faults door.old ≤ D.faults door.new }
     ensures store { KeepsSome (P.table result.1) (P.faults result.1) }
@@ -100,7 +194,9 @@ where
     match desk.share::<N>() {
         Err(desk) => (ServerEnd::NoMemory, desk.close()),
         Ok((shared, seats)) => {
-            let end = serve_shared(rt, alloc, &shared, seats, clock, door, gate, port, links);
+            let end = serve_shared(
+                rt, alloc, &shared, seats, clock, door, gate, port, links, routers,
+            );
             (end, shared.into_desk().into_store())
         }
     }
@@ -113,7 +209,7 @@ fn serve_lent<
     L: Lending + Send,
     P: Keeper + Send,
     C: Clock + Send,
-    D: Door + Send,
+    D: Door + Drop + Send,
     G: Gate + Sync,
 >(
     rt: &R,
@@ -125,13 +221,14 @@ fn serve_lent<
     port: u16,
     workers: u32,
     links: u32,
+    routers: Option<RtrDoor>,
 ) -> (ServerEnd, &'a mut P)
 where
     D::Link: Drop + Send,
     requires name { loan.it.ghost_name ≡ L.lent }
     requires few { workers ≤ 62 }
     ensures back { result.1.ghost_name ≡ loan.entry.it.ghost_name }
-    ensures ends { ServerEnds (P.table loan.entry.it.now) (P.table result.1.now)
+    ensures ends { ServerEnds (is_some routers) (P.table loan.entry.it.now) (P.table result.1.now)
         (P.faults loan.entry.it.now) (P.faults result.1.now) (D.links door.old) (D.links door.new)
         (D.faults door.old) (D.faults door.new) links result.0 }
     ensures counts { D.faults door.old ≤ D.faults door.new }
@@ -141,7 +238,8 @@ where
         keeper,
         of: PhantomData,
     };
-    match open_desk(alloc, lent, workers + 1) {
+    let beside = if routers.is_some() { 2 } else { 1 };
+    match open_desk(alloc, lent, workers + beside) {
         Err(refused) => {
             let (fault, lent) = refused;
             let Lent { keeper, of: _of } = lent;
@@ -149,7 +247,7 @@ where
         }
         Ok(desk) => {
             let (end, lent) = serve_desk::<R, Brand, Lent<'a, P, L>, C, D, G>(
-                rt, alloc, desk, clock, door, gate, port, links,
+                rt, alloc, desk, clock, door, gate, port, links, routers,
             );
             let Lent { keeper, of: _of } = lent;
             (end, keeper)
@@ -160,11 +258,14 @@ where
 /// Loads the store, and serves so many links of the door at the port: each by one of the workers, which are
 /// threads with a seat each, while one thread more makes the texts that edits touched. What no thread could be
 /// started for is done by the caller. It ends once all links were served to their end.
+///
+/// Where routers are to be served, a further door is opened for them, and up to sixteen of their links are served at
+/// a time, by one cache of the desk's ROAs. A fault of that door once it listens ends what it gives, and nothing else.
 pub fn serve_door<
     R: Threads + Wait + Sync,
     P: Keeper + Send,
     C: Clock + Send,
-    D: Door + Send,
+    D: Door + Drop + Send,
     G: Gate + Sync,
 >(
     rt: &R,
@@ -176,18 +277,19 @@ pub fn serve_door<
     port: u16,
     workers: u32,
     links: u32,
+    routers: Option<RtrDoor>,
 ) -> ServerEnd
 where
     D::Link: Drop + Send,
     requires few { workers ≤ 62 }
-    ensures ends { ServerEnds (P.table keeper.old) (P.table keeper.new) (P.faults keeper.old) (P.faults keeper.new)
+    ensures ends { ServerEnds (is_some routers) (P.table keeper.old) (P.table keeper.new) (P.faults keeper.old) (P.faults keeper.new)
         (D.links door.old) (D.links door.new) (D.faults door.old) (D.faults door.new) links result }
     ensures counts { D.faults door.old ≤ D.faults door.new }
 {
     let lent = &mut *keeper;
     let loan = Loan { it: lent };
     let (end, back) = serve_lent::<R, Brand, P, C, D, G>(
-        rt, alloc, loan, clock, door, gate, port, workers, links,
+        rt, alloc, loan, clock, door, gate, port, workers, links, routers,
     );
     take_back(back);
     end

@@ -1,7 +1,7 @@
 //! What gives links, and what stands where the compile worker passes.
-ghost use Rattle.std.specs.Prelude.{◌≡◌, ◌≤◌, ◌+◌, Option, ℕ, OnOk, OnErr};
+ghost use Rattle.std.specs.Prelude.{◌≡◌, ◌≤◌, ◌+◌, Option, ℕ, IfOk, OnOk, OnErr};
 ghost use Rattle.ixp_io.specs.Faults.{Rose};
-ghost use Rattle.ixp_io.specs.Told.{Told};
+ghost use Rattle.ixp_io.specs.Told.{Told, WhereTold};
 
 use crate::{Failed, Sink, Source};
 
@@ -29,6 +29,17 @@ pub trait Door {
         ensures kept { OnErr result (links self.new ≡ links self.old) }
         ensures counts { faults self.old ≤ faults self.new }
         ensures cause { OnErr result (Rose (faults self.old) (faults self.new)) };
+
+    /// A further door of its kind, which gave no links yet, had no faults and doesn't listen. Its links are patient:
+    /// they are for peers that may be silent for an hour.
+    fn second(&mut self) -> Result<Self, Failed>
+    where
+        Self: Sized,
+        ensures fresh { IfOk result (λ door. WhereTold (links door) (λ given. given ≡ 0)) }
+        ensures no_faults { IfOk result (λ door. faults door ≡ 0) }
+        ensures kept { links self.new ≡ links self.old }
+        ensures counts { faults self.old ≤ faults self.new }
+        ensures cause { OnErr result (Rose (faults self.old) (faults self.new)) };
 }
 
 /// What the compile worker passes. A test may hold it there; nothing depends on it.
@@ -43,20 +54,4 @@ pub struct FreeGate;
 
 impl Gate for FreeGate {
     fn at(&self, _place: u32) {}
-}
-
-impl<T: Door> Door for &mut T {
-    type Link = T::Link;
-
-    ghost links = { λ it. T.links it.now };
-
-    ghost faults = { λ it. T.faults it.now };
-
-    fn listen(&mut self, port: u16) -> Result<(), Failed> {
-        (**self).listen(port)
-    }
-
-    fn accept(&mut self) -> Result<T::Link, Failed> {
-        (**self).accept()
-    }
 }

@@ -19,7 +19,9 @@ ghost use Rattle.ixp_io.specs.Faults.{Rose, last_count};
 ghost use Rattle.ixp_io.specs.Plans.{fails_next};
 
 use crate::{Door, Failed, MemSink, MemSource, Plan, Sink, Source, Stream};
+use std::alloc::Global;
 use std::collections::VecDeque;
+use std::mem;
 
 /// A link in memory.
 #[derive(Debug, Drop)]
@@ -53,27 +55,38 @@ impl Sink for MemLink {
 }
 
 /// A door that gives links from memory, the first one first. With none left `accept` counts a fault. Its plan
-/// counts the calls of `listen` and `accept` together.
+/// counts the calls of `listen`, `accept` and `second` together.
 #[derive(Drop)]
 pub struct MemDoor {
     /// The links that are left.
     pub links: VecDeque<MemLink>,
+    /// The links that a further door is to give.
+    pub further: VecDeque<MemLink>,
     /// How many it gave.
     pub given: u64,
     pub plan: Plan,
+    alloc: Global,
 }
 
 impl MemDoor {
-    /// A door with these links, which gave none yet.
-    pub fn new(links: VecDeque<MemLink>, plan: Plan) -> MemDoor
+    /// A door with these links, which gave none yet. A further door is to give those others.
+    pub fn new(
+        alloc: Global,
+        links: VecDeque<MemLink>,
+        further: VecDeque<MemLink>,
+        plan: Plan,
+    ) -> MemDoor
         ensures links { result.links.items ≡ links.items }
+        ensures further { result.further.items ≡ further.items }
         ensures given { result.given ≡ 0 }
         ensures plan { result.plan ≡ plan }
     {
         MemDoor {
             links,
+            further,
             given: 0,
             plan,
+            alloc,
         }
     }
 }
@@ -115,5 +128,21 @@ impl Door for MemDoor {
         }
         self.plan.faults += 1;
         Err(Failed)
+    }
+
+    fn second(&mut self) -> Result<MemDoor, Failed>
+        ensures fails { is_err result ≡ fails_next self.old.plan }
+        ensures gives { IfOk result (λ door. door.links.items ≡ self.old.further.items) }
+        ensures fresh { IfOk result (λ door. door.given ≡ 0) }
+        ensures no_faults { IfOk result (λ door. door.plan.faults ≡ 0) }
+        ensures links { self.new.links.items ≡ self.old.links.items }
+        ensures given { self.new.given ≡ self.old.given }
+        ensures counts { self.old.plan.faults ≤ self.new.plan.faults }
+        ensures cause { OnErr result (Rose self.old.plan.faults self.new.plan.faults) }
+    {
+        self.plan.count_call()?;
+        let alloc = self.alloc;
+        let links = mem::replace(&mut self.further, VecDeque::new(alloc));
+        Ok(MemDoor::new(alloc, links, VecDeque::new(alloc), Plan::smooth(alloc)))
     }
 }

@@ -5,19 +5,28 @@ use crate::HoldLink;
 use ixp_io::{Door, Failed};
 use std::collections::VecDeque;
 
-/// A door that gives these links, the first one first. With none left `accept` counts a fault.
+/// A door that gives these links, the first one first. With none left `accept` counts a fault, and so does
+/// `second` where no links for a further door are left.
 #[derive(Drop)]
 pub struct HoldDoor<'a> {
     links: VecDeque<HoldLink<'a>>,
+    further: Option<VecDeque<HoldLink<'a>>>,
     given: u64,
     faults: u64,
 }
 
 impl<'a> HoldDoor<'a> {
-    /// A door with these links, which gave none yet.
-    pub fn new(links: VecDeque<HoldLink<'a>>) -> HoldDoor<'a> {
+    /// A door with these links, which gave none yet, and those of a further door.
+    pub fn new(
+        links: VecDeque<HoldLink<'a>>,
+        further: Option<VecDeque<HoldLink<'a>>>,
+    ) -> HoldDoor<'a>
+        ensures given { result.given ≡ 0 }
+        ensures faults { result.faults ≡ 0 }
+    {
         HoldDoor {
             links,
+            further,
             given: 0,
             faults: 0,
         }
@@ -44,5 +53,15 @@ impl<'a> Door for HoldDoor<'a> {
         }
         self.faults = self.faults.saturating_add(1);
         Err(Failed)
+    }
+
+    fn second(&mut self) -> Result<HoldDoor<'a>, Failed> {
+        match self.further.take() {
+            Some(links) => Ok(HoldDoor::new(links, None)),
+            None => {
+                self.faults = self.faults.saturating_add(1);
+                Err(Failed)
+            }
+        }
     }
 }

@@ -13,7 +13,15 @@ const TRIES: u32 = 600;
 /// How many milliseconds pass between two tries.
 const PAUSE_MILLIS: u64 = 100;
 
-/// The door of the machine itself, at 127.0.0.1. It doesn't tell how many links it gave.
+/// How many seconds a read waits for the peer.
+const LINK_SECONDS: u64 = 60;
+
+/// How many seconds a read waits for the peer on a link of a further door: a minute longer than the hour after which
+/// a router asks again (RFC 8210 section 6).
+const PATIENT_SECONDS: u64 = 3660;
+
+/// The door of the machine itself, at 127.0.0.1. It doesn't tell how many links it gave. A read of its links waits
+/// for a minute, and one of a further door's links for an hour and a minute.
 ///
 /// A connection that its peer has given up already, or for which the system has no descriptor or memory left,
 /// is no fault yet: the next one is tried for about a minute, in which each silent link meets its limit.
@@ -21,6 +29,7 @@ const PAUSE_MILLIS: u64 = 100;
 pub struct TcpDoor {
     rt: HostRuntime,
     listener: Option<TcpListener>,
+    read_seconds: u64,
     faults: u64,
 }
 
@@ -32,6 +41,7 @@ impl TcpDoor {
         TcpDoor {
             rt: *rt,
             listener: None,
+            read_seconds: LINK_SECONDS,
             faults: 0,
         }
     }
@@ -39,7 +49,7 @@ impl TcpDoor {
     // The next link, where one comes at this try.
     fn next(&self, listener: &TcpListener) -> Option<TcpLink> {
         let (stream, _) = listener.accept().ok()?;
-        TcpLink::over(&self.rt, stream)
+        TcpLink::over(&self.rt, stream, self.read_seconds)
     }
 
     // The next link.
@@ -84,5 +94,14 @@ impl Door for TcpDoor {
                 Err(Failed)
             }
         }
+    }
+
+    fn second(&mut self) -> Result<TcpDoor, Failed> {
+        Ok(TcpDoor {
+            rt: self.rt,
+            listener: None,
+            read_seconds: PATIENT_SECONDS,
+            faults: 0,
+        })
     }
 }

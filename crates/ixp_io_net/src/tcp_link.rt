@@ -6,8 +6,8 @@ use std::io::{Read, Write};
 use std::net::{Shutdown, TcpStream};
 use std::time::{Duration, Instant};
 
-/// How many seconds a read or a write waits for the peer.
-const LINK_SECONDS: u64 = 60;
+/// How many seconds a write waits for the peer.
+const WRITE_SECONDS: u64 = 60;
 
 /// How many seconds a link that ends waits for the next bytes of the peer.
 const LAST_SECONDS: u64 = 1;
@@ -18,8 +18,8 @@ const LINGER_SECONDS: u64 = 5;
 /// How many reads a link that ends makes at most.
 const LINGER_READS: u32 = 100_000;
 
-/// A TCP stream. It tells no content. A read or a write that fails or waits for more than a minute is a
-/// fault, and so is a write that takes nothing of a piece.
+/// A TCP stream. It tells no content. A read that fails or waits for longer than it may is a fault; so is a write
+/// that fails, waits for more than a minute or takes nothing of a piece.
 ///
 /// A link that is dropped tells its peer that no more comes, and reads on for some seconds: the system resets
 /// a connection that is closed with bytes unread, and its peer might then never see the last reply. After a
@@ -32,12 +32,16 @@ pub struct TcpLink {
 }
 
 impl TcpLink {
-    /// A link over this stream, where its limits can be set. What is written is sent at once.
-    pub fn over(rt: &HostRuntime, stream: TcpStream) -> Option<TcpLink> {
-        let limit = Some(Duration::from_secs(LINK_SECONDS));
+    /// A link over this stream, each read of which waits for so many seconds at most, where its limits can be
+    /// set. What is written is sent at once.
+    pub fn over(rt: &HostRuntime, stream: TcpStream, read_seconds: u64) -> Option<TcpLink> {
         stream.set_nodelay(true).ok()?;
-        stream.set_read_timeout(limit).ok()?;
-        stream.set_write_timeout(limit).ok()?;
+        stream
+            .set_read_timeout(Some(Duration::from_secs(read_seconds)))
+            .ok()?;
+        stream
+            .set_write_timeout(Some(Duration::from_secs(WRITE_SECONDS)))
+            .ok()?;
         Some(TcpLink {
             rt: *rt,
             stream,

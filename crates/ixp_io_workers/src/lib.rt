@@ -9,6 +9,7 @@
 #![tactic(auto)]
 
 mod background;
+mod helping;
 mod host;
 mod queue;
 mod seats;
@@ -16,7 +17,8 @@ mod serving;
 mod shared_clock;
 mod working;
 
+pub use helping::{HELPERS, Help, Helpers};
 pub use host::{Background, Host};
 pub use queue::{PLACES, Queue};
-pub use serving::serve;
+pub use serving::{serve, serve_helped};
 pub use shared_clock::SharedClock;

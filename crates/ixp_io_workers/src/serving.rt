@@ -4,9 +4,10 @@ ghost use Rattle.ixp_io.specs.Faults.{Rose};
 ghost use Rattle.ixp_io_workers.specs.Doors.{Gave};
 
 use crate::background::start_background;
+use crate::helping::start_helpers;
 use crate::seats::Seats;
 use crate::working::start_workers;
-use crate::{Host, Queue, SharedClock};
+use crate::{Help, Helpers, Host, Queue, SharedClock};
 use ixp_io::{Clock, Door, Failed};
 use std::alloc::{AllocError, Global};
 use std::sync::{Mutex, Wait};
@@ -198,6 +199,41 @@ where
     )
 }
 
+// The same while helpers serve links of their own: it ends once these were served, too.
+fn beside_helpers<
+    R: Threads + Wait + Sync,
+    C: Clock + Send,
+    L: Drop + Send,
+    H: Host<L> + Sync,
+    E: Door + Send,
+    K: Help<E::Link> + Sync,
+    T: Errand<L, C, H> + Drop,
+>(
+    rt: &R,
+    queue: &Queue<L>,
+    clock: &Mutex<C>,
+    host: &H,
+    seats: &Seats<H::Seat>,
+    helpers: &Helpers<E, K>,
+    errand: T,
+) -> T::Output
+where
+    H::Seat: Send + Drop,
+    E::Link: Drop + Send,
+    ensures { T.gives errand result }
+{
+    thread::scope(
+        thread::scope_env(),
+        rt,
+        move |scope| -> T::Output
+            ensures { T.gives errand result }
+        {
+            start_helpers(scope, rt, helpers);
+            beside_all(rt, queue, clock, host, seats, errand)
+        },
+    )
+}
+
 // Does nothing, but this use of a returned reference ties it, for the borrow checker, to the parameter that
 // lent it.
 fn take_back<T>(it: &mut T)
@@ -233,6 +269,45 @@ where
     let lent = &mut *door;
     let errand = Accepting { door: lent, links };
     let (back, done) = beside_all(rt, &queue, &clock, host, &seats, errand);
+    take_back(back);
+    Ok(done)
+}
+
+/// The same, while helpers serve the links of a further door. It ends once these were served, too, or once their door
+/// failed.
+pub fn serve_helped<
+    R: Threads + Wait + Sync,
+    D: Door + Send,
+    C: Clock + Send,
+    H: Host<D::Link> + Sync,
+    E: Door + Send,
+    K: Help<E::Link> + Sync,
+>(
+    rt: &R,
+    alloc: Global,
+    door: &mut D,
+    clock: &mut C,
+    host: &H,
+    seats: Vec<H::Seat>,
+    links: u32,
+    helpers: &Helpers<E, K>,
+) -> Result<Result<(), Failed>, AllocError>
+where
+    D::Link: Drop + Send,
+    H::Seat: Drop + Send,
+    E::Link: Drop + Send,
+    requires seats { 1 ≤ vec_len seats }
+    ensures gave { IfOk result (λ done. OnOk done (Gave (D.links door.old) (D.links door.new) links)) }
+    ensures cause { IfOk result (λ done. OnErr done (Rose (D.faults door.old) (D.faults door.new))) }
+    ensures counts { D.faults door.old ≤ D.faults door.new }
+    ensures kept { OnErr result (door.new ≡ door.old) }
+{
+    let queue = Queue::new(alloc)?;
+    let places = Seats::new(alloc, seats)?;
+    let clock = Mutex::new(&mut *clock);
+    let lent = &mut *door;
+    let errand = Accepting { door: lent, links };
+    let (back, done) = beside_helpers(rt, &queue, &clock, host, &places, helpers, errand);
     take_back(back);
     Ok(done)
 }

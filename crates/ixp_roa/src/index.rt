@@ -10,7 +10,7 @@ ghost use Rattle.ixp_roa.specs.Climbs.{AreInOrder, AreLinked, NoneFrom, StandsAt
 
 use crate::ordered::OrderedRoas;
 use crate::rows::is_match;
-use ixp_num::{Asn, Prefix, Validity};
+use ixp_num::{Asn, Prefix, Roa, Validity};
 use std::alloc::{AllocError, Global};
 use std::marker::Model;
 
@@ -92,7 +92,7 @@ fn climb(rows: &OrderedRoas, links: &[usize], net: &Prefix, origin: Asn) -> Vali
 }
 
 impl Index {
-    ghost use Rattle.std.specs.Prelude.{◌≡◌, IfOk};
+    ghost use Rattle.std.specs.Prelude.{◌≡◌, ◌++◌, take, drop, IfOk, OnOk};
     ghost use Rattle.ixp_num.specs.Roas.{validity};
 
     /// The index of these ROAs.
@@ -102,6 +102,13 @@ impl Index {
         rows.are_in_order();
         let links = links_of(alloc, &rows)?;
         Ok(Index { rows, links })
+    }
+
+    /// Adds the ROA at this place to others, where there is one.
+    pub(crate) fn put_at(&self, place: usize, roas: &mut Vec<Roa>) -> Result<(), AllocError>
+        ensures { OnOk result (roas.new.items ≡ roas.old.items ++ take 1 (drop place self.now)) }
+    {
+        self.rows.put_at(place, roas)
     }
 
     /// What the ROAs say of a route to the net with the origin. It does not allocate.

@@ -60,7 +60,7 @@ fn in_order(mut rows: Vec<CompactRoa>) -> Vec<CompactRoa>
 }
 
 impl OrderedRoas {
-    ghost use Rattle.std.specs.Prelude.{◌≡◌, ◌<◌, length, slice_index_or, IfOk};
+    ghost use Rattle.std.specs.Prelude.{◌≡◌, ◌<◌, ◌++◌, length, take, drop, slice_index_or, IfOk, OnOk};
     ghost use Rattle.std.specs.List.{Contains};
     ghost use Rattle.ixp_num.specs.declared.roa.Roa.{Roa};
     ghost use Rattle.ixp_roa.specs.Climbs.{AreInOrder, IsPlace};
@@ -96,6 +96,17 @@ impl OrderedRoas {
         ensures { result ≡ slice_index_or self.now i result }
     {
         self.rows[i].roa()
+    }
+
+    /// Adds the ROA at this place to others, where there is one.
+    pub(crate) fn put_at(&self, place: usize, roas: &mut Vec<Roa>) -> Result<(), AllocError>
+        ensures { OnOk result (roas.new.items ≡ roas.old.items ++ take 1 (drop place self.now)) }
+    {
+        if place >= self.len() {
+            return Ok(());
+        }
+        roas.push(self.at(place))?;
+        Ok(())
     }
 
     /// How many ROAs begin no later than the net.

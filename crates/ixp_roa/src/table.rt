@@ -67,6 +67,17 @@ impl RoaTable {
         Ok(RoaTable { places, index })
     }
 
+    /// The ROAs that the table was made of, in their order. It fails only where memory runs out.
+    pub fn roas(&self, alloc: Global) -> Result<Vec<Roa>, AllocError>
+        ensures { IfOk result (λ rows. rows.items ≡ self.now) }
+    {
+        let mut rows = Vec::with_capacity(alloc, self.places.len())?;
+        for place in self.places.as_slice() {
+            self.index.put_at(*place, &mut rows)?;
+        }
+        Ok(rows)
+    }
+
     /// The ROAs of a CSV text, in ascending order and each once. Its columns are an AS number with or without
     /// `AS` before it, a prefix, and a max length or nothing for the prefix's; further columns don't matter,
     /// and a first row that begins with `ASN` is a header.

@@ -29,6 +29,15 @@ between_bytes session serial pdus =
     ∙ ap (λ (t : List ℕ). first ++ t)
     (ap (λ (t : List ℕ). pdus_bytes pdus ++ t) (sym (append-nil last)) ∙ sym (flat_map-append pdu_bytes pdus (EndOfData session serial ∷ [])))
 
+-- PDUs that were written between Cache Response and End of Data, of which the last may fail
+pub between_written : {A E : Type 0} (r : Result A E) (a b c d : Option (List ℕ)) (session serial : ℕ) (pdus : List Pdu)
+    → Takes a b (pdu_bytes (CacheResponse session)) → Takes b c (pdus_bytes pdus) → OnOk r (Takes c d (pdu_bytes (EndOfData session serial)))
+    → OnOk r (Takes a d (pdus_bytes (between session serial pdus)))
+between_written r a b c d session serial pdus p q end =
+    let first = pdu_bytes (CacheResponse session) in
+    then_ok r a c d (first ++ pdus_bytes pdus) (pdu_bytes (EndOfData session serial)) (pdus_bytes (between session serial pdus))
+    (Takes-then a b c first (pdus_bytes pdus) p q) end (between_bytes session serial pdus)
+
 -- the bytes of one PDU
 pub one_bytes : (pdu : Pdu) → pdu_bytes pdu ≡ pdus_bytes (pdu ∷ [])
 one_bytes pdu = sym (append-nil (pdu_bytes pdu))

@@ -1,3 +1,4 @@
+pub mod Batching
 pub mod Fronts
 pub mod Joined
 pub mod Keys

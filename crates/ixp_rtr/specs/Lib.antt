@@ -1,4 +1,5 @@
 pub mod Headers
+pub mod Batches
 pub mod Queries
 pub mod Pdus
 pub mod Caches

@@ -5,12 +5,14 @@ ghost use Rattle.ixp_num_tables.specs.Tables.{Ascends};
 ghost use Rattle.ixp_num_sorted.specs.Keys.{roa_key};
 ghost use Rattle.ixp_io.specs.Faults.{Rose};
 ghost use Rattle.ixp_io.specs.Told.{Takes};
+ghost use Rattle.ixp_rtr.specs.Batches.{gathered};
 ghost use Rattle.ixp_rtr.specs.Pdus.{pdus_bytes};
 ghost use Rattle.ixp_rtr.specs.Caches.{set_of};
 ghost use Rattle.ixp_rtr.specs.Changes.{changes};
 ghost use Rattle.ixp_rtr.specs.Answers as spec;
 ghost use Rattle.ixp_rtr.specs.Clients.{BringsPresent};
 
+use crate::batch::Batch;
 use crate::cache::RtrCache;
 use crate::changes::{write_all_of, write_changes};
 use crate::header::Header;
@@ -100,69 +102,78 @@ fn brings_present(cache: &RtrCache, query: &Query)
 // Writes announcements of a whole set, between Cache Response and End of Data.
 fn write_set<L: Sink>(
     link: &mut L,
+    batch: &mut Batch,
     session: u16,
     serial: u32,
     set: &Sorted<Roa>,
 ) -> Result<(), Failed>
-    ensures ok { OnOk result (Takes (L.written link.old) (L.written link.new)
-        (pdus_bytes (spec.all_of session serial set.now))) }
+    ensures ok { OnOk result (Takes (gathered (L.written link.old) batch.old)
+        (gathered (L.written link.new) batch.new) (pdus_bytes (spec.all_of session serial set.now))) }
     ensures counts { L.write_faults link.old ≤ L.write_faults link.new }
     ensures cause { OnErr result (Rose (L.write_faults link.old) (L.write_faults link.new)) }
     ensures left { L.left link.new ≡ L.left link.old }
     ensures read_faults { L.read_faults link.new ≡ L.read_faults link.old }
 {
-    write_pdu(link, &Pdu::CacheResponse { session })?;
-    write_all_of(link, set.as_slice())?;
-    write_pdu(link, &Pdu::EndOfData { session, serial })
+    write_pdu(link, batch, &Pdu::CacheResponse { session })?;
+    write_all_of(link, batch, set.as_slice())?;
+    write_pdu(link, batch, &Pdu::EndOfData { session, serial })
 }
 
 // Writes the difference of two sets, between Cache Response and End of Data.
 fn write_from<L: Sink>(
     link: &mut L,
+    batch: &mut Batch,
     session: u16,
     serial: u32,
     from: &Sorted<Roa>,
     to: &Sorted<Roa>,
 ) -> Result<(), Failed>
-    ensures ok { OnOk result (Takes (L.written link.old) (L.written link.new)
+    ensures ok { OnOk result (Takes (gathered (L.written link.old) batch.old)
+        (gathered (L.written link.new) batch.new)
         (pdus_bytes (spec.between session serial (changes from.now to.now)))) }
     ensures counts { L.write_faults link.old ≤ L.write_faults link.new }
     ensures cause { OnErr result (Rose (L.write_faults link.old) (L.write_faults link.new)) }
     ensures left { L.left link.new ≡ L.left link.old }
     ensures read_faults { L.read_faults link.new ≡ L.read_faults link.old }
 {
-    write_pdu(link, &Pdu::CacheResponse { session })?;
-    write_changes(link, from.as_slice(), to.as_slice())?;
-    write_pdu(link, &Pdu::EndOfData { session, serial })
+    write_pdu(link, batch, &Pdu::CacheResponse { session })?;
+    write_changes(link, batch, from.as_slice(), to.as_slice())?;
+    write_pdu(link, batch, &Pdu::EndOfData { session, serial })
 }
 
 // Writes Cache Reset.
-fn write_too_old<L: Sink>(link: &mut L) -> Result<(), Failed>
-    ensures ok { OnOk result (Takes (L.written link.old) (L.written link.new) (pdus_bytes spec.too_old)) }
+fn write_too_old<L: Sink>(link: &mut L, batch: &mut Batch) -> Result<(), Failed>
+    ensures ok { OnOk result (Takes (gathered (L.written link.old) batch.old)
+        (gathered (L.written link.new) batch.new) (pdus_bytes spec.too_old)) }
     ensures counts { L.write_faults link.old ≤ L.write_faults link.new }
     ensures cause { OnErr result (Rose (L.write_faults link.old) (L.write_faults link.new)) }
     ensures left { L.left link.new ≡ L.left link.old }
     ensures read_faults { L.read_faults link.new ≡ L.read_faults link.old }
 {
-    write_pdu(link, &Pdu::CacheReset)
+    write_pdu(link, batch, &Pdu::CacheReset)
 }
 
 // Writes an Error Report.
-fn write_code<L: Sink>(link: &mut L, code: u16, faulty: Header) -> Result<(), Failed>
-    ensures ok { OnOk result (Takes (L.written link.old) (L.written link.new)
-        (pdus_bytes (spec.report code faulty))) }
+fn write_code<L: Sink>(
+    link: &mut L,
+    batch: &mut Batch,
+    code: u16,
+    faulty: Header,
+) -> Result<(), Failed>
+    ensures ok { OnOk result (Takes (gathered (L.written link.old) batch.old)
+        (gathered (L.written link.new) batch.new) (pdus_bytes (spec.report code faulty))) }
     ensures counts { L.write_faults link.old ≤ L.write_faults link.new }
     ensures cause { OnErr result (Rose (L.write_faults link.old) (L.write_faults link.new)) }
     ensures left { L.left link.new ≡ L.left link.old }
     ensures read_faults { L.read_faults link.new ≡ L.read_faults link.old }
 {
-    write_pdu(link, &Pdu::ErrorReport { code, faulty })
+    write_pdu(link, batch, &Pdu::ErrorReport { code, faulty })
 }
 
 // Writes the Error Report on a Serial Query of another session.
-fn write_other_session<L: Sink>(link: &mut L, session: u16) -> Result<(), Failed>
-    ensures ok { OnOk result (Takes (L.written link.old) (L.written link.new)
-        (pdus_bytes (spec.other_session session))) }
+fn write_other_session<L: Sink>(link: &mut L, batch: &mut Batch, session: u16) -> Result<(), Failed>
+    ensures ok { OnOk result (Takes (gathered (L.written link.old) batch.old)
+        (gathered (L.written link.new) batch.new) (pdus_bytes (spec.other_session session))) }
     ensures counts { L.write_faults link.old ≤ L.write_faults link.new }
     ensures cause { OnErr result (Rose (L.write_faults link.old) (L.write_faults link.new)) }
     ensures left { L.left link.new ≡ L.left link.old }
@@ -174,7 +185,7 @@ fn write_other_session<L: Sink>(link: &mut L, session: u16) -> Result<(), Failed
         session,
         length: 12,
     };
-    write_code(link, 0, faulty)
+    write_code(link, batch, 0, faulty)
 }
 
 // The answer to a Serial Query of the cache's session.
@@ -217,9 +228,9 @@ pub fn answer_of(cache: &RtrCache, query: &Query) -> Result<Answer, AllocError>
 }
 
 // Writes the PDUs of an answer.
-fn write_parts<L: Sink>(answer: &Answer, link: &mut L) -> Result<(), Failed>
-    ensures ok { OnOk result (Takes (L.written link.old) (L.written link.new)
-        (pdus_bytes (spec.pdus_of answer.now))) }
+fn write_parts<L: Sink>(answer: &Answer, link: &mut L, batch: &mut Batch) -> Result<(), Failed>
+    ensures ok { OnOk result (Takes (gathered (L.written link.old) batch.old)
+        (gathered (L.written link.new) batch.new) (pdus_bytes (spec.pdus_of answer.now))) }
     ensures counts { L.write_faults link.old ≤ L.write_faults link.new }
     ensures cause { OnErr result (Rose (L.write_faults link.old) (L.write_faults link.new)) }
     ensures left { L.left link.new ≡ L.left link.old }
@@ -231,19 +242,20 @@ fn write_parts<L: Sink>(answer: &Answer, link: &mut L) -> Result<(), Failed>
             session,
             serial,
             set,
-        } => write_set(link, *session, *serial, set.get()),
+        } => write_set(link, batch, *session, *serial, set.get()),
         Answer::Changes {
             session,
             serial,
             from,
             to,
-        } => write_from(link, *session, *serial, from.get(), to.get()),
-        Answer::TooOld => write_too_old(link),
-        Answer::OtherSession { session } => write_other_session(link, *session),
+        } => write_from(link, batch, *session, *serial, from.get(), to.get()),
+        Answer::TooOld => write_too_old(link, batch),
+        Answer::OtherSession { session } => write_other_session(link, batch, *session),
     }
 }
 
 /// Writes an answer. It does not allocate.
+#[tactic(auto, using(crate::proofs::Batching::all_written))]
 pub fn write<L: Sink>(answer: &Answer, link: &mut L) -> Result<(), RtrWriteFault>
     ensures ok { OnOk result (Takes (L.written link.old) (L.written link.new)
         (pdus_bytes (spec.pdus_of answer.now))) }
@@ -252,13 +264,21 @@ pub fn write<L: Sink>(answer: &Answer, link: &mut L) -> Result<(), RtrWriteFault
     ensures left { L.left link.new ≡ L.left link.old }
     ensures read_faults { L.read_faults link.new ≡ L.read_faults link.old }
 {
-    write_parts(answer, link)?;
+    let mut batch = Batch::new();
+    write_parts(answer, link, &mut batch)?;
+    batch.flush(link)?;
     Ok(())
 }
 
 // Writes the answer to a Serial Query of the cache's session.
-fn write_since<L: Sink>(cache: &RtrCache, serial: u32, link: &mut L) -> Result<(), Failed>
-    ensures ok { OnOk result (Takes (L.written link.old) (L.written link.new)
+fn write_since<L: Sink>(
+    cache: &RtrCache,
+    serial: u32,
+    link: &mut L,
+    batch: &mut Batch,
+) -> Result<(), Failed>
+    ensures ok { OnOk result (Takes (gathered (L.written link.old) batch.old)
+        (gathered (L.written link.new) batch.new)
         (pdus_bytes (spec.since cache.now (set_of cache.now serial)))) }
     ensures counts { L.write_faults link.old ≤ L.write_faults link.new }
     ensures cause { OnErr result (Rose (L.write_faults link.old) (L.write_faults link.new)) }
@@ -268,31 +288,43 @@ fn write_since<L: Sink>(cache: &RtrCache, serial: u32, link: &mut L) -> Result<(
     match set_at(cache, serial) {
         Some(set) => write_from(
             link,
+            batch,
             cache.session,
             cache.serial,
             set.get(),
             cache.present.get(),
         ),
-        None => write_too_old(link),
+        None => write_too_old(link, batch),
     }
 }
 
 // Writes the answer to a query.
-fn write_query<L: Sink>(cache: &RtrCache, query: &Query, link: &mut L) -> Result<(), Failed>
-    ensures ok { OnOk result (Takes (L.written link.old) (L.written link.new)
-        (pdus_bytes (spec.answer cache.now query.now))) }
+fn write_query<L: Sink>(
+    cache: &RtrCache,
+    query: &Query,
+    link: &mut L,
+    batch: &mut Batch,
+) -> Result<(), Failed>
+    ensures ok { OnOk result (Takes (gathered (L.written link.old) batch.old)
+        (gathered (L.written link.new) batch.new) (pdus_bytes (spec.answer cache.now query.now))) }
     ensures counts { L.write_faults link.old ≤ L.write_faults link.new }
     ensures cause { OnErr result (Rose (L.write_faults link.old) (L.write_faults link.new)) }
     ensures left { L.left link.new ≡ L.left link.old }
     ensures read_faults { L.read_faults link.new ≡ L.read_faults link.old }
 {
     match query {
-        Query::Reset => write_set(link, cache.session, cache.serial, cache.present.get()),
+        Query::Reset => write_set(
+            link,
+            batch,
+            cache.session,
+            cache.serial,
+            cache.present.get(),
+        ),
         Query::Serial { session, serial } => {
             if *session == cache.session {
-                write_since(cache, *serial, link)
+                write_since(cache, *serial, link, batch)
             } else {
-                write_other_session(link, *session)
+                write_other_session(link, batch, *session)
             }
         }
         Query::End => Ok(()),
@@ -300,6 +332,7 @@ fn write_query<L: Sink>(cache: &RtrCache, query: &Query, link: &mut L) -> Result
 }
 
 /// Writes the answer to a query, straight from the cache's sets. It does not allocate.
+#[tactic(auto, using(crate::proofs::Batching::all_written))]
 pub fn write_answer<L: Sink>(
     cache: &RtrCache,
     query: &Query,
@@ -314,24 +347,30 @@ pub fn write_answer<L: Sink>(
     ensures brings { BringsPresent cache.now query.now }
 {
     brings_present(cache, query);
-    write_query(cache, query, link)?;
+    let mut batch = Batch::new();
+    write_query(cache, query, link, &mut batch)?;
+    batch.flush(link)?;
     Ok(())
 }
 
 // Writes the Error Report on a fault, by its code.
-fn write_report_on<L: Sink>(fault: &QueryFault, link: &mut L) -> Result<(), Failed>
-    ensures ok { OnOk result (Takes (L.written link.old) (L.written link.new)
-        (pdus_bytes (spec.reports fault.now))) }
+fn write_report_on<L: Sink>(
+    fault: &QueryFault,
+    link: &mut L,
+    batch: &mut Batch,
+) -> Result<(), Failed>
+    ensures ok { OnOk result (Takes (gathered (L.written link.old) batch.old)
+        (gathered (L.written link.new) batch.new) (pdus_bytes (spec.reports fault.now))) }
     ensures counts { L.write_faults link.old ≤ L.write_faults link.new }
     ensures cause { OnErr result (Rose (L.write_faults link.old) (L.write_faults link.new)) }
     ensures left { L.left link.new ≡ L.left link.old }
     ensures read_faults { L.read_faults link.new ≡ L.read_faults link.old }
 {
     match fault {
-        QueryFault::Version { faulty, .. } => write_code(link, 4, *faulty),
-        QueryFault::Type { faulty, .. } => write_code(link, 5, *faulty),
-        QueryFault::Request { faulty, .. } => write_code(link, 3, *faulty),
-        QueryFault::Length { faulty, .. } => write_code(link, 0, *faulty),
+        QueryFault::Version { faulty, .. } => write_code(link, batch, 4, *faulty),
+        QueryFault::Type { faulty, .. } => write_code(link, batch, 5, *faulty),
+        QueryFault::Request { faulty, .. } => write_code(link, batch, 3, *faulty),
+        QueryFault::Length { faulty, .. } => write_code(link, batch, 0, *faulty),
         QueryFault::Peer | QueryFault::Cut | QueryFault::ReadFault => Ok(()),
     }
 }
@@ -339,6 +378,7 @@ fn write_report_on<L: Sink>(fault: &QueryFault, link: &mut L) -> Result<(), Fail
 /// Writes the Error Report on a fault (RFC 8210 section 12): code 4 for another version, 5 for a type that
 /// doesn't exist, 3 for a PDU that is no query, 0 for a wrong length. On an Error Report, an input that was
 /// cut off or a failed read nothing is written. It does not allocate.
+#[tactic(auto, using(crate::proofs::Batching::all_written))]
 pub fn write_fault<L: Sink>(fault: &QueryFault, link: &mut L) -> Result<(), RtrWriteFault>
     ensures ok { OnOk result (Takes (L.written link.old) (L.written link.new)
         (pdus_bytes (spec.reports fault.now))) }
@@ -347,6 +387,8 @@ pub fn write_fault<L: Sink>(fault: &QueryFault, link: &mut L) -> Result<(), RtrW
     ensures left { L.left link.new ≡ L.left link.old }
     ensures read_faults { L.read_faults link.new ≡ L.read_faults link.old }
 {
-    write_report_on(fault, link)?;
+    let mut batch = Batch::new();
+    write_report_on(fault, link, &mut batch)?;
+    batch.flush(link)?;
     Ok(())
 }

@@ -12,10 +12,13 @@
 //! has the set which its query names has exactly the present set after the answer, without a ROA announced
 //! that it has or one withdrawn that it doesn't have.
 //!
+//! PDUs are gathered before they are written: a link is handed up to 16 KiB at once.
+//!
 //! Serial Notify, Router Key and version 0 are left out. A link is any source and sink of `ixp_io`.
 #![tactic(auto)]
 
 mod answer;
+mod batch;
 mod cache;
 mod changes;
 mod header;

@@ -11,6 +11,8 @@ mod held;
 #[cfg(test)]
 mod pairs;
 #[cfg(test)]
+mod routers;
+#[cfg(test)]
 mod samples;
 #[cfg(test)]
 mod turns;

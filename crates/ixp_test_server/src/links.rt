@@ -3,7 +3,7 @@ ghost use Rattle.std.specs.Prelude.{◌≤◌, length};
 
 use ixp_io::{Clock, Failed, MemLink, MemSink, MemSource, Plan, SetClock, Sink, Source};
 use ixp_io_holds::{Hold, HoldDoor, HoldLink, TURNS};
-use ixp_io_workers::{Background, Host, serve};
+use ixp_io_workers::{Background, Help, Helpers, Host, serve, serve_helped};
 use ixp_num_tables::Items;
 use std::alloc::{AllocError, Global};
 use std::collections::VecDeque;
@@ -101,6 +101,22 @@ impl<L: Source + Sink> Host<L> for Echo {
     }
 }
 
+/// Answers as [`Echo`] does, and counts the links that ended as they should.
+#[derive(Drop)]
+struct Counting<'a> {
+    ended: &'a AtomicU64,
+}
+
+impl<L: Source + Sink> Help<L> for Counting<'_> {
+    ghost helped = { λ before after. Unit {0} };
+
+    fn help<R: Wait>(&self, _rt: &R, link: &mut L) {
+        if answer_all(link).is_ok() {
+            self.ended.fetch_add(1, Ordering::SeqCst);
+        }
+    }
+}
+
 fn link<'a>(alloc: Global, hold: &'a Hold, told: &'a Hold) -> Result<HoldLink<'a>, AllocError> {
     let link = MemLink {
         source: MemSource::new(Items::from_slice(alloc, b"ab")?, Plan::smooth(alloc)),
@@ -109,13 +125,22 @@ fn link<'a>(alloc: Global, hold: &'a Hold, told: &'a Hold) -> Result<HoldLink<'a
     Ok(HoldLink::new(link, 1, hold, told))
 }
 
-fn door<'a>(alloc: Global, first: &'a Hold, second: &'a Hold) -> Result<HoldDoor<'a>, AllocError> {
+// Two links that wait for each other.
+fn waiting<'a>(
+    alloc: Global,
+    first: &'a Hold,
+    second: &'a Hold,
+) -> Result<VecDeque<HoldLink<'a>>, AllocError> {
     first.close();
     second.close();
     let mut links = VecDeque::new(alloc);
     links.push_back(link(alloc, first, second)?)?;
     links.push_back(link(alloc, second, first)?)?;
-    Ok(HoldDoor::new(links))
+    Ok(links)
+}
+
+fn door<'a>(alloc: Global, first: &'a Hold, second: &'a Hold) -> Result<HoldDoor<'a>, AllocError> {
+    Ok(HoldDoor::new(waiting(alloc, first, second)?, None))
 }
 
 /// What came of links.
@@ -205,5 +230,35 @@ fn one_seat_leaves_a_link_waiting(rt: HostRuntime) -> Result<(), Fail> {
 fn a_door_without_a_further_link_fails(rt: HostRuntime) -> Result<(), Fail> {
     let have = served(&rt, rt.alloc(), TURNS, &[0, 200, 300], 3)?;
     assert!(rt; have.ended == 2 && have.failed);
+    Ok(())
+}
+
+// How many links of a further door are asked for, and how many it gave and ended as they should, while the first door
+// gives none.
+fn helped<R: Threads + Wait + Sync>(
+    rt: &R,
+    alloc: Global,
+    links: u32,
+) -> Result<(u32, u64), AllocError> {
+    let first = Hold::for_turns(TURNS);
+    let second = Hold::for_turns(TURNS);
+    let further = HoldDoor::new(waiting(alloc, &first, &second)?, None);
+    let ended = AtomicU64::new(0);
+    let helpers = Helpers::new(further, links, Counting { ended: &ended });
+    let mut door = HoldDoor::new(VecDeque::new(alloc), None);
+    let mut clock = SetClock::new(7);
+    let mut seats = Vec::new(alloc);
+    seats.push(0)?;
+    let host = Echo::new();
+    let _served = serve_helped(rt, alloc, &mut door, &mut clock, &host, seats, 0, &helpers)?;
+    let (given, _further) = helpers.finish(rt);
+    Ok((given, ended.load(Ordering::SeqCst)))
+}
+
+// Two links that wait for each other are served side by side; a door without a third one gives two.
+#[test]
+fn helpers_serve_links_side_by_side(rt: HostRuntime) -> Result<(), Fail> {
+    assert!(rt; helped(&rt, rt.alloc(), 2)? == (2, 2));
+    assert!(rt; helped(&rt, rt.alloc(), 3)? == (2, 2));
     Ok(())
 }

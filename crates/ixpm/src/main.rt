@@ -34,6 +34,9 @@ const HELP: &str = "ixpm: the registry of an internet exchange, and its route se
   ixpm session     answers the HTTP requests on standard input, over the registry in the store
   ixpm serve P W N serves N HTTP connections on port P of 127.0.0.1, by W workers, 1 to 62, over the registry in the store;
                    then it writes how many it served
+  ixpm serve P W N rtr Q M
+                   the same, and gives the registry's ROAs to M RTR connections of routers on port Q, 16 at a time
+                   (RFC 8210); then it writes in a second line how many it served
   ixpm demo N      writes how many members, sessions and patterns of prefix sets the demo exchange with N members has,
                    from 1 to 4000, and how many parts of its text are regenerated after edits
   ixpm --help      writes this
@@ -68,6 +71,12 @@ fn show(rt: &HostRuntime, text: &str) -> u8 {
     }
 }
 
+/// Reports that memory ran out before a command began, and gives the status.
+fn short(rt: &HostRuntime) -> u8 {
+    let _ = rt.eprint("ixpm: no memory\n");
+    8
+}
+
 /// Runs a command over the standard streams. `wait` is the same runtime: code outside `main` may wait by it.
 fn command<R: Threads + Wait + Sync>(rt: &HostRuntime, wait: &R, words: &[&str]) -> u8 {
     let alloc = rt.alloc();
@@ -75,7 +84,7 @@ fn command<R: Threads + Wait + Sync>(rt: &HostRuntime, wait: &R, words: &[&str])
     let mut output = WriteSink::new(rt.stdout());
     let mut errors = WriteSink::new(rt.stderr());
     let Ok(mut keeper) = FileKeeper::new(rt, STORE) else {
-        return 8;
+        return short(rt);
     };
     let mut clock = SystemClock::new(rt);
     let mut door = TcpDoor::new(rt);
@@ -116,7 +125,7 @@ fn status_of<R: Threads + Wait + Sync>(rt: &HostRuntime, wait: &R) -> io::Result
 fn main(rt: HostRuntime) -> ExitCode {
     match status_of(&rt, &rt) {
         Ok(status) => ExitCode::from(status),
-        Err(e) if e.kind() == io::ErrorKind::OutOfMemory => ExitCode::from(8),
+        Err(e) if e.kind() == io::ErrorKind::OutOfMemory => ExitCode::from(short(&rt)),
         // A word that is no text is a word of no command.
         Err(_) => ExitCode::from(command(&rt, &rt, &[])),
     }

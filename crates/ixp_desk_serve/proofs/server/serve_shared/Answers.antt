@@ -4,6 +4,6 @@ use denote.Param.Send.{param_sync, arg_sync}
 use Rattle.ixp_desk_serve.proofs.Crossing.{hosting_sync}
 use Rattle.ixp_desk_serve.proofs.server.serve_shared.Goals as goal
 
-pub serve-requires-sync-H : goal.serve-requires-sync-H
-serve-requires-sync-H g c κs within =
+pub serve-served-requires-sync-H : goal.serve-served-requires-sync-H
+serve-served-requires-sync-H g c κs within =
     param_sync _ _ (arg_sync _ yes _ (hosting_sync (param 2 g.row.P) (param 1 g.row.N) (param 3 g.row.W) g.P.Keeper g.N.BoardName c.type_bounds.send-P c.type_bounds.send-W _ (param 6 g.row.G) c.type_bounds.sync-G))

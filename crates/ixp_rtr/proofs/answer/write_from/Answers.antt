@@ -1,10 +1,13 @@
-use Rattle.ixp_io.proofs.Streams.{Takes-then}
-use Rattle.ixp_rtr.proofs.Joined.{then_ok, between_bytes}
+use Rattle.ixp_rtr.proofs.Joined.{between_written}
+use Rattle.ixp_rtr.specs.Batches.{gathered}
 use Rattle.ixp_rtr.specs.Changes.{changes}
 use Rattle.ixp_rtr.proofs.answer.write_from.Goals as goal
 
 pub returns-clause-ok : goal.returns-clause-ok
 returns-clause-ok g c =
-    let wrote = rw (c.as_slice.ensures.items, c.as_slice-2.ensures.items) at c.in_ok-write_changes.ensures.ok in
-    then_ok c.write_pdu-2.result _ _ _ _ _ _ (Takes-then _ _ _ _ _ c.in_ok-write_pdu.ensures.ok wrote) c.write_pdu-2.ensures.ok
-    (between_bytes c.args.session c.args.serial (changes c.args.from.now c.args.to.now))
+    let told = g.L.Stream in
+    between_written c.write_pdu-2.result (gathered (told.written c.args.link.now) c.args.batch.now)
+    (gathered (told.written c.write_pdu.new.link) c.write_pdu.new.batch) (gathered (told.written c.write_changes.new.link) c.write_changes.new.batch)
+    (gathered (told.written c.write_pdu-2.new.link) c.write_pdu-2.new.batch)
+    c.args.session c.args.serial (changes c.args.from.now c.args.to.now)
+    c.in_ok-write_pdu.ensures.ok (rw (c.as_slice.ensures.items, c.as_slice-2.ensures.items) at c.in_ok-write_changes.ensures.ok) c.write_pdu-2.ensures.ok

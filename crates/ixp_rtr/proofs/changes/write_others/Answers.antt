@@ -4,6 +4,7 @@ use Rattle.std.proofs.lemmas.List.{drop_more}
 use Rattle.ixp_num_tables.specs.Tables.{Ascends}
 use Rattle.ixp_num_sorted.specs.Keys.{roa_key}
 use Rattle.ixp_io.specs.Told.{Takes}
+use Rattle.ixp_rtr.specs.Batches.{gathered}
 use Rattle.ixp_io.proofs.Streams.{Takes-then}
 use Rattle.ixp_rtr.specs.declared.pdu.Pdu.TheVariants.{Prefix}
 use Rattle.ixp_rtr.specs.Pdus.{pdus_bytes}
@@ -25,13 +26,16 @@ loop-roa-preserved g c =
     let same : AllByRecursion (λ r. is_among than r ≡ is_among c.loop-roa.left.now r) (roa ∷ drop (i + 1) set)
     = subst (AllByRecursion (λ r. is_among than r ≡ is_among c.loop-roa.left.now r)) split c.loop-roa.invariant.same in
     let among : c.pass-among.result.0 ≡ is_among than roa = c.pass-among.ensures.among ∙ sym same.0 in
-    let wrote : Takes (told.written c.loop-roa.link) (told.written c.write_if.new.link) (pdus_bytes (map pdu (cond (not (is_among than roa)) (roa ∷ []) [])))
-    = subst (λ b. Takes (told.written c.loop-roa.link) (told.written c.write_if.new.link) (pdus_bytes (map pdu (cond (not b) (roa ∷ []) [])))) among c.in_ok-write_if.ensures.ok in
+    let wrote : Takes (gathered (told.written c.loop-roa.link) c.loop-roa.batch) (gathered (told.written c.write_if.new.link) c.write_if.new.batch) (pdus_bytes (map pdu (cond (not (is_among than roa)) (roa ∷ []) [])))
+    = subst (λ b. Takes (gathered (told.written c.loop-roa.link) c.loop-roa.batch) (gathered (told.written c.write_if.new.link) c.write_if.new.batch) (pdus_bytes (map pdu (cond (not b) (roa ∷ []) [])))) among c.in_ok-write_if.ensures.ok in
     let bytes : pdus_bytes (map pdu (others (take (i + 1) set) than)) ≡ pdus_bytes (map pdu (others (take i set) than)) ++ pdus_bytes (map pdu (cond (not (is_among than roa)) (roa ∷ []) []))
     = bytes_more pdu set than i roa c.loop-roa-test.true
     ∙ ap (λ r. pdus_bytes (map pdu (others (take i set) than)) ++ pdus_bytes (map pdu (cond (not (is_among than r)) (r ∷ []) []))) (sym c.roa-item.is) in
     record {
-      takes = subst (Takes (told.written c.args.link.now) (told.written c.write_if.new.link)) (sym bytes) (Takes-then _ _ _ _ _ c.loop-roa.invariant.takes wrote);
+      takes = subst (Takes (gathered (told.written c.args.link.now) c.args.batch.now) (gathered (told.written c.write_if.new.link) c.write_if.new.batch)) (sym bytes)
+          (Takes-then (gathered (told.written c.args.link.now) c.args.batch.now) (gathered (told.written c.loop-roa.link) c.loop-roa.batch)
+          (gathered (told.written c.write_if.new.link) c.write_if.new.batch) (pdus_bytes (map pdu (others (take i set) than)))
+          (pdus_bytes (map pdu (cond (not (is_among than roa)) (roa ∷ []) []))) c.loop-roa.invariant.takes wrote);
       set = up.1;
       rest = c.pass-among.ensures.ascends;
       same = later than c.loop-roa.left.now c.pass-among.result.1.now roa (drop (i + 1) set) up.0 same.1 c.pass-among.ensures.rest;

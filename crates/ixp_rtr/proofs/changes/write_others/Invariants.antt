@@ -3,6 +3,7 @@ use Rattle.std.specs.List.{AllByRecursion}
 use Rattle.ixp_num_tables.specs.Tables.{Ascends}
 use Rattle.ixp_num_sorted.specs.Keys.{roa_key}
 use Rattle.ixp_io.specs.Told.{Takes}
+use Rattle.ixp_rtr.specs.Batches.{gathered}
 use Rattle.ixp_rtr.specs.declared.pdu.Pdu.TheVariants.{Prefix}
 use Rattle.ixp_rtr.specs.Pdus.{pdus_bytes}
 use Rattle.ixp_rtr.specs.Changes.{is_among, others}
@@ -12,7 +13,7 @@ abbrev pub invariant-loop-roa : goal.invariant-loop-roa
 invariant-loop-roa g l =
     let told = g.L.Stream in
     record {
-      takes : Takes (told.written l.fn.link) (told.written l.link) (pdus_bytes (map (Prefix l.announces) (others (take l.roa-index l.set) l.than)));
+      takes : Takes (gathered (told.written l.fn.link) l.fn.batch) (gathered (told.written l.link) l.batch) (pdus_bytes (map (Prefix l.announces) (others (take l.roa-index l.set) l.than)));
       set : Ascends roa_key (drop l.roa-index l.set);
       rest : Ascends roa_key l.left;
       same : AllByRecursion (λ r. is_among l.than r ≡ is_among l.left r) (drop l.roa-index l.set);

@@ -1,0 +1,3 @@
+pub mod Roas
+pub mod Routers
+pub mod Steps
