@@ -1,0 +1,4 @@
+pub mod Reports
+pub mod Forms
+pub mod Kept
+pub mod Same
