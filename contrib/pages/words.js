@@ -28,7 +28,7 @@ export const words = {
   },
   "X1": {
    "status": "403",
-   "when": "the key's owner hasn't the right; with explain, the interface isn't its own, or isn't there",
+   "when": "the key's owner hasn't the right; with explain and glass, the interface isn't its own, or isn't there",
    "detail": "staff or member <number>"
   },
   "X2": {
@@ -130,6 +130,21 @@ export const words = {
    "status": "500",
    "when": "the count of accepted edits, or of the turns of the connection's worker, has come to its end",
    "detail": "the count"
+  },
+  "Z1": {
+   "status": "413",
+   "when": "more than 1,000 routes of a session would be held, or routes of more than 16 sessions",
+   "detail": "how many there would be, and the limit, as 1001 1000 or 17 16"
+  },
+  "Z2": {
+   "status": "422",
+   "when": "a route that is to be held isn't of the router's family",
+   "detail": "the place of the first one, counted from 1"
+  },
+  "Z3": {
+   "status": "404",
+   "when": "no route of the session is held, or none at that place",
+   "detail": "empty"
   },
   "memory": {
    "status": "507",

@@ -1,10 +1,12 @@
 -- Which call a request is.
-use Rattle.std.specs.Prelude.{◌≡◌, ℕ, Result, Ok, Err}
+use Rattle.std.specs.Prelude.{◌≡◌, ℕ, List, Result, Ok, Err}
+use Rattle.std.specs.List.{All}
 use Rattle.ixp_registry.specs.declared.edit_kind.EditKind.{EditKind}
 use Rattle.ixp_machine_edits.specs.declared.edit.Edit.{Edit}
 use Rattle.ixp_machine_steps.specs.declared.state.Entry.{Entry}
 use Rattle.ixp_machine.specs.declared.question.Query.{Query}
 use Rattle.ixp_machine.specs.declared.question.Query.TheVariants as query
+use Rattle.ixp_lang.specs.declared.route.Route.{Route}
 use Rattle.ixp_http.specs.declared.request.Request.{Request}
 use Rattle.ixp_api_json.specs.declared.pointer.CallFault.{CallFault}
 use Rattle.ixp_api_json.specs.declared.pointer.CallFault.TheVariants as fault
@@ -22,6 +24,7 @@ use Rattle.ixp_api_bodies.specs.declared.asked.RouteAsked.{RouteAsked}
 use Rattle.ixp_api_bodies.specs.Asked.{SaysRoute}
 use Rattle.ixp_api_bodies.specs.Bodies.{SaysEdit}
 use Rattle.ixp_api_bodies.specs.Edits.{handle_in}
+use Rattle.ixp_api_bodies.specs.Routes.{SaysRoutes, IsWellFormed}
 use Rattle.ixp_api.specs.Heads.{secret_of, number_of, seen_of}
 use Rattle.ixp_api.specs.declared.call.Call.{Call}
 use Rattle.ixp_api.specs.declared.call.Call.TheVariants as call
@@ -63,11 +66,30 @@ SaysExplain args request r =
     (asked : Result RouteAsked CallFault) × SaysRoute request.body asked × (x ≡ read_then asked (λ a.
     Ok (call.Explain (record { secret = secret_of request.fields; router = router; interface = args.row; seen = seen; asked = a })))))) r
 
+-- routes are to be held: the texts of the body are read, whatever their number
+abbrev pub SaysHold : Args → Request → Said → Type 0
+SaysHold args request r =
+    ThenSays (handle_in args.router) (λ router x.
+    (routes : Result (List Route) CallFault) × SaysRoutes request.body routes × (x ≡ read_then routes (λ rs.
+    Ok (call.Hold (secret_of request.fields) router args.row rs)))) r
+
+-- what becomes of the routes that are held of a session
+abbrev pub glass : Args → Request → Said
+glass args request = read_then (handle_in args.router) (λ router. Ok (call.Glass (secret_of request.fields) router args.row))
+
+-- what becomes of the one at a place
+abbrev pub glass_place : Args → Request → Said
+glass_place args request =
+    read_then (handle_in args.router) (λ router. Ok (call.GlassPlace (secret_of request.fields) router args.row args.place))
+
 abbrev pub SaysCallOf : Kind → Args → Request → Said → Type 0
 SaysCallOf (kind.Edit k) args request r = SaysCallOfEdit k args request r
 SaysCallOf (kind.Ask q) args request r = r ≡ Ok (call.Ask (secret_of request.fields) (query_of q args))
 SaysCallOf kind.Config args request r = r ≡ published args request
 SaysCallOf kind.Explain args request r = SaysExplain args request r
+SaysCallOf kind.Hold args request r = SaysHold args request r
+SaysCallOf kind.Glass args request r = r ≡ glass args request
+SaysCallOf kind.GlassPlace args request r = r ≡ glass_place args request
 
 abbrev pub SaysFound : Found → Request → Said → Type 0
 SaysFound found.NoPath request r = r ≡ Err fault.NoPath
@@ -77,3 +99,13 @@ SaysFound (found.Call k args) request r = SaysCallOf k args request r
 -- The call that a request is, or why it is none: its path is tested first, then its method, then the rest.
 abbrev pub SaysCall : Request → Said → Type 0
 SaysCall request r = SaysFound (look request.method request.path) request r
+
+-- the routes that a call has held are well formed
+abbrev pub HoldsWellFormed : Call → Type 0
+HoldsWellFormed (call.Edit entry) = Unit {0}
+HoldsWellFormed (call.Ask secret q) = Unit {0}
+HoldsWellFormed (call.Published secret router seen) = Unit {0}
+HoldsWellFormed (call.Explain explain) = Unit {0}
+HoldsWellFormed (call.Hold secret router interface routes) = All IsWellFormed routes
+HoldsWellFormed (call.Glass secret router interface) = Unit {0}
+HoldsWellFormed (call.GlassPlace secret router interface place) = Unit {0}

@@ -1,5 +1,6 @@
 //! Calls.
 use ixp_api_bodies::RouteAsked;
+use ixp_lang::Route;
 use ixp_machine::Query;
 use ixp_machine_steps::Entry;
 use ixp_num::{Items, Name};
@@ -14,6 +15,12 @@ pub enum Call {
     /// number.
     Published(Items<u8>, Name, Option<u64>),
     Explain(ExplainCall),
+    /// These routes are to be held of the interface's session with the router.
+    Hold(Items<u8>, Name, u32, Items<Route>),
+    /// What becomes of the routes that are held of the interface's session with the router.
+    Glass(Items<u8>, Name, u32),
+    /// What becomes of that one of them at the place, which is counted from 1.
+    GlassPlace(Items<u8>, Name, u32, u32),
 }
 
 /// What becomes of a route that the interface's session with the router brings.

@@ -8,7 +8,7 @@ ghost use Rattle.ixp_api.specs.Heads as heads;
 use crate::call::{Call, ExplainCall};
 use crate::heads::{number_of, secret_of};
 use crate::seen::seen_of;
-use ixp_api_bodies::{edit_of, route_asked, router_of};
+use ixp_api_bodies::{edit_of, route_asked, router_of, routes_of};
 use ixp_api_json::{CallFault, Pointer};
 use ixp_api_paths::{Args, Found, Kind, Paths, Question};
 use ixp_http::{Field, Request};
@@ -48,7 +48,8 @@ fn numbered(alloc: Global, request: &Request, number: u64, edit: Edit) -> Result
     requires counted { 0 < number }
     requires small { number < 10 ^ 16 }
     requires lawful { is_lawful edit ≡ true }
-    ensures { Gives (spec.Numbered request.now number (Ok edit)) result }
+    ensures says { Gives (spec.Numbered request.now number (Ok edit)) result }
+    ensures well_formed { IfOk result (λ c. spec.HoldsWellFormed c) }
 {
     let secret = secret(alloc, request.fields.as_slice())?;
     Ok(Call::Edit(Entry {
@@ -64,7 +65,8 @@ fn edit_call(
     args: &Args,
     request: &Request,
 ) -> Result<Call, CallFault>
-    ensures { Gives (spec.SaysCallOfEdit kind args.now request.now) result }
+    ensures says { Gives (spec.SaysCallOfEdit kind args.now request.now) result }
+    ensures well_formed { IfOk result (λ c. spec.HoldsWellFormed c) }
 {
     let number = request_number(request.fields.as_slice())?;
     let edit = edit_of(alloc, kind, args, request.body.as_slice())?;
@@ -89,7 +91,8 @@ fn ask_call(
     args: &Args,
     request: &Request,
 ) -> Result<Call, CallFault>
-    ensures { Gives (spec.SaysCallOf (Kind.Ask question) args.now request.now) result }
+    ensures says { Gives (spec.SaysCallOf (Kind.Ask question) args.now request.now) result }
+    ensures well_formed { IfOk result (λ c. spec.HoldsWellFormed c) }
 {
     let secret = secret(alloc, request.fields.as_slice())?;
     Ok(Call::Ask(secret, query_of(question, args)))
@@ -109,7 +112,8 @@ fn seen(alloc: Global, query: &[u8]) -> Result<Option<u64>, CallFault>
 }
 
 fn config_call(alloc: Global, args: &Args, request: &Request) -> Result<Call, CallFault>
-    ensures { Gives (λ r. r ≡ spec.published args.now request.now) result }
+    ensures says { Gives (λ r. r ≡ spec.published args.now request.now) result }
+    ensures well_formed { IfOk result (λ c. spec.HoldsWellFormed c) }
 {
     let router = router_of(alloc, args)?;
     let seen = seen(alloc, request.query.as_slice())?;
@@ -118,7 +122,8 @@ fn config_call(alloc: Global, args: &Args, request: &Request) -> Result<Call, Ca
 }
 
 fn explain_call(alloc: Global, args: &Args, request: &Request) -> Result<Call, CallFault>
-    ensures { Gives (spec.SaysExplain args.now request.now) result }
+    ensures says { Gives (spec.SaysExplain args.now request.now) result }
+    ensures well_formed { IfOk result (λ c. spec.HoldsWellFormed c) }
 {
     let router = router_of(alloc, args)?;
     let seen = seen(alloc, request.query.as_slice())?;
@@ -133,20 +138,53 @@ fn explain_call(alloc: Global, args: &Args, request: &Request) -> Result<Call, C
     }))
 }
 
+fn hold_call(alloc: Global, args: &Args, request: &Request) -> Result<Call, CallFault>
+    ensures says { Gives (spec.SaysHold args.now request.now) result }
+    ensures well_formed { IfOk result (λ c. spec.HoldsWellFormed c) }
+{
+    let router = router_of(alloc, args)?;
+    let routes = routes_of(alloc, request.body.as_slice())?;
+    let secret = secret(alloc, request.fields.as_slice())?;
+    Ok(Call::Hold(secret, router, args.row, routes))
+}
+
+fn glass_call(alloc: Global, args: &Args, request: &Request) -> Result<Call, CallFault>
+    ensures says { Gives (λ r. r ≡ spec.glass args.now request.now) result }
+    ensures well_formed { IfOk result (λ c. spec.HoldsWellFormed c) }
+{
+    let router = router_of(alloc, args)?;
+    let secret = secret(alloc, request.fields.as_slice())?;
+    Ok(Call::Glass(secret, router, args.row))
+}
+
+fn place_call(alloc: Global, args: &Args, request: &Request) -> Result<Call, CallFault>
+    ensures says { Gives (λ r. r ≡ spec.glass_place args.now request.now) result }
+    ensures well_formed { IfOk result (λ c. spec.HoldsWellFormed c) }
+{
+    let router = router_of(alloc, args)?;
+    let secret = secret(alloc, request.fields.as_slice())?;
+    Ok(Call::GlassPlace(secret, router, args.row, args.place))
+}
+
 fn call_of(alloc: Global, kind: Kind, args: &Args, request: &Request) -> Result<Call, CallFault>
-    ensures { Gives (spec.SaysCallOf kind args.now request.now) result }
+    ensures says { Gives (spec.SaysCallOf kind args.now request.now) result }
+    ensures well_formed { IfOk result (λ c. spec.HoldsWellFormed c) }
 {
     match kind {
         Kind::Edit(kind) => edit_call(alloc, kind, args, request),
         Kind::Ask(question) => ask_call(alloc, question, args, request),
         Kind::Config => config_call(alloc, args, request),
         Kind::Explain => explain_call(alloc, args, request),
+        Kind::Hold => hold_call(alloc, args, request),
+        Kind::Glass => glass_call(alloc, args, request),
+        Kind::GlassPlace => place_call(alloc, args, request),
     }
 }
 
 /// The call that the request is.
 pub fn route(alloc: Global, paths: &Paths, request: &Request) -> Result<Call, CallFault>
-    ensures { Gives (spec.SaysCall request.now) result }
+    ensures says { Gives (spec.SaysCall request.now) result }
+    ensures well_formed { IfOk result (λ c. spec.HoldsWellFormed c) }
 {
     match paths.look(alloc, request.method.as_slice(), request.path.as_slice()) {
         Ok(Found::NoPath) => Err(CallFault::NoPath),

@@ -1,36 +1,25 @@
 -- Items of a list that are read one after the other.
-use Rattle.std.proofs.Common.{◌≡◌, Bool, nat_le, if◌then◌else◌, ◌<◌, ◌≤◌, ℕ, zero, suc, ◌+◌, true, false, length, get_or, drop, add-one, drop-cons, List, [], ◌∷◌, ◌++◌, Option, Some, None, Result, Ok, Err, refl, sym, ap, ◌∙◌, subst, append_assoc}
+use Rattle.std.proofs.Common.{◌≡◌, Bool, nat_le, if◌then◌else◌, ◌<◌, ◌≤◌, ℕ, suc, ◌+◌, true, false, length, List, [], ◌∷◌, ◌++◌, Option, Some, None, Result, Ok, Err, refl, sym, ap, ◌∙◌}
 use Rattle.std.proofs.lemmas.Bool.{lt-leb, le-leb}
-use Rattle.std.proofs.lemmas.List.{append-nil, drop_all}
+use Rattle.std.proofs.lemmas.List.{append-nil}
 use Rattle.serde_json.specs.Data.{Data, Items, no_items, item}
-use Rattle.serde_json.specs.View.{view, items_view}
+use Rattle.serde_json.specs.View.{items_view}
 use Rattle.serde_json.specs.declared.value.Value.{Value}
 use Rattle.ixp_api_json.specs.declared.field.Field.{Field}
 use Rattle.ixp_api_json.specs.declared.pointer.CallFault.{CallFault}
 use Rattle.ixp_api_json.specs.declared.pointer.CallFault.TheVariants.{BadBody}
 use Rattle.ixp_api_json.specs.declared.pointer.Pointer.TheVariants.{At, Item}
 use Rattle.ixp_api_bodies.specs.Answers.{must, read_then}
-use Rattle.ixp_api_bodies.specs.Asked.{items_from, list_upto, count, behind}
+use Rattle.ixp_api_bodies.specs.Asked.{items_from, list_upto, count}
+use Rattle.ixp_api_bodies.specs.Each.{behind}
+use Rattle.ixp_api_bodies.proofs.Listed.{one_more}
 
 -- as many values as there are
 pub counted : (xs : List Value) → count (items_view xs) ≡ length xs
 counted [] = refl
 counted (x ∷ xs) = ap suc (counted xs)
 
--- what is left begins with an item
-pub next_value : (values : List Value) (i : ℕ) (x : Value) → i < length values → x ≡ get_or values i x
-    → items_view (drop i values) ≡ item (view x) (items_view (drop (i + 1) values))
-next_value values i x inside at = rw (add-one, drop-cons values i x, ← at) refl
-
-pub none_left : (values : List Value) (i : ℕ) → length values ≤ i → items_view (drop i values) ≡ no_items
-none_left values i over = rw (drop_all i values over) refl
-
 module _ {A : Type 0} (at : Data → Option A) (f : Field) where
-  -- an item more before the others
-  one_more : (xs : List A) (x : A) (r : Result (List A) CallFault) → behind xs (read_then r (λ more. Ok (x ∷ more))) ≡ behind (xs ++ x ∷ []) r
-  one_more xs x (Ok ys) = ap Ok (sym (append_assoc xs (x ∷ []) ys))
-  one_more xs x (Err e) = refl
-
   -- an item is read, and the rest follows
   pub read_more : (place : ℕ) (d : Data) (left ds : Items) (xs : List A) (x : A) (all : Result (List A) CallFault) → left ≡ item d ds → at d ≡ Some x
       → behind xs (items_from at f place left) ≡ all → behind (xs ++ x ∷ []) (items_from at f (place + 1) ds) ≡ all

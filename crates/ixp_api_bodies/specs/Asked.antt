@@ -1,12 +1,11 @@
 -- A route that is asked about in a body, and the peers that it may be sent to.
-use Rattle.std.specs.Prelude.{◌≡◌, ℕ, suc, ◌+◌, List, [], ◌∷◌, ◌++◌, Bool, nat_le, Option, Some, None, Result, Ok, Err, option_map, option_and_then, if◌then◌else◌}
+use Rattle.std.specs.Prelude.{◌≡◌, ℕ, suc, ◌+◌, List, [], ◌∷◌, nat_le, Option, Some, None, Result, Ok, Err, option_map, option_and_then, if◌then◌else◌}
 use Rattle.serde_json.specs.Data.{Data, Items, no_items, item}
 use Rattle.serde_json.specs.Find.{as_str, as_array}
 use Rattle.ixp_num.specs.declared.addr.Addr.{Addr}
 use Rattle.ixp_num.specs.declared.asn.Asn.{Asn}
 use Rattle.ixp_num.specs.declared.prefix.Prefix.{Prefix}
 use Rattle.ixp_num.specs.Families.{same_family}
-use Rattle.ixp_lang.specs.declared.route.Route.{Route}
 use Rattle.ixp_lang.specs.RouteReading.{pair_item, triple_item}
 use Rattle.ixp_api_json.specs.declared.field.Field.{Field}
 use Rattle.ixp_api_json.specs.declared.field.Field.TheVariants as field
@@ -87,10 +86,3 @@ Asked d r = (net : Option Prefix) × PrefixIn field.Net d net × ((hop : Option 
 -- what a body asks of a route
 abbrev pub SaysRoute : List ℕ → Result RouteAsked CallFault → Type 0
 SaysRoute body r = ThenSays (object_of body) Asked r
-
--- ---- for private clauses
-
--- these items before the others
-abbrev pub behind : {A : Type 0} → List A → Result (List A) CallFault → Result (List A) CallFault
-behind xs (Ok ys) = Ok (xs ++ ys)
-behind xs (Err e) = Err e

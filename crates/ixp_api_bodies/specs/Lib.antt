@@ -1,8 +1,10 @@
 pub mod Answers
 pub mod Asked
 pub mod Values
+pub mod Each
 pub mod Edits
 pub mod Rules
 pub mod Lists
+pub mod Routes
 pub mod Bodies
 pub mod Lawful

@@ -1,6 +1,6 @@
 -- A member's rules in a body.
-use Rattle.std.specs.Prelude.{◌≡◌, ℕ, ◌+◌, List, [], ◌∷◌, ◌++◌, Option, Some, None, Result, Ok, Err, option_map}
-use Rattle.serde_json.specs.Data.{Data, Items, no_items, item}
+use Rattle.std.specs.Prelude.{◌≡◌, ℕ, List, Option, Some, None, Result, Ok, option_map}
+use Rattle.serde_json.specs.Data.{Data, Items, no_items}
 use Rattle.serde_json.specs.Find.{as_array}
 use Rattle.ixp_num.specs.declared.asn.Asn.{Asn}
 use Rattle.ixp_num.specs.declared.prefix.Prefix.{Prefix}
@@ -10,7 +10,8 @@ use Rattle.ixp_api_json.specs.declared.field.Field.TheVariants as field
 use Rattle.ixp_api_json.specs.declared.pointer.CallFault.{CallFault}
 use Rattle.ixp_api_json.specs.declared.pointer.Pointer.TheVariants.{In}
 use Rattle.ixp_api_paths.specs.declared.table.Args.{Args}
-use Rattle.ixp_api_bodies.specs.Answers.{must, read_then, ThenSays}
+use Rattle.ixp_api_bodies.specs.Answers.{must, read_then}
+use Rattle.ixp_api_bodies.specs.Each.{Each}
 use Rattle.ixp_api_bodies.specs.Values.{way_in, action_in, number_or_null, PrefixOrNull}
 use Rattle.ixp_api_bodies.specs.Edits.{Said}
 
@@ -30,11 +31,8 @@ abbrev pub Rule : ℕ → Data → Result NewRule CallFault → Type 0
 Rule place d r = (net : Option (Option Prefix)) × PrefixOrNull field.Prefix d net × (r ≡ rule place net d)
 
 -- the rules, or the fault of the first that is none
-abbrev pub Rules : ℕ → Items → Result (List NewRule) CallFault → Type 0
-Rules place no_items r = r ≡ Ok []
-Rules place (item d ds) r =
-    (first : Result NewRule CallFault) × Rule place d first
-    × ThenSays first (λ x rest. (xs : Result (List NewRule) CallFault) × Rules (place + 1) ds xs × (rest ≡ read_then xs (λ more. Ok (x ∷ more)))) r
+abbrev pub Rules : Items → Result (List NewRule) CallFault → Type 0
+Rules ds r = Each Rule 0 ds r
 
 abbrev pub items_in : Option Items → Items
 items_in None = no_items
@@ -42,11 +40,4 @@ items_in (Some items) = items
 
 abbrev pub SetRules : Args → Data → Said → Type 0
 SetRules args d r =
-    (xs : Result (List NewRule) CallFault) × Rules 0 (items_in (as_array d)) xs × (r ≡ read_then xs (λ rules. Ok (edit.SetRules args.row rules)))
-
--- ---- for private clauses
-
--- these rules before the others
-abbrev pub behind : List NewRule → Result (List NewRule) CallFault → Result (List NewRule) CallFault
-behind xs (Ok ys) = Ok (xs ++ ys)
-behind xs (Err e) = Err e
+    (xs : Result (List NewRule) CallFault) × Rules (items_in (as_array d)) xs × (r ≡ read_then xs (λ rules. Ok (edit.SetRules args.row rules)))

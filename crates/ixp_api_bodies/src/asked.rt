@@ -11,7 +11,7 @@ ghost use Rattle.ixp_api_bodies.specs.Values as values;
 
 use crate::json::object_of;
 use crate::texts::{address_in, prefix_in};
-use crate::values::{must, number_at};
+use crate::values::{fault_at, must, number_at};
 use ixp_api_json::{CallFault, Field, Pointer};
 use ixp_lang::Route;
 use ixp_num::{Addr, Asn, Items, Prefix, mark_of, number_of};
@@ -136,15 +136,6 @@ impl Listed for Triples {
             Some(text) => triple_of(text.as_bytes()),
             None => None,
         }
-    }
-}
-
-// The field isn't what it must be.
-fn fault_at(field: Field) -> CallFault
-    ensures { result ≡ CallFault.BadBody (Pointer.At field) }
-{
-    CallFault::BadBody {
-        pointer: Pointer::At(field),
     }
 }
 

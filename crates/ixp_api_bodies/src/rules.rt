@@ -7,6 +7,7 @@ ghost use Rattle.ixp_api_bodies.specs.Lawful.{is_lawful};
 ghost use Rattle.ixp_api_bodies.specs.Rules as spec;
 ghost use Rattle.ixp_api_bodies.specs.Values.{objects_of};
 
+use crate::each::{ReadsItem, each_of};
 use crate::json::objects_of;
 use crate::texts::prefix_or_null;
 use crate::values::{action_in, must, number_or_null, way_in};
@@ -58,29 +59,32 @@ fn rule_of(place: u64, rule: &Value) -> Result<NewRule, CallFault>
     rule_with(place, net, rule)
 }
 
+/// Rules at their places in a list.
+struct Rules;
+
+impl ReadsItem for Rules {
+    type Item = NewRule;
+
+    ghost says = { spec.Rule };
+
+    fn read(_alloc: Global, place: u64, value: &Value) -> Result<NewRule, CallFault> {
+        rule_of(place, value)
+    }
+}
+
 // The rules of a list.
 fn rules_of(alloc: Global, items: &[Value]) -> Result<Items<NewRule>, CallFault>
-    ensures rules { Gives (spec.Rules 0 (items_view items.now)) result }
+    ensures rules { Gives (spec.Rules (items_view items.now)) result }
     ensures few { IfOk result (λ xs. length xs < 4294967295) }
 {
     if items.len() > MOST {
         return Err(CallFault::NoMemory);
     }
-    let mut rules = Items::new(alloc);
-    for (place, item) in items.iter().enumerate() {
-        match rule_of(place as u64, item) {
-            Ok(rule) => match rules.push(rule) {
-                Ok(()) => {}
-                Err(_) => return Err(CallFault::NoMemory),
-            },
-            Err(fault) => return Err(fault),
-        }
-    }
-    Ok(rules)
+    each_of::<Rules>(alloc, items)
 }
 
 fn rules_in(alloc: Global, value: &Value) -> Result<Items<NewRule>, CallFault>
-    ensures rules { Gives (spec.Rules 0 (spec.items_in (as_array (view value.now)))) result }
+    ensures rules { Gives (spec.Rules (spec.items_in (as_array (view value.now)))) result }
     ensures few { IfOk result (λ xs. length xs < 4294967295) }
 {
     match value.as_array() {

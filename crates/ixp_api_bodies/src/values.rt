@@ -23,6 +23,15 @@ pub(crate) fn must<T>(pointer: Pointer, value: Option<T>) -> Result<T, CallFault
     }
 }
 
+/// The field isn't what it must be.
+pub(crate) fn fault_at(field: Field) -> CallFault
+    ensures { result ≡ CallFault.BadBody (Pointer.At field) }
+{
+    CallFault::BadBody {
+        pointer: Pointer::At(field),
+    }
+}
+
 /// A value that is a number.
 pub(crate) fn number_at(value: &Value) -> Option<u32>
     ensures { result ≡ spec.number_at (view value.now) }

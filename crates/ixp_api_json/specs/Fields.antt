@@ -48,6 +48,7 @@ word_of field.NextHop = codes "nexthop"
 word_of field.Pairs = codes "pairs"
 word_of field.Triples = codes "triples"
 word_of field.Peers = codes "peers"
+word_of field.Routes = codes "routes"
 
 -- The text of a pointer (RFC 6901): a field, a field of an item or an item of a field, which are counted from
 -- 0; a line that is no item of a list, which are counted from 1, or how many items there are; what stands

@@ -46,6 +46,7 @@ pub enum Field {
     Pairs,
     Triples,
     Peers,
+    Routes,
 }
 
 impl Field {
@@ -95,6 +96,7 @@ impl Field {
             Field::Pairs => "pairs",
             Field::Triples => "triples",
             Field::Peers => "peers",
+            Field::Routes => "routes",
         }
     }
 }

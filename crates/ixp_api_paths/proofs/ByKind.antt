@@ -209,6 +209,7 @@ word-reads word.Config a t = refl
 word-reads word.Explain a t = refl
 word-reads word.Ixf a t = refl
 word-reads word.Public a t = refl
+word-reads word.Glass a t = refl
 word-reads word.Bogons a t = refl
 word-reads word.BogonAs a t = refl
 word-reads word.Transit a t = refl
@@ -382,6 +383,9 @@ place_of (kind.Edit e) = edit_place e
 place_of (kind.Ask q) = question_place q
 place_of kind.Config = 25
 place_of kind.Explain = 26
+place_of kind.Hold = 29
+place_of kind.Glass = 29
+place_of kind.GlassPlace = 30
 
 abbrev Stands : Kind → Type 0
 Stands k = (ltb (place_of k) (length TABLE) ≡ true) × (kind_at (address_of k).method (get_or TABLE (place_of k) no_entry) ≡ Some k)
@@ -426,6 +430,9 @@ stands (kind.Edit e) = edit-stands e
 stands (kind.Ask q) = question-stands q
 stands kind.Config = (refl, refl)
 stands kind.Explain = (refl, refl)
+stands kind.Hold = (refl, refl)
+stands kind.Glass = (refl, refl)
+stands kind.GlassPlace = (refl, refl)
 
 -- the row of a kind
 abbrev Row : Kind → Type 0

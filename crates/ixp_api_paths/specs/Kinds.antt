@@ -69,6 +69,9 @@ address_of (kind.Edit e) = edit_at e
 address_of (kind.Ask q) = question_at q
 address_of kind.Config = get (codes "/routers/{router}/config")
 address_of kind.Explain = post (codes "/routers/{router}/explain/{row}")
+address_of kind.Hold = put (codes "/glass/{router}/{row}")
+address_of kind.Glass = get (codes "/glass/{router}/{row}")
+address_of kind.GlassPlace = get (codes "/glass/{router}/{row}/{place}")
 
 abbrev pub onto_first : ℕ → List (List ℕ) → List (List ℕ)
 onto_first b [] = (b ∷ []) ∷ []

@@ -88,7 +88,9 @@ fn route_at(place: usize) -> &'static str
         25 => "/routers/{router}/config",
         26 => "/routers/{router}/explain/{row}",
         27 => "/ixf",
-        _ => "/public/{list}",
+        28 => "/public/{list}",
+        29 => "/glass/{router}/{row}",
+        _ => "/glass/{router}/{row}/{place}",
     }
 }
 

@@ -25,6 +25,7 @@ pub enum Word {
     Explain,
     Ixf,
     Public,
+    Glass,
     Bogons,
     BogonAs,
     Transit,
@@ -38,7 +39,7 @@ pub enum Part {
     Is(Word),
     /// The number of a row.
     Row,
-    /// A place among the rows of a member.
+    /// A place among the rows of a member, or among the routes that are held of a session.
     Place,
     /// `4` or `6`.
     Family,
@@ -89,6 +90,12 @@ pub enum Kind {
     Config,
     /// What becomes of a route.
     Explain,
+    /// The routes that a session is known to announce are to be held.
+    Hold,
+    /// What becomes of the routes that are held of a session.
+    Glass,
+    /// What becomes of one of them.
+    GlassPlace,
 }
 
 /// A path, and what each method of it calls for.
@@ -102,7 +109,7 @@ pub struct Entry {
 }
 
 /// The number of paths.
-pub const PATHS: usize = 29;
+pub const PATHS: usize = 31;
 
 /// Every path, once. `route_at` has the same paths as the router's texts.
 pub const TABLE: [Entry; PATHS] = [
@@ -372,6 +379,20 @@ pub const TABLE: [Entry; PATHS] = [
         get: None,
         post: None,
         put: Some(Kind::Edit(EditKind::PutPublic)),
+        delete: None,
+    },
+    Entry {
+        parts: [Part::Is(Word::Glass), Part::Router, Part::Row, Part::End],
+        get: Some(Kind::Glass),
+        post: None,
+        put: Some(Kind::Hold),
+        delete: None,
+    },
+    Entry {
+        parts: [Part::Is(Word::Glass), Part::Router, Part::Row, Part::Place],
+        get: Some(Kind::GlassPlace),
+        post: None,
+        put: None,
         delete: None,
     },
 ];

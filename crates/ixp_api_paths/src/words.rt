@@ -29,6 +29,7 @@ fn text_of(word: Word) -> &'static [u8]
         Word::Explain => b"explain",
         Word::Ixf => b"ixf",
         Word::Public => b"public",
+        Word::Glass => b"glass",
         Word::Bogons => b"bogons",
         Word::BogonAs => b"bogon_as",
         Word::Transit => b"transit",

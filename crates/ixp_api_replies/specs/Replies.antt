@@ -35,6 +35,10 @@ closing reply = record reply { closes = true }
 unfoldable pub done_json : ℕ → List ℕ
 done_json number = number_member (codes "{") (codes "done") number ++ codes "}"
 
+-- `{"held":<number>}`
+unfoldable pub held_json : ℕ → List ℕ
+held_json number = number_member (codes "{") (codes "held") number ++ codes "}"
+
 -- the rule, the status and the detail of a refusal
 abbrev pub refused_edit : Refusal → HttpReply
 refused_edit r = refused (status_of r) (refusal_code r) (detail_of r)
@@ -70,4 +74,8 @@ reply outcome.NoRouter = refused 404 (codes "Y3") []
 reply outcome.NoSession = refused 404 (codes "path") []
 reply (outcome.SeatCount seat kept) = refused 500 (codes "Y4") (pair (decimal seat) (decimal kept))
 reply (outcome.Ended count) = refused 500 (codes "Y5") (decimal count)
+reply (outcome.Held number) = json 200 (held_json number)
+reply (outcome.TooManyHeld have limit) = refused 413 (codes "Z1") (pair (decimal have) (decimal limit))
+reply (outcome.HeldFamily place) = refused 422 (codes "Z2") (decimal place)
+reply outcome.NotHeld = refused 404 (codes "Z3") []
 reply outcome.NoMemory = no_memory

@@ -29,5 +29,13 @@ pub enum Outcome {
     SeatCount { seat: u64, kept: u64 },
     /// Y5: a count has come to its end.
     Ended { count: u64 },
+    /// So many routes of a session are held now.
+    Held(u64),
+    /// Z1: there would be more routes of a session, or sessions with routes, than the limit.
+    TooManyHeld { have: u64, limit: u64 },
+    /// Z2: the route at this place, counted from 1, isn't of the router's family.
+    HeldFamily { place: u64 },
+    /// Z3: no routes of the session are held, or none at this place.
+    NotHeld,
     NoMemory,
 }

@@ -113,6 +113,23 @@ fn done(alloc: Global, number: u64) -> Result<HttpReply, AllocError>
     Ok(json(201, text))
 }
 
+#[tactic(auto, unfolding(crate::specs::Replies::held_json))]
+fn held_json(alloc: Global, number: u64) -> Result<Vec<u8>, AllocError>
+    ensures { IfOk result (λ text. text.items ≡ spec.held_json number) }
+{
+    let mut text = Vec::new(alloc);
+    put_number_member(&mut text, b"{", b"held", number)?;
+    put(&mut text, b"}")?;
+    Ok(text)
+}
+
+fn held(alloc: Global, number: u64) -> Result<HttpReply, AllocError>
+    ensures { IfOk result (λ r. r ≡ spec.json 200 (spec.held_json number)) }
+{
+    let text = held_json(alloc, number)?;
+    Ok(json(200, text))
+}
+
 fn member(alloc: Global, member: &Member) -> Result<HttpReply, AllocError>
     ensures { IfOk result (λ r. r ≡ spec.json 200 (member_json member.now)) }
 {
@@ -195,13 +212,20 @@ fn head(alloc: Global, status: u16) -> Result<HttpReply, AllocError>
     Ok(closing(reply))
 }
 
-fn seat_count(alloc: Global, seat: u64, kept: u64) -> Result<HttpReply, AllocError>
+// A refusal whose detail is two numbers.
+fn refused_with(
+    alloc: Global,
+    status: u16,
+    rule: &[u8],
+    first: u64,
+    second: u64,
+) -> Result<HttpReply, AllocError>
     ensures { IfOk result
-        (λ r. r ≡ spec.refused 500 (codes "Y4") (details.pair (decimal seat) (decimal kept))) }
+        (λ r. r ≡ spec.refused status rule.now (details.pair (decimal first) (decimal second))) }
 {
     let mut detail = Vec::new(alloc);
-    put_numbers(&mut detail, seat, kept)?;
-    refused(alloc, 500, b"Y4", detail.as_slice())
+    put_numbers(&mut detail, first, second)?;
+    refused(alloc, status, rule, detail.as_slice())
 }
 
 /// The reply of an outcome. That of running out of memory, also of a request that was being read, takes none.
@@ -221,8 +245,12 @@ pub fn reply_of(alloc: Global, outcome: Outcome) -> Result<HttpReply, AllocError
         Outcome::SeenUnknown { number } => refused_at(alloc, 400, b"Y2", number),
         Outcome::NoRouter => refused(alloc, 404, b"Y3", b""),
         Outcome::NoSession => refused(alloc, 404, b"path", b""),
-        Outcome::SeatCount { seat, kept } => seat_count(alloc, seat, kept),
+        Outcome::SeatCount { seat, kept } => refused_with(alloc, 500, b"Y4", seat, kept),
         Outcome::Ended { count } => refused_at(alloc, 500, b"Y5", count),
+        Outcome::Held(number) => held(alloc, number),
+        Outcome::TooManyHeld { have, limit } => refused_with(alloc, 413, b"Z1", have, limit),
+        Outcome::HeldFamily { place } => refused_at(alloc, 422, b"Z2", place),
+        Outcome::NotHeld => refused(alloc, 404, b"Z3", b""),
         Outcome::NoMemory => Ok(no_memory()),
     }
 }

@@ -23,6 +23,10 @@ wants_memory outcome.NoRouter = false
 wants_memory outcome.NoSession = false
 wants_memory (outcome.SeatCount seat kept) = false
 wants_memory (outcome.Ended count) = false
+wants_memory (outcome.Held number) = false
+wants_memory (outcome.TooManyHeld have limit) = false
+wants_memory (outcome.HeldFamily place) = false
+wants_memory outcome.NotHeld = false
 
 -- A call is answered by a turn of the desk. What is no call is answered by what is wrong with it, and the
 -- desk stays as it was.

@@ -25,6 +25,9 @@ impl Desk<u64, ()> for Counter {
             Call::Ask(_, _) => Outcome::NoMemory,
             Call::Published(_, _, _) => Outcome::NoRouter,
             Call::Explain(_) => Outcome::NoSession,
+            Call::Hold(_, _, _, _) => Outcome::Held(0),
+            Call::Glass(_, _, _) => Outcome::NotHeld,
+            Call::GlassPlace(_, _, _, _) => Outcome::NotHeld,
         }
     }
 }

@@ -1,6 +1,7 @@
 use Rattle.std.proofs.Common.{◌≡◌, drop}
 use Rattle.serde_json.specs.View.{items_view}
-use Rattle.ixp_api_bodies.specs.Asked.{items_from, behind}
+use Rattle.ixp_api_bodies.specs.Asked.{items_from}
+use Rattle.ixp_api_bodies.specs.Each.{behind}
 use Rattle.ixp_api_bodies.proofs.asked.items_of.Given as goal
 
 abbrev pub invariant-loop-place : goal.invariant-loop-place
