@@ -43,6 +43,7 @@ use Rattle.ixp_desk_history.proofs.ShownRight.{shown_right}
 use Rattle.ixp_desk_history.proofs.Steady.{Makes, Leaves, accepted_makes, makes_or_leaves, last_both, touch_in}
 use Rattle.ixp_desk_history.proofs.Versions.{legal_before, state_valid}
 use Rattle.ixp_desk_lock.specs.declared.owed.Owed.{Owed}
+use Rattle.ixp_desk_lock.specs.Given.{IsAnsweredAt}
 use Rattle.ixp_desk_lock.specs.Publishing.{Level}
 use Rattle.ixp_desk_lock.specs.Sights.{Sight}
 use Rattle.ixp_desk_lock.specs.Facts.{Log, Owes, with_owed, turn_in, reach_in, noted_owed, NotesReach, Folds, Counts, HasAccepted, HasRoom, IsDecided, Accepts, IsEdit, IsQuestion, IsStateAt, MayAccept, Replies, ShowsNext}
@@ -469,3 +470,9 @@ replies_at log s q q' a state same answers f ts is = subst (λ x. IsAnswered x q
 pub number_at : (v : Log × Option Turn) (log : Log) (owed : Option Turn) (s : Sight) (t : Turn) → ◌≡◌ {A = Log × Option Turn} (log, owed) v → Level v s → t.seat ≡ s.0 → t.number ≡ s.1 → t.number ≡ turns_by t.seat (turns_of log)
 number_at v log owed s t view level seat_is number_is =
     number_is ∙ (level.count ∙ (ap (λ (l : Log). turns_by s.0 (turns_of l)) (log_is v log owed view) ∙ ap (λ (n : ℕ). turns_by n (turns_of log)) (sym seat_is)))
+
+-- a question that is answered of the state is answered of it as the one after the history
+pub answered_if : (v : Log × Option Turn) (log : Log) (owed : Option Owed) (s : State) (p : Pending) (q : Asked) (r : Result Answered AllocError) → ◌≡◌ {A = Log × Option Turn} (log, turn_in owed) v
+    → v.1 ≡ None → Folds log (turn_in owed) (reach_in owed) s p → IfOk r (IsAnswered s q) → IfOk r (IsAnsweredAt v.0 q)
+answered_if v log owed s p q (Ok a) view none g is = (s, state_at v log owed s p view none g, is)
+answered_if v log owed s p q (Err fault) view none g is = tt

@@ -27,10 +27,10 @@ use Rattle.ixp_desk_lock.specs.declared.fault.TurnFault.{TurnFault}
 use Rattle.ixp_desk_lock.specs.declared.fault.TurnFault.TheVariants as turn
 use Rattle.ixp_desk_lock.specs.declared.editing.Ending.{Ending}
 use Rattle.ixp_desk_lock.specs.declared.editing.Ending.TheVariants as ending
-use Rattle.ixp_desk_lock.specs.Calls.{Asks, Came, FaultSays, Fits, InstallsOver, MakesNone, Mine, One, OtherCount, Own, OwnTexts, SeatEnded, Submits, reply_of, turned}
+use Rattle.ixp_desk_lock.specs.Calls.{Asks, Came, FaultSays, Fits, InstallsOver, MakesNone, Mine, One, OtherCount, Own, OwnEdit, OwnTexts, SeatEnded, Submits, reply_of, turned}
 use Rattle.ixp_desk_lock.specs.Given.{answer_given, text_given}
 use Rattle.ixp_desk_lock.specs.Publishing.{Adds, Level}
-use Rattle.ixp_desk_lock.specs.Facts.{Log, IsQuestion, all_of, Owes}
+use Rattle.ixp_desk_lock.specs.Facts.{HasRoom, Log, IsQuestion, all_of, Owes}
 use Rattle.ixp_desk_lock.specs.Sights.{Looks, Sight, counted, shown}
 
 pub begins_self : (xs : Log) → IsPrefix xs xs
@@ -76,6 +76,12 @@ own_one s t log v Does p at owes number count is =
       does = owes.4;
     }
 
+-- the same of an edit's turn, where there is room
+own_edit : (s t : Sight) (log : Log) (v : Log × Option Turn) (Does : Event → Type 0) → IsPrefix s.2 log → s.1 ≡ turns_by s.0 (turns_of log) → Owes log v s.0 s.1 Does
+    → t.0 ≡ s.0 → t.1 ≡ s.1 + 1 → t.2 ≡ all_of v → s.1 < 2 ^ 64 - 2 → HasRoom log → OwnEdit Does s t
+unfolding own_one
+own_edit s t log v Does p at owes number count is seat edits = record { own = own_one s t log v Does p at owes number count is; seat = seat; edits = edits }
+
 pub other_count : (s t : Sight) (log : Log) (a kept : ℕ) → a ≡ s.1 → kept ≡ turns_by s.0 (turns_of log) → (a ≡ kept → ⊥) → t ≡ shown s log → OtherCount a kept s t
 other_count s t log a kept its at differ is = record {
   stays = ap (λ (w : Sight). w.1) is;
@@ -97,17 +103,18 @@ finish_seen s u v w p one two =
     subst (λ (x : Sight). IsPrefix x.2 w.0) (sym one) (subst (λ (x : Log × Option Turn). IsPrefix s.2 x.0) (sym two) (begins_owed s.2 v p))
 
 -- what an edit came to is what is replied
-submits_as : (e : Entry) (o : Ending) (s t : Sight) → Own (One (Came o e)) s t → Submits e (reply_of o e.number) s t
+submits_as : (e : Entry) (o : Ending) (s t : Sight) → OwnEdit (Came o e) s t → Submits e (reply_of o e.number) s t
 submits_as e ending.Done s t own = (refl, own)
 submits_as e (ending.Refused x) s t own = own
 submits_as e ending.Fault s t own = own
 
 pub edit_submits : (e : Entry) (o : Ending) (r : Result Reply SubmitFault) (s t : Sight) (log : Log) (v : Log × Option Turn) (seat count : ℕ) → r ≡ reply_of o e.number → seat ≡ s.0 → count ≡ s.1
-    → IsPrefix s.2 log → s.1 ≡ turns_by s.0 (turns_of log) → Owes log v seat count (Came o e) → t.0 ≡ s.0 → t.1 ≡ s.1 + 1 → t.2 ≡ all_of v → Submits e r s t
-edit_submits e o r s t log v seat count is seat_is count_is p at owes number raised shows =
+    → IsPrefix s.2 log → s.1 ≡ turns_by s.0 (turns_of log) → Owes log v seat count (Came o e) → t.0 ≡ s.0 → t.1 ≡ s.1 + 1 → t.2 ≡ all_of v
+    → s.1 < 2 ^ 64 - 2 → HasRoom log → Submits e r s t
+edit_submits e o r s t log v seat count is seat_is count_is p at owes number raised shows room edits =
     subst (λ x. Submits e x s t) (sym is)
-    (submits_as e o s t (own_one s t log v (Came o e) p at
-    (subst (λ n. Owes log v s.0 n (Came o e)) count_is (subst (λ n. Owes log v n count (Came o e)) seat_is owes)) number raised shows))
+    (submits_as e o s t (own_edit s t log v (Came o e) p at
+    (subst (λ n. Owes log v s.0 n (Came o e)) count_is (subst (λ n. Owes log v n count (Came o e)) seat_is owes)) number raised shows room edits))
 
 -- what a call did after the seat saw more is what it did
 pub own_from : (Does : List Event → Type 0) (s u t : Sight) → Looks s u → Own Does u t → Own Does s t
@@ -124,11 +131,15 @@ own_from Does s u t l own = record {
   does = own.does;
 }
 
+edit_from : (Does : Event → Type 0) (s u t : Sight) → Looks s u → OwnEdit Does u t → OwnEdit Does s t
+unfolding own_from
+edit_from Does s u t l x = record { own = own_from (One Does) s u t l x.own; seat = subst (λ n. n < 2 ^ 64 - 2) l.1 x.seat; edits = x.edits }
+
 -- what a call did after it was compared
 pub submits_from : (e : Entry) (r : Result Reply SubmitFault) (s u t : Sight) → Looks s u → Submits e r u t → Submits e r s t
-submits_from e (Ok n) s u t l own = (own.0, own_from _ s u t l own.1)
-submits_from e (Err (submit.Refused x)) s u t l own = own_from _ s u t l own
-submits_from e (Err submit.KeeperFault) s u t l own = own_from _ s u t l own
+submits_from e (Ok n) s u t l own = (own.0, edit_from _ s u t l own.1)
+submits_from e (Err (submit.Refused x)) s u t l own = edit_from _ s u t l own
+submits_from e (Err submit.KeeperFault) s u t l own = edit_from _ s u t l own
 submits_from e (Err (submit.SeatCount a b)) s u t l x = record { stays = x.stays ∙ l.1; its = x.its ∙ l.1; turns = x.turns; differ = x.differ }
 submits_from e (Err (submit.Ended n)) s u t l (inl x) = inl (record { stays = x.stays ∙ l.1; all = x.all; its = x.its ∙ l.1; last = x.last })
 submits_from e (Err (submit.Ended n)) s u t l (inr x) = inr (record { stays = x.stays ∙ l.1; all = x.all; room = subst (λ n. n < 2 ^ 64 - 2) l.1 x.room; its = x.its; last = x.last })

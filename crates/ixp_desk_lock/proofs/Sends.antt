@@ -23,9 +23,11 @@ use Rattle.ixp_desk_history.specs.contracts.turn.First as First
 use Rattle.ixp_desk_history.specs.contracts.turn.Turn as Turn
 use Rattle.ixp_desk_history.specs.contracts.story.DeskStory as DeskStory
 use Rattle.ixp_desk_history.specs.contracts.story.DeskStoryStory.TheImpl as story
+use Rattle.ixp_desk_lock.specs.contracts.exporting.KeptExport as KeptExport
 use Rattle.ixp_desk_lock.specs.contracts.owed.Owed as Owed
 use Rattle.ixp_desk_lock.specs.contracts.locked.Locked as Locked
 use Rattle.ixp_desk_lock.specs.contracts.locked.Locked.TheInside as Inside
+use Rattle.ixp_desk_lock.proofs.exporting.KeptExport.TheSendSync as ExportSends
 
 pub event_send : IsSend Event.the_row
 event_send = search (crosses, sendable) depth 30 fits 5000
@@ -39,7 +41,10 @@ turn_send = declared_send Turn.the_type (search sendable, (search sendable, (eve
 reached_send : IsSend (Option.the_row Reached.the_row)
 reached_send = search (ReachedSends.the_send, sendable) depth 12
 
-pub owed_send : IsSend Owed.the_row
+pub export_send : IsSend (Option.the_row KeptExport.the_row)
+export_send = search (ExportSends.the_send, sendable) depth 12
+
+owed_send : IsSend Owed.the_row
 owed_send = declared_send Owed.the_type (turn_send, (reached_send, tt))
 
 owing_send : IsSend (Option.the_row Owed.the_row)
@@ -51,7 +56,7 @@ pen_send N W g w = PenSends.the_send DeskStory.the_row N W First.the_row Turn.th
 module _ (P N W : RattleType) (k : Keeper.Ghosts P.Denot) (g : BoardName.Ghosts N.Denot) (p : IsSend P) (w : IsSend W) where
   inside_send : IsSend (Inside.the_row P N W k g)
   inside_send = declared_send (Inside.the_type P N W k g)
-      (search crosses, (StateSends.the_send, (PendingSends.the_send, (search (crosses, sendable) depth 20, (owing_send, (pen_send N W g w, (as_row_send (row_field P) p, tt)))))))
+      (search crosses, (StateSends.the_send, (PendingSends.the_send, (export_send, (search (crosses, sendable) depth 20, (owing_send, (pen_send N W g w, (as_row_send (row_field P) p, tt))))))))
 
   pub locked_send : IsSend (Locked.the_row P N W k g)
   locked_send = search (inside_send, sendable) depth 10

@@ -31,7 +31,7 @@ use Rattle.ixp_desk_lock.specs.declared.installing.Put.{Put}
 use Rattle.ixp_desk_lock.specs.declared.installing.Put.TheVariants as put
 use Rattle.ixp_desk_lock.specs.declared.installing.Taken.{Taken}
 use Rattle.ixp_desk_lock.specs.declared.installing.Taken.TheVariants as taken
-use Rattle.ixp_desk_lock.specs.Facts.{Log, HasAccepted, HasBuilt, IsFault, IsOrdered, IsQuestion}
+use Rattle.ixp_desk_lock.specs.Facts.{Log, HasAccepted, HasBuilt, HasRoom, IsFault, IsOrdered, IsQuestion}
 use Rattle.ixp_desk_lock.specs.Sights.{Sight}
 
 -- The history that a seat has seen begins with all that it had seen, and it is legal.
@@ -80,6 +80,13 @@ abbrev pub WasDone : Decision → Type 0
 WasDone (decision.Accepted owner) = Unit {0}
 WasDone (decision.Repeated reply) = Unit {0}
 WasDone (decision.Refused x) = ⊥
+
+-- The call's own turn does this, where the seat's turns can be counted on, and the accepted edits before it:
+-- Y5 is answered where one of them can't, and nowhere else.
+pub record OwnEdit (Does : Event → Type 0) (s t : Sight) : Type 0 where
+  pub own : Own (One Does) s t
+  pub seat : s.1 < 2 ^ 64 - 2
+  pub edits : HasRoom own.before
 
 -- what an edit came to
 abbrev pub Came : Ending → Entry → Event → Type 0
@@ -131,9 +138,9 @@ FaultSays turn.NoMemory s t = t.1 ≡ s.1
 
 -- What an edit does: one turn, which says what was decided of it, or that the store failed.
 abbrev pub Submits : Entry → Result Reply SubmitFault → Sight → Sight → Type 0
-Submits e (Ok reply) s t = (reply.number ≡ e.number) × Own (One (IsEditSo WasDone e)) s t
-Submits e (Err (submit.Refused x)) s t = Own (One (IsEditSo (λ d. d ≡ decision.Refused x) e)) s t
-Submits e (Err submit.KeeperFault) s t = Own (One IsFault) s t
+Submits e (Ok reply) s t = (reply.number ≡ e.number) × OwnEdit (IsEditSo WasDone e) s t
+Submits e (Err (submit.Refused x)) s t = OwnEdit (IsEditSo (λ d. d ≡ decision.Refused x) e) s t
+Submits e (Err submit.KeeperFault) s t = OwnEdit IsFault s t
 Submits e (Err (submit.SeatCount a b)) s t = OtherCount a b s t
 Submits e (Err (submit.Ended n)) s t = SeatEnded n s t ⊎ EditsEnded n s t
 Submits e (Err submit.NoMemory) s t = AtMostOne s t

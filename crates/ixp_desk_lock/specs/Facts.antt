@@ -1,17 +1,19 @@
 -- What the lock's type keeps, and what is owed.
 --
 -- The lock holds the state, what is pending of its texts, each seat's count of turns, the pen of the history,
--- the store, and at most one turn that is owed: one that was made and stored, and isn't in the history yet
--- since memory ran out. Three facts are kept, each with the owed turn counted in: the store's rows are the
--- state's (`Stored`), the state and what is pending are those of the history (`Folds`), and so are the counts
--- of faults and of turns (`Counts`).
-use Rattle.std.specs.Prelude.{◌≡◌, ◌<◌, ◌-◌, ◌^◌, ◌+◌, ℕ, List, [], ◌∷◌, ◌++◌, get_or, Option, Some, None}
+-- the store, the member export that was made last, and at most one turn that is owed: one that was made and
+-- stored, and isn't in the history yet since memory ran out. Three facts are kept, each with the owed turn
+-- counted in: the store's rows are the state's (`Stored`), the state and what is pending are those of the
+-- history (`Folds`), and so are the counts of faults and of turns (`Counts`). The export is that of the state's
+-- registry (`KeepsExport`).
+use Rattle.std.specs.Prelude.{◌≡◌, ◌<◌, ◌-◌, ◌^◌, ◌+◌, ℕ, List, [], ◌∷◌, ◌++◌, get_or, Option, Some, None, IfSome}
 use mathlib.Core.List.{IsPrefix}
 use Rattle.ixp_io.specs.Tables.{Table}
 use Rattle.ixp_io.specs.Told.{WhereTold}
 use Rattle.ixp_board.specs.declared.entry.Entry.{Entry}
 use Rattle.ixp_board.specs.Histories.{entries, with_turn}
 use Rattle.ixp_registry.specs.declared.members.Owner.{Owner}
+use Rattle.ixp_registry.specs.declared.registry.Registry.{Registry}
 use Rattle.ixp_members.specs.Owners.{owner_of}
 use Rattle.ixp_machine_edits.specs.Edits.{IsLawful, next}
 use Rattle.ixp_machine_steps.specs.declared.state.Entry as steps
@@ -19,7 +21,10 @@ use Rattle.ixp_machine_steps.specs.declared.state.State.{State}
 use Rattle.ixp_machine_steps.specs.Steps.{Accepted, verdict}
 use Rattle.ixp_machine.specs.declared.decision.Decision.{Decision}
 use Rattle.ixp_machine.specs.declared.decision.Decision.TheVariants as decision
+use Rattle.ixp_machine.specs.declared.question.Answer.TheVariants.{Json}
+use Rattle.ixp_machine.specs.declared.question.Query.TheVariants.{Ixf}
 use Rattle.ixp_machine.specs.Decisions.{IsFor, Says}
+use Rattle.ixp_machine.specs.Questions.{IsAnswer}
 use Rattle.ixp_store_words.specs.Answers.{IsStoreOf}
 use Rattle.ixp_store_words.specs.Storing.{IsStorable}
 use Rattle.ixp_build_pending.specs.declared.pending.Pending.{Pending}
@@ -40,6 +45,7 @@ use Rattle.ixp_desk_history.specs.Legal.{Legal}
 use Rattle.ixp_desk_history.specs.Orders.{IsMadeAt}
 use Rattle.ixp_desk_history.specs.Touches.{Pends}
 use Rattle.ixp_desk_history.specs.Turns.{state_of, registry_of, faults_of, built_after, turns_by}
+use Rattle.ixp_desk_lock.specs.declared.exporting.KeptExport.{KeptExport}
 use Rattle.ixp_desk_lock.specs.declared.owed.Owed.{Owed}
 
 abbrev pub Log : Type 0
@@ -109,6 +115,10 @@ pub record Counts (log : Log) (owed : Option Turn) (faults : ℕ) (counts : List
   pub is : log ≡ entries first turns
   pub faults_are : faults ≡ faults_of first (with_owed turns owed)
   pub turns_are : (seat : ℕ) → get_or counts seat 0 ≡ turns_by seat (with_owed turns owed)
+
+-- The export that is kept, if there is one, is what a question for it is answered of this registry.
+abbrev pub KeepsExport : Registry → Option KeptExport → Type 0
+KeepsExport r kept = IfSome kept (λ x. IsAnswer r (Ixf x.second) (Json x.text))
 
 -- Noting what is owed.
 

@@ -5,12 +5,13 @@ use Rattle.ixp_num.specs.declared.roa.Roa.{Roa}
 use Rattle.ixp_machine_steps.specs.declared.state.State.{State}
 use Rattle.ixp_desk_history.specs.declared.turn.First.{First}
 use Rattle.ixp_desk_history.specs.declared.turn.Turn.{Turn}
-use Rattle.ixp_desk_history.specs.Answers.{HasNoSession, IsOwnText}
+use Rattle.ixp_desk_history.specs.Answers.{HasNoSession, IsAnswered, IsOwnText}
 use Rattle.ixp_desk_history.specs.Turns.{registry_of}
-use Rattle.ixp_desk_lock.specs.Facts.{Log}
+use Rattle.ixp_desk_lock.specs.Facts.{IsStateAt, Log}
 use Rattle.ixp_machine.specs.declared.question.Answer.{Answer}
 use Rattle.ixp_desk_history.specs.declared.turn.Answered.{Answered}
 use Rattle.ixp_desk_history.specs.declared.turn.Answered.TheVariants as answered
+use Rattle.ixp_desk_history.specs.declared.turn.Asked.{Asked}
 use Rattle.ixp_desk_history.specs.declared.turn.Text.{Text}
 use Rattle.ixp_desk_lock.specs.declared.fault.AskFault.{AskFault}
 use Rattle.ixp_desk_lock.specs.declared.fault.AskFault.TheVariants as ask
@@ -38,3 +39,7 @@ IsOwnAnswer s router n a = ⊥
 -- the ROAs are those of the registry after this history
 abbrev pub HasRoas : Log → List Roa → Type 0
 HasRoas log roas = (f : First) (ts : List Turn) → log ≡ entries f ts → roas ≡ (registry_of f ts).public.roas
+
+-- the question is answered so of the state after this history
+abbrev pub IsAnsweredAt : Log → Asked → Answered → Type 0
+IsAnsweredAt log q a = (s : State) × IsStateAt log s × IsAnswered s q a

@@ -5,11 +5,18 @@ ghost use Rattle.ixp_registry.specs.Valid.{Valid};
 ghost use Rattle.ixp_desk_history.specs.declared.turn.Asked.TheVariants as asked;
 ghost use Rattle.ixp_desk_history.specs.Answers.{IsAnswered, is_owned, may_read, own_refusal, unless_both};
 ghost use Rattle.ixp_desk_lock.specs.Calls.{Asks, FaultSays, One, OwnTexts};
-ghost use Rattle.ixp_desk_lock.specs.Facts.{HasAccepted, IsQuestion, Replies};
-ghost use Rattle.ixp_desk_lock.specs.Given.{HasRoas, IsOwnAnswer, answer_given, text_given};
+ghost use Rattle.ixp_desk_lock.specs.Facts.{HasAccepted, IsQuestion, KeepsExport, Replies};
+ghost use Rattle.ixp_desk_lock.specs.Given.{
+  HasRoas,
+  IsAnsweredAt,
+  IsOwnAnswer,
+  answer_given,
+  text_given,
+};
 ghost use Rattle.ixp_desk_lock.specs.Publishing.{Adds, Level};
 ghost use Rattle.ixp_desk_lock.specs.Sights.{Looks};
 
+use crate::exporting::{KeptExport, export_at};
 use crate::fault::{AskFault, TurnFault};
 use crate::locked::Locked;
 use crate::preparing::{kept_count, question_event, raise};
@@ -41,6 +48,27 @@ fn answer_of(
         Ok(answer) => Ok(Answered::Answer(answer)),
         Err(Unasked::Refused(refusal)) => Ok(Answered::Refused(refusal)),
         Err(Unasked::NoMemory) => Err(AllocError),
+    }
+}
+
+/// What a question is answered of a state, whose export may be kept.
+fn answer_kept(
+    alloc: Global,
+    state: &State,
+    export: &mut Option<KeptExport>,
+    secret: &[u8],
+    query: Query,
+) -> Result<Answered, AllocError>
+    requires kept { KeepsExport state.now.registry export.old }
+    ensures answered { IfOk result (IsAnswered state.now (asked.Query secret.now query)) }
+    ensures kept { KeepsExport state.now.registry export.new }
+{
+    match query {
+        Query::Ixf { second } => {
+            let text = export_at(alloc, &state.registry, export, second)?;
+            Ok(Answered::Answer(Answer::Json(text)))
+        }
+        _ => answer_of(alloc, state, secret, query),
     }
 }
 
@@ -226,6 +254,15 @@ impl<P: Keeper + Drop, N: BoardName, W: Publish<Note<DeskStory, N>>> Locked<P, N
         self.pen.view().get().bundle.get().shared_roas()
     }
 
+    /// What a question is answered.
+    fn answered(&mut self, secret: &[u8], query: Query) -> Result<Answered, AllocError>
+        requires none { self.old.1 ≡ None }
+        ensures ok { IfOk result (IsAnsweredAt self.old.0 (asked.Query secret.now query)) }
+        ensures same { self.new ≡ self.old }
+    {
+        answer_kept(self.alloc, &self.state, &mut self.export, secret, query)
+    }
+
     /// A question of a caller: its turn says what was answered.
     pub fn ask<R: Wait>(
         &mut self,
@@ -239,7 +276,7 @@ impl<P: Keeper + Drop, N: BoardName, W: Publish<Note<DeskStory, N>>> Locked<P, N
         ensures turns { Asks secret.now query result seat.old seat.new }
     {
         self.level(rt, seat)?;
-        let answered = answer_of(self.alloc, self.state(), secret, query)?;
+        let answered = self.answered(secret, query)?;
         let asked = Asked::Query {
             secret: Items::from_slice(self.alloc, secret)?,
             query,

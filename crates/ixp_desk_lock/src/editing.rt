@@ -110,6 +110,7 @@ impl<P: Keeper + Drop, N: BoardName, W: Publish<Note<DeskStory, N>>> Locked<P, N
             owner,
             &entry,
         )?;
+        self.export = None;
         match keep(self.alloc, &mut self.state, &mut self.keeper, owner, entry) {
             Ok(()) => {
                 take_up(&mut self.owed, ready);

@@ -1,7 +1,8 @@
 //! What lies under a desk's lock.
 //!
 //! A [`Locked`] holds the state of the registry, the store that keeps it, what is pending of the route
-//! servers' texts, the pen of the desk's history, and each seat's count of turns. Its methods are what
+//! servers' texts, the pen of the desk's history, each seat's count of turns, and the member export that was
+//! made last. Its methods are what
 //! callers do while they hold the lock: an edit, a question, an installation of texts. Each makes turns of
 //! the caller's seat in the history, and says which (`specs/Calls.antt`).
 //!
@@ -13,6 +14,7 @@
 mod answering;
 mod crossing;
 mod editing;
+mod exporting;
 mod fault;
 mod installing;
 mod locked;

@@ -6,6 +6,7 @@ ghost use Rattle.ixp_desk_lock.specs.Calls.{FaultSays, Fits};
 ghost use Rattle.ixp_desk_lock.specs.Facts.{IsStateAt, KeepsStore, all_of};
 ghost use Rattle.ixp_desk_lock.specs.Sights.{Looks};
 
+use crate::exporting::KeptExport;
 use crate::fault::TurnFault;
 use crate::owed::Owed;
 use crate::preparing::{kept_count, note_owed};
@@ -19,13 +20,15 @@ use std::alloc::{AllocError, Global};
 use std::marker::Model;
 use std::sync::Wait;
 
-/// State, what is pending, counts of turns, pen, store, and at most one turn that is owed. Contracts see the
-/// history and the turn that is owed.
+/// State, what is pending, counts of turns, pen, store, the last member export, and at most one turn that is
+/// owed. Contracts see the history and the turn that is owed.
 #[derive(Drop)]
 pub struct Locked<P: Keeper + Drop, N: BoardName, W: Publish<Note<DeskStory, N>>> {
     pub(crate) alloc: Global,
     pub(crate) state: State,
     pub(crate) pending: Pending,
+    /// That of the present state, where one was asked for.
+    pub(crate) export: Option<KeptExport>,
     /// How many turns each seat has made, by the seats' numbers.
     pub(crate) counts: Vec<u64>,
     pub(crate) owed: Option<Owed>,
@@ -38,7 +41,7 @@ impl<P: Keeper + Drop, N: BoardName, W: Publish<Note<DeskStory, N>>> Model for L
     ghost use Rattle.ixp_board.specs.declared.entry.Entry.{Entry};
     ghost use Rattle.ixp_desk_history.specs.declared.turn.First.{First};
     ghost use Rattle.ixp_desk_history.specs.declared.turn.Turn.{Turn};
-    ghost use Rattle.ixp_desk_lock.specs.Facts.{Stored, Folds, Counts, turn_in, reach_in};
+    ghost use Rattle.ixp_desk_lock.specs.Facts.{Stored, Folds, Counts, KeepsExport, turn_in, reach_in};
 
     ghost Value = { List (Entry First Turn) × Option Turn };
 
@@ -46,7 +49,8 @@ impl<P: Keeper + Drop, N: BoardName, W: Publish<Note<DeskStory, N>>> Model for L
 
     ghost invariant = { λ d. Stored (P.table d.keeper) d.state
         × Folds d.pen (turn_in d.owed) (reach_in d.owed) d.state d.pending
-        × Counts d.pen (turn_in d.owed) (P.faults d.keeper) d.counts.items };
+        × Counts d.pen (turn_in d.owed) (P.faults d.keeper) d.counts.items
+        × KeepsExport d.state.registry d.export };
 }
 
 impl<P: Keeper + Drop, N: BoardName, W: Publish<Note<DeskStory, N>>> Locked<P, N, W> {
@@ -129,6 +133,7 @@ impl<P: Keeper + Drop, N: BoardName, W: Publish<Note<DeskStory, N>>> Locked<P, N
             alloc: _alloc,
             state: _state,
             pending: _pending,
+            export: _export,
             counts: _counts,
             owed: _owed,
             pen: _pen,

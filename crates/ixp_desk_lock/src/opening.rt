@@ -31,6 +31,7 @@ impl<P: Keeper + Drop, N: BoardName, W: Publish<Note<DeskStory, N>>> Locked<P, N
             alloc,
             state,
             pending: Pending::new(alloc),
+            export: None,
             counts,
             owed: None,
             pen,

@@ -36,6 +36,7 @@ invariant_of-self g c = (
   subst (λ o. Counts c.self.inside.pen o (g.P.Keeper.faults c.keep.new.keeper) c.raise.new.counts.items) (sym (ap turn_in c.take_up.ensures))
       (counts_more c.args.self.now c.self.inside.pen c.self.inside.owed (g.P.Keeper.faults c.self.inside.keeper) (g.P.Keeper.faults c.keep.new.keeper) c.self.inside.counts.items c.raise.new.counts.items c.in_ok-ready.ready.turn c.args.seat c.args.number
       c.self.view_is c.requires.none c.requires.number c.self.invariant.2 c.in_ok-ready.ensures.seat (subst (λ (xs : List ℕ). c.args.seat < length xs) c.as_slice.ensures.value c.in-Some.ensures.there) (c.keep.ensures.still (λ bad. let wrong : ⊥ = cc in wrong) ∙ sym (edit_faults (g.P.Keeper.faults c.self.inside.keeper) c.in_ok-ready.ready.turn.event c.args.entry (decision.Accepted c.in_ok-ready.ensures.event.0) c.in_ok-ready.ensures.event.1)) c.raise.ensures),
+  tt,
 )
 
 pub invariant_of-self-in-Err-Failed : goal.invariant_of-self-in-Err-Failed
@@ -51,6 +52,7 @@ invariant_of-self-in-Err-Failed g c = (
   subst (λ o. Counts c.self.inside.pen o (g.P.Keeper.faults c.keep.new.keeper) c.raise-in-Err-Failed.new.counts.items) (sym (ap turn_in c.owe_fault.ensures))
       (counts_more c.args.self.now c.self.inside.pen c.self.inside.owed (g.P.Keeper.faults c.self.inside.keeper) (g.P.Keeper.faults c.keep.new.keeper) c.self.inside.counts.items c.raise-in-Err-Failed.new.counts.items (record { seat = c.in_ok-ready.ready.turn.seat; number = c.in_ok-ready.ready.turn.number; event = Fault c.faults.result; view = c.in_ok-ready.ready.same }) c.args.seat c.args.number
       c.self.view_is c.requires.none c.requires.number c.self.invariant.2 c.in_ok-ready.ensures.seat (subst (λ (xs : List ℕ). c.args.seat < length xs) c.as_slice.ensures.value c.in-Some.ensures.there) (sym c.faults.ensures) c.raise-in-Err-Failed.ensures),
+  tt,
 )
 
 pub returns-in-Err-Failed-clause-failed : goal.returns-in-Err-Failed-clause-failed

@@ -6,4 +6,5 @@ invariant_of-result g c = (
   c.requires.stored,
   folds_first c.args.pen c.view-view.result.now c.args.state (g.P.Keeper.faults c.args.keeper) c.new.result c.view-view.ensures c.requires.begins c.new.ensures,
   counts_first c.args.pen c.args.state (g.P.Keeper.faults c.args.keeper) c.args.counts.items c.requires.begins c.requires.counts,
+  tt,
 )

@@ -14,6 +14,7 @@ invariant_of-self g c = (
   subst (λ o. Counts c.self.inside.pen o (g.P.Keeper.faults c.self.inside.keeper) c.raise.new.counts.items) (sym (ap turn_in c.owe_turn.ensures))
       (counts_more c.args.self.now c.self.inside.pen c.self.inside.owed (g.P.Keeper.faults c.self.inside.keeper) (g.P.Keeper.faults c.self.inside.keeper) c.self.inside.counts.items c.raise.new.counts.items (record { seat = c.args.seat; number = c.args.number; event = c.edit_event.result; view = c.in_ok-shared.field-0 }) c.args.seat c.args.number
       c.self.view_is c.requires.none c.requires.number c.self.invariant.2 refl (subst (λ (xs : List ℕ). c.args.seat < length xs) c.as_slice.ensures.value c.in-Some.ensures.there) (sym (edit_faults (g.P.Keeper.faults c.self.inside.keeper) c.edit_event.result c.args.entry.now c.args.decision.now c.edit_event.ensures)) c.raise.ensures),
+  c.self.invariant.3,
 )
 
 pub returns-clause-ok : goal.returns-clause-ok

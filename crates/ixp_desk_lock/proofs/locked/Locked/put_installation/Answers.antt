@@ -19,6 +19,7 @@ invariant_of-self-2 g c = (
   put_counts c.args.self.now c.self.inside.pen c.put.new.self c.self.inside.owed c.args.seat.now (g.P.Keeper.faults c.self.inside.keeper) c.self.inside.counts.items c.raise.new.counts.items c.args.turn.now c.args.turn.now.seat c.args.turn.now.number c.self.view_is c.requires.level c.self.invariant.2
       c.requires.turn.1.seat c.requires.turn.1.number refl (subst (λ (xs : List ℕ). c.args.turn.now.seat < length xs) c.as_slice.ensures.value c.in-Some.ensures.there)
       (sym (ap (fault_in (g.P.Keeper.faults c.self.inside.keeper)) c.requires.turn.1.event)) c.raise.ensures c.in_ok-note.ensures.ok,
+  c.self.invariant.3,
 )
 
 pub returns-clause-ok : goal.returns-clause-ok

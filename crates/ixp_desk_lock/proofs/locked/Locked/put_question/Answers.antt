@@ -13,6 +13,7 @@ invariant_of-self-2 g c = (
   put_counts c.args.self.now c.self.inside.pen c.put.new.self c.self.inside.owed c.args.seat.now (g.P.Keeper.faults c.self.inside.keeper) c.self.inside.counts.items c.raise.new.counts.items (record { seat = c.number-2.result; number = c.count.result; event = c.question_event.result; view = c.in_ok-shared.field-0 }) c.number-2.result c.count.result c.self.view_is c.requires.level c.self.invariant.2
       c.number-2.ensures c.count.ensures refl (subst (λ (n : ℕ). n < length c.self.inside.counts.items) (c.number.ensures ∙ sym c.number-2.ensures) (subst (λ (xs : List ℕ). c.number.result < length xs) c.as_slice.ensures.value c.in-Some.ensures.there))
       (question_faults (g.P.Keeper.faults c.self.inside.keeper) c.question_event.result c.args.asked c.args.answered.now c.question_event.ensures) c.raise.ensures c.in_ok-note.ensures.ok,
+  c.self.invariant.3,
 )
 
 pub returns-clause-ok : goal.returns-clause-ok

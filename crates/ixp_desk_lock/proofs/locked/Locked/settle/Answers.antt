@@ -15,6 +15,7 @@ invariant_of-self-in_err-put g c = (
       (noted_folds c.self.inside.pen c.self.inside.owed c.note_owed.new.owed c.self.inside.state c.self.inside.pending c.note_owed.new.pending c.in_ok-note_owed.ensures.owed c.in_ok-note_owed.ensures.pending c.self.invariant.1),
   subst (λ l. Counts l (turn_in c.note_owed.new.owed) (g.P.Keeper.faults c.self.inside.keeper) c.self.inside.counts.items) (sym c.in_err-put.ensures.err)
       (subst (λ o. Counts c.self.inside.pen o (g.P.Keeper.faults c.self.inside.keeper) c.self.inside.counts.items) (sym (turn_noted c.self.inside.owed c.note_owed.new.owed c.in_ok-note_owed.ensures.owed)) c.self.invariant.2),
+  c.self.invariant.3,
 )
 
 pub invariant_of-self-2 : goal.invariant_of-self-2
@@ -25,6 +26,7 @@ invariant_of-self-2 g c = (
       (noted_folds c.self.inside.pen c.self.inside.owed c.note_owed.new.owed c.self.inside.state c.self.inside.pending c.note_owed.new.pending c.in_ok-note_owed.ensures.owed c.in_ok-note_owed.ensures.pending c.self.invariant.1),
   counted c.self.inside.pen c.put.new.self c.note_owed.new.owed c.in-Some.owed (g.P.Keeper.faults c.self.inside.keeper) c.self.inside.counts.items c.in-Some.is c.in_ok-put.ensures.ok
       (subst (λ o. Counts c.self.inside.pen o (g.P.Keeper.faults c.self.inside.keeper) c.self.inside.counts.items) (sym (turn_noted c.self.inside.owed c.note_owed.new.owed c.in_ok-note_owed.ensures.owed)) c.self.invariant.2),
+  c.self.invariant.3,
 )
 
 pub returns-clause-ok : goal.returns-clause-ok
