@@ -50,6 +50,7 @@ query_of question.Contacts args = query.Contacts args.row
 query_of question.Rules args = query.Rules args.row
 query_of question.Use args = query.Use args.row args.family
 query_of question.Ixf args = query.Ixf 0
+query_of question.Dump args = query.Dump
 
 -- the configuration of a router, where what was seen is a number of a request, or isn't said
 abbrev pub published : Args → Request → Said

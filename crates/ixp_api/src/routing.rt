@@ -82,6 +82,7 @@ fn query_of(question: Question, args: &Args) -> Query
         Question::Rules => Query::Rules(args.row),
         Question::Use => Query::Use(args.row, args.family),
         Question::Ixf => Query::Ixf { second: 0 },
+        Question::Dump => Query::Dump,
     }
 }
 

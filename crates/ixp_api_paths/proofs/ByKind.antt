@@ -208,6 +208,7 @@ word-reads word.Routers a t = refl
 word-reads word.Config a t = refl
 word-reads word.Explain a t = refl
 word-reads word.Ixf a t = refl
+word-reads word.Dump a t = refl
 word-reads word.Public a t = refl
 word-reads word.Glass a t = refl
 word-reads word.Bogons a t = refl
@@ -377,6 +378,7 @@ question_place question.Contacts = 5
 question_place question.Rules = 9
 question_place question.Use = 19
 question_place question.Ixf = 27
+question_place question.Dump = 31
 
 abbrev place_of : Kind → ℕ
 place_of (kind.Edit e) = edit_place e
@@ -424,6 +426,7 @@ question-stands question.Contacts = (refl, refl)
 question-stands question.Rules = (refl, refl)
 question-stands question.Use = (refl, refl)
 question-stands question.Ixf = (refl, refl)
+question-stands question.Dump = (refl, refl)
 
 stands : (k : Kind) → Stands k
 stands (kind.Edit e) = edit-stands e

@@ -63,6 +63,7 @@ question_at question.Contacts = get (codes "/members/{row}/contacts")
 question_at question.Rules = get (codes "/members/{row}/rules")
 question_at question.Use = get (codes "/vlans/{row}/use/{family}")
 question_at question.Ixf = get (codes "/ixf")
+question_at question.Dump = get (codes "/dump")
 
 abbrev pub address_of : Kind → Address
 address_of (kind.Edit e) = edit_at e

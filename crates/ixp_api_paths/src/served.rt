@@ -90,7 +90,8 @@ fn route_at(place: usize) -> &'static str
         27 => "/ixf",
         28 => "/public/{list}",
         29 => "/glass/{router}/{row}",
-        _ => "/glass/{router}/{row}/{place}",
+        30 => "/glass/{router}/{row}/{place}",
+        _ => "/dump",
     }
 }
 

@@ -24,6 +24,7 @@ pub enum Word {
     Config,
     Explain,
     Ixf,
+    Dump,
     Public,
     Glass,
     Bogons,
@@ -79,6 +80,8 @@ pub enum Question {
     Use,
     /// The member export.
     Ixf,
+    /// The dump of the registry.
+    Dump,
 }
 
 /// What a method and a path call for.
@@ -109,7 +112,7 @@ pub struct Entry {
 }
 
 /// The number of paths.
-pub const PATHS: usize = 31;
+pub const PATHS: usize = 32;
 
 /// Every path, once. `route_at` has the same paths as the router's texts.
 pub const TABLE: [Entry; PATHS] = [
@@ -391,6 +394,13 @@ pub const TABLE: [Entry; PATHS] = [
     Entry {
         parts: [Part::Is(Word::Glass), Part::Router, Part::Row, Part::Place],
         get: Some(Kind::GlassPlace),
+        post: None,
+        put: None,
+        delete: None,
+    },
+    Entry {
+        parts: [Part::Is(Word::Dump), Part::End, Part::End, Part::End],
+        get: Some(Kind::Ask(Question::Dump)),
         post: None,
         put: None,
         delete: None,

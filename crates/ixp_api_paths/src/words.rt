@@ -28,6 +28,7 @@ fn text_of(word: Word) -> &'static [u8]
         Word::Config => b"config",
         Word::Explain => b"explain",
         Word::Ixf => b"ixf",
+        Word::Dump => b"dump",
         Word::Public => b"public",
         Word::Glass => b"glass",
         Word::Bogons => b"bogons",

@@ -1,6 +1,7 @@
 pub mod Keeping
 pub mod OwnAnswers
 pub mod OwnCalls
+pub mod OwnGlass
 pub mod OwnPlace
 pub mod OwnReplies
 pub mod OwnReports

@@ -99,13 +99,13 @@ submits_by : (a b : Entry) (x y : Result Reply SubmitFault) (s t u w : Sight) �
     → ((So To : Decision → Type 0) → Own (One (IsEditSo So a)) s t → Own (One (IsEditSo To b)) u w → Both So To) → x ≡ y
 submits_by a b (Ok x) (Ok y) s t u w (number, one) (number', two) told told' same both = ap (λ n. Ok (record { number = n })) (number ∙ (same ∙ sym number'))
 submits_by a b (Ok x) (Err (submit.Refused y)) s t u w (number, one) two told told' same both =
-    let (d, c, done, is, alike) = both WasDone (λ d. d ≡ decision.Refused y) one two in
+    let (d, c, done, is, alike) = both WasDone (λ d. d ≡ decision.Refused y) one.own two.own in
     absurd (done_unrefused d y done (subst (SameDecision d) is alike))
 submits_by a b (Err (submit.Refused x)) (Ok y) s t u w one (number, two) told told' same both =
-    let (d, c, is, done, alike) = both (λ d. d ≡ decision.Refused x) WasDone one two in
+    let (d, c, is, done, alike) = both (λ d. d ≡ decision.Refused x) WasDone one.own two.own in
     absurd (refused_undone c x done (subst (λ z. SameDecision z c) is alike))
 submits_by a b (Err (submit.Refused x)) (Err (submit.Refused y)) s t u w one two told told' same both =
-    let (d, c, is, it, alike) = both (λ d. d ≡ decision.Refused x) (λ d. d ≡ decision.Refused y) one two in
+    let (d, c, is, it, alike) = both (λ d. d ≡ decision.Refused x) (λ d. d ≡ decision.Refused y) one.own two.own in
     let whole : decision.Refused x ≡ decision.Refused y = subst (λ z. SameDecision z (decision.Refused y)) is (subst (SameDecision d) it alike) in
     let one : x ≡ y = cc (whole) in
     ap (λ z. Err (submit.Refused z)) one
@@ -247,7 +247,7 @@ pub repeats_told : (e : Entry) (x : Result Reply SubmitFault) (s t : Sight) (f :
     → IsRepeat (state_of f before) owner e → x ≡ Ok (record { number = e.number })
 repeats_told e (Ok x) s t f before owner (number, one) told p again = ap (λ n. Ok (record { number = n })) number
 repeats_told e (Err (submit.Refused x)) s t f before owner one told p again =
-    absurd (repeats_by (state_of f before) owner e x p.turn.event again (own_event (IsEditSo (λ d. d ≡ decision.Refused x) e) f before s t p one)
+    absurd (repeats_by (state_of f before) owner e x p.turn.event again (own_event (IsEditSo (λ d. d ≡ decision.Refused x) e) f before s t p one.own)
     (λ is. answered_again f before p.after p.turn owner (legal_at f before s t p) is))
 repeats_told e (Err submit.KeeperFault) s t f before owner one told p again = absurd told
 repeats_told e (Err (submit.SeatCount i k)) s t f before owner one told p again = absurd told
@@ -257,8 +257,8 @@ repeats_told e (Err submit.NoMemory) s t f before owner one told p again = absur
 -- Places.
 
 pub submit_place : (e : Entry) (x : Result Reply SubmitFault) (s t : Sight) → Grows s t → Submits e x s t → IsDecided x → HasPlace s t
-submit_place e (Ok x) s t grows (number, one) told = own_place (IsEditSo WasDone e) s t grows one
-submit_place e (Err (submit.Refused x)) s t grows one told = own_place (IsEditSo (λ d. d ≡ decision.Refused x) e) s t grows one
+submit_place e (Ok x) s t grows (number, one) told = own_place (IsEditSo WasDone e) s t grows one.own
+submit_place e (Err (submit.Refused x)) s t grows one told = own_place (IsEditSo (λ d. d ≡ decision.Refused x) e) s t grows one.own
 submit_place e (Err submit.KeeperFault) s t grows one told = absurd told
 submit_place e (Err (submit.SeatCount i k)) s t grows one told = absurd told
 submit_place e (Err (submit.Ended n)) s t grows one told = absurd told

@@ -27,7 +27,7 @@ use Rattle.ixp_machine.specs.declared.decision.Decision.TheVariants as decision
 use Rattle.ixp_machine.specs.declared.question.Answer.{Answer}
 use Rattle.ixp_machine.specs.declared.question.Answer.TheVariants as answer
 use Rattle.ixp_machine.specs.declared.question.Query as machine
-use Rattle.ixp_machine.specs.declared.question.Query.TheVariants.{Member as OfMember, Contacts, Rules, Use, Ixf}
+use Rattle.ixp_machine.specs.declared.question.Query.TheVariants.{Member as OfMember, Contacts, Rules, Use, Ixf, Dump}
 use Rattle.ixp_machine.specs.Decisions.{Names, Says}
 use Rattle.ixp_machine.specs.Others.{LeavesOthers}
 use Rattle.ixp_machine.specs.Questions.{IsAnswer, ask_refusal, right_asked, unless_known}
@@ -101,6 +101,7 @@ one_answer r secret m (Use vlan f) x y own none is it =
     let bad : ◌≡◌ {A = Option Refusal} (Some (Denied right.Staff)) None = sym (denied r secret m vlan f own) ∙ none in
     absurd (let wrong : ⊥ = cc in wrong)
 one_answer r secret m (Ixf second) x y own none is it = is ∙ sym it
+one_answer r secret m Dump x y own none is it = is ∙ sym it
 
 -- where a right is asked for, a secret is shown
 with_key : {P : Type 0} (asked : Right) → ◌≡◌ {A = Option Right} (Some asked) None ⊎ P → P
@@ -115,6 +116,7 @@ module _ (s t : State) (m : ℕ) (alike : SeesAlike m s t) where
   moved a (Contacts n) x own none is = answer_apart s t m a (Contacts n) (right.Member n) x own refl none alike.own is
   moved a (Rules n) x own none is = answer_apart s t m a (Rules n) (right.Member n) x own refl none alike.own is
   moved a (Use vlan f) x own none is = answer_apart s t m a (Use vlan f) right.Staff x own refl none alike.own is
+  moved a Dump x own none is = answer_apart s t m a Dump right.Staff x own refl none alike.own is
 
   query_alike : (a b : List ℕ) (q : machine.Query) (x y : Answered) → owner_of s.registry a ≡ Some (Of m) → owner_of t.registry b ≡ Some (Of m)
       → IsAnswered s (Query a q) x → IsAnswered t (Query b q) y → SameAnswered x y
@@ -159,6 +161,7 @@ module _ (s t : State) (m : ℕ) (alike : SeesAlike m s t) where
   by_right a b (Contacts n) x y own other is it = query_alike a b (Contacts n) x y (with_key (right.Member n) own) (with_key (right.Member n) other) is it
   by_right a b (Rules n) x y own other is it = query_alike a b (Rules n) x y (with_key (right.Member n) own) (with_key (right.Member n) other) is it
   by_right a b (Use vlan f) x y own other is it = query_alike a b (Use vlan f) x y (with_key right.Staff own) (with_key right.Staff other) is it
+  by_right a b Dump x y own other is it = query_alike a b Dump x y (with_key right.Staff own) (with_key right.Staff other) is it
 
   asked_alike : (q p : Asked) (x y : Answered) → ValidState s → ValidState t → IsAskedBy s.registry m q → IsAskedBy t.registry m p → SameAsked q p → IsAnswered s q x → IsAnswered t p y → SameAnswered x y
   asked_alike (Query a q) (Query b p) x y valid valid' own other same is it =

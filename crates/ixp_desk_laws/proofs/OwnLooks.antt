@@ -22,7 +22,7 @@ use Rattle.ixp_desk_lock.specs.Calls.{Grows}
 use Rattle.ixp_desk_lock.specs.Facts.{Log}
 use Rattle.ixp_desk_lock.specs.Sights.{Sight}
 use Rattle.ixp_desk.specs.Publications.{Answers, LookedFor, reader_of}
-use Rattle.ixp_desk_link.specs.Turns.{ExplainTurn, Explains, ExplainsElse, OwnTurn, is_denied}
+use Rattle.ixp_desk_explain.specs.Explanations.{ExplainTurn, Explains, ExplainsElse, OwnTurn, is_denied}
 use Rattle.ixp_desk_laws.specs.Calls.{SeesAlike}
 use Rattle.ixp_desk_laws.specs.Desks.{IsOf, StaysOf}
 use Rattle.ixp_desk_laws.specs.Links.{IsReply}

@@ -42,7 +42,8 @@ use Rattle.ixp_desk_lock.specs.declared.fault.SubmitFault.TheVariants as submit
 use Rattle.ixp_desk_lock.specs.Calls.{OwnTexts}
 use Rattle.ixp_desk_lock.specs.Facts.{IsQuestion}
 use Rattle.ixp_desk_lock.specs.Sights.{Sight}
-use Rattle.ixp_desk_link.specs.Turns.{AskTurn, EditTurn, OrNoMemory, OwnTextIn, OwnTold, OwnTurn, answer_outcome, edit_outcome, explanation_outcome, member_says, own_fault}
+use Rattle.ixp_desk_explain.specs.Explanations.{OrNoMemory, OwnTextIn, OwnTold, OwnTurn, explanation_outcome, member_says, own_fault}
+use Rattle.ixp_desk_link.specs.Turns.{AskTurn, EditTurn, answer_outcome, edit_outcome}
 use Rattle.ixp_desk_laws.specs.Calls.{SeesAlike}
 use Rattle.ixp_desk_laws.specs.Desks.{IsAfter, IsDecided, IsOf, IsTold}
 use Rattle.ixp_desk_laws.specs.Edits.{IsRepeat}
@@ -117,7 +118,7 @@ pub record IsSource (m : ℕ) (router : List ℕ) (n : ℕ) (text : Text) (s t :
   pub state : state_of x.first x.before ≡ state_of f before
   pub mine : is_owned (registry_of x.first x.before) m n ≡ true
 
-source_of : (m : ℕ) (a router : List ℕ) (n : ℕ) (text : Text) (s t : Sight) (f : First) (before : List Turn) (x : OwnTextIn t.2 router n text) → OwnTexts a router n (Ok text) s t → IsOf m a f before s t
+pub source_of : (m : ℕ) (a router : List ℕ) (n : ℕ) (text : Text) (s t : Sight) (f : First) (before : List Turn) (x : OwnTextIn t.2 router n text) → OwnTexts a router n (Ok text) s t → IsOf m a f before s t
     → IsSource m router n text s t f before x
 source_of m a router n text s t f before x one here =
     let p = here.place in
@@ -151,21 +152,10 @@ says_alike m n handle route peers f g before others v w legal legal' seen mine x
 
 -- what isn't out of memory is said
 unless_memory : (says o : Outcome) → IsReply o → OrNoMemory says o → o ≡ says
-unless_memory says (outcome.Done n) reply is = is
-unless_memory says (outcome.Answered a) reply is = is
-unless_memory says (outcome.Text text) reply is = is
-unless_memory says (outcome.Called fault) reply is = is
-unless_memory says (outcome.Head status) reply is = is
-unless_memory says (outcome.Refused x) reply is = is
-unless_memory says outcome.KeeperFault reply is = is
-unless_memory says (outcome.SeenUnknown n) reply is = is
-unless_memory says outcome.NoRouter reply is = is
-unless_memory says outcome.NoSession reply is = is
-unless_memory says (outcome.SeatCount i k) reply is = is
-unless_memory says (outcome.Ended n) reply is = is
-unless_memory says outcome.NoMemory reply is = absurd reply
+unless_memory says o reply (inl is) = is
+unless_memory says o reply (inr is) = absurd (subst IsReply is reply)
 
-fault_told : (e : AskFault) → IsReply (own_fault e) → IsTold {A = Text} (Err e)
+pub fault_told : (e : AskFault) → IsReply (own_fault e) → IsTold {A = Text} (Err e)
 fault_told (ask.Refused x) is = tt
 fault_told ask.NoSession is = tt
 fault_told (ask.SeatCount i k) is = is

@@ -1,5 +1,6 @@
 //! What the calls of links answer members, and edits that are sent again.
-ghost use Rattle.std.specs.Prelude.{◌≡◌, ℕ, List};
+ghost use Rattle.std.specs.Prelude.{◌≡◌, ℕ, List, Option};
+ghost use Rattle.ixp_lang.specs.declared.route.Route.{Route};
 ghost use Rattle.ixp_registry.specs.declared.members.Owner.{Owner};
 ghost use Rattle.ixp_machine_steps.specs.declared.state.Entry.{Entry};
 ghost use Rattle.ixp_machine.specs.declared.question.Query.{Query};
@@ -12,14 +13,16 @@ ghost use Rattle.ixp_desk_history.specs.declared.turn.Turn.{Turn};
 ghost use Rattle.ixp_desk_history.specs.Legal.{Legal};
 ghost use Rattle.ixp_desk_history.specs.Turns.{state_of};
 ghost use Rattle.ixp_desk_lock.specs.Sights.{Sight};
-ghost use Rattle.ixp_desk_link.specs.Turns.{AskTurn, EditTurn, ExplainTurn};
+ghost use Rattle.ixp_desk_explain.specs.Explanations.{ExplainTurn};
+ghost use Rattle.ixp_desk_explain.specs.Glass.{ShowTurn, Sights};
+ghost use Rattle.ixp_desk_link.specs.Turns.{AskTurn, EditTurn};
 ghost use Rattle.ixp_desk_laws.specs.Calls.{SeesAlike};
 ghost use Rattle.ixp_desk_laws.specs.Desks.{IsAfter, IsOf, StaysOf};
 ghost use Rattle.ixp_desk_laws.specs.Edits.{IsRepeat};
 ghost use Rattle.ixp_desk_laws.specs.Links.{IsReply};
 
 /// What a link answers to a member's call depends on what the member sees at the call's place alone: edits,
-/// questions, and explanations of a route. An explanation looks for whose the secret is before its turn, so it is
+/// questions, explanations of a route, and what a looking glass shows of the same routes. An explanation looks for whose the secret is before its turn, so it is
 /// said of those whose secret is the member's as long as the call lasts.
 pub fn links_answer_members_of_their_own()
     ensures edit { (m : ℕ) (a b : Entry) (x y : Outcome) (s t u w : Sight) (f g : First)
@@ -37,6 +40,11 @@ pub fn links_answer_members_of_their_own()
         → IsOf m a.secret f before s t → IsOf m b.secret g others u w
         → SeesAlike m (state_of f before) (state_of g others)
         → a.router ≡ b.router → a.interface ≡ b.interface → a.asked ≡ b.asked → x ≡ y }
+    ensures glass { (m : ℕ) (a b router : List ℕ) (n : ℕ) (held : Option (List Route)) (x y : Outcome)
+        (s t u w : Sights) (f g : First) (before others : List Turn) → ShowTurn held a router n x s t
+        → ShowTurn held b router n y u w → IsReply x → IsReply y
+        → IsOf m a f before s.0 t.0 → IsOf m b g others u.0 w.0
+        → SeesAlike m (state_of f before) (state_of g others) → x ≡ y }
 {}
 
 /// An edit whose number is kept for its kind and subject, sent again by its owner who still has the right, is

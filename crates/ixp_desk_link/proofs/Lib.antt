@@ -1,4 +1,4 @@
 pub mod NeverHead
-pub mod Explained
+pub mod Formed
 pub mod Seconds
 pub mod LinkTurns

@@ -3,7 +3,7 @@ use Rattle.std.proofs.Common.{◌≡◌, ℕ, Option, refl, sym, subst}
 use Rattle.ixp_io.specs.Told.{Told}
 use Rattle.ixp_num.specs.declared.family.Family.{Family}
 use Rattle.ixp_machine.specs.declared.question.Query.{Query}
-use Rattle.ixp_machine.specs.declared.question.Query.TheVariants.{Member, Contacts, Rules, Use, Ixf}
+use Rattle.ixp_machine.specs.declared.question.Query.TheVariants.{Member, Contacts, Rules, Use, Ixf, Dump}
 use Rattle.ixp_desk_link.specs.Turns.{AsksClock, at_second}
 
 -- at some second this is the question, and the clock was asked for it or wasn't
@@ -24,3 +24,6 @@ rules_timed q m given is = subst (λ (x : Query). IsTimed x given given (Rules m
 
 pub use_timed : (q : Query) (v : ℕ) (f : Family) (given : Option ℕ) → q ≡ Use v f → IsTimed q given given (Use v f)
 use_timed q v f given is = subst (λ (x : Query). IsTimed x given given (Use v f)) (sym is) (0, refl, refl)
+
+pub dump_timed : (q : Query) (given : Option ℕ) → q ≡ Dump → IsTimed q given given Dump
+dump_timed q given is = subst (λ (x : Query). IsTimed x given given Dump) (sym is) (0, refl, refl)

@@ -19,5 +19,6 @@ pub(crate) fn at_second<C: Clock>(clock: &mut C, query: Query) -> Query
         Query::Contacts(member) => Query::Contacts(member),
         Query::Rules(member) => Query::Rules(member),
         Query::Use(vlan, family) => Query::Use(vlan, family),
+        Query::Dump => Query::Dump,
     }
 }

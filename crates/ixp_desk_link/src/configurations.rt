@@ -1,28 +1,15 @@
 //! Configurations.
 ghost use Rattle.std.specs.Prelude.{◌≡◌};
 ghost use Rattle.ixp_desk_lock.specs.Calls.{Grows};
-ghost use Rattle.ixp_desk_link.specs.Turns.{ConfigTurn, fault_outcome, text_outcome};
+ghost use Rattle.ixp_desk_link.specs.Turns.{ConfigTurn, text_outcome};
 
 use ixp_api::Outcome;
 use ixp_board::BoardName;
 use ixp_desk::{DeskSeat, Desks, PubFault, Text, published};
+use ixp_desk_explain::fault_outcome;
 use ixp_num::Name;
 use std::alloc::Global;
 use std::sync::Wait;
-
-/// How a request ends to which no configuration is handed out.
-pub(crate) fn fault_outcome(fault: PubFault) -> Outcome
-    ensures { result ≡ fault_outcome fault }
-{
-    match fault {
-        PubFault::Refused(refusal) => Outcome::Refused(refusal),
-        PubFault::SeenUnknown { number } => Outcome::SeenUnknown { number },
-        PubFault::NoRouter => Outcome::NoRouter,
-        PubFault::SeatCount { seat, kept } => Outcome::SeatCount { seat, kept },
-        PubFault::Ended { count } => Outcome::Ended { count },
-        PubFault::NoMemory => Outcome::NoMemory,
-    }
-}
 
 fn text_outcome(text: Result<Text, PubFault>) -> Outcome
     ensures { result ≡ text_outcome text }

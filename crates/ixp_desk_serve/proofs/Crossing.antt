@@ -1,4 +1,4 @@
--- A desk that threads share may be used by several of them.
+-- A desk and a looking glass that threads share may be used by several of them.
 use denote.RattleType.{RattleType}
 use denote.Ref.{NamedLft}
 use denote.Param.Send.{IsSend, IsSync, sendable}
@@ -10,6 +10,8 @@ use Rattle.ixp_board.specs.declared.front.BoardName
 use Rattle.ixp_desk_lock.specs.contracts.locked.Locked as Locked
 use Rattle.ixp_desk_lock.proofs.Sends.{locked_send}
 use Rattle.ixp_desk.specs.contracts.shared.Shared as Shared
+use Rattle.ixp_desk_explain.specs.contracts.glass.LookingGlass as LookingGlass
+use Rattle.ixp_desk_explain.proofs.glass.LookingGlass.TheSendSync as GlassCrosses
 use Rattle.ixp_desk_rtr.specs.contracts.cache.RoaCache as RoaCache
 use Rattle.ixp_desk_rtr.proofs.cache.RoaCache.TheSendSync as CacheSends
 use Rattle.ixp_desk_serve.specs.contracts.hosting.Hosting as Hosting
@@ -22,8 +24,12 @@ module _ (P N W : RattleType) (k : Keeper.Ghosts P.Denot) (g : BoardName.Ghosts 
   pub shared_sync : IsSync (Shared.the_row P N W k g)
   shared_sync = search (lock_sync, crosses, sendable) depth 20
 
-  pub hosting_sync : (l : NamedLft) (G : RattleType) → IsSync G → IsSync (Hosting.the_row l P N W G k g)
-  hosting_sync l G s = search (shared_sync, crosses, sendable) depth 12
+  module _ (M V : RattleType) (h : BoardName.Ghosts M.Denot) (v : IsSend V) (n : IsSend M) (m : IsSync M) where
+    glass_sync : IsSync (LookingGlass.the_row M V h)
+    glass_sync = search (GlassCrosses.the_sync, crosses, sendable) depth 12
+
+    pub hosting_sync : (l : NamedLft) (G : RattleType) → IsSync G → IsSync (Hosting.the_row l P N M W V G k g h)
+    hosting_sync l G s = search (shared_sync, glass_sync, crosses, sendable) depth 12
 
   module _ (n : IsSend N) (m : IsSync N) where
     cache_send : IsSend (RoaCache.the_row N g)

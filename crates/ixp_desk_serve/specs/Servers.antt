@@ -9,7 +9,7 @@ use Rattle.ixp_machine_steps.specs.declared.state.State.{State}
 use Rattle.ixp_store_words.specs.declared.fault.LoadFault.TheVariants as load
 use Rattle.ixp_desk_history.specs.declared.turn.Turn.{Turn}
 use Rattle.ixp_desk_lock.specs.Facts.{KeepsStore, Log}
-use Rattle.ixp_desk_lock.specs.Sights.{Sight}
+use Rattle.ixp_desk_explain.specs.Glass.{Sights}
 use Rattle.ixp_desk.specs.Openings.{Loads}
 use Rattle.ixp_http_link.specs.declared.ends.Served.{Served as Link}
 use Rattle.ixp_desk_link.specs.Serving.{IsServed}
@@ -18,8 +18,8 @@ use Rattle.ixp_desk_rtr.specs.Routers.{Serves}
 use Rattle.ixp_desk_serve.specs.declared.server.ServerEnd.{ServerEnd}
 use Rattle.ixp_desk_serve.specs.declared.server.ServerEnd.TheVariants.{Unopened, NoMemory, DoorFault, Served}
 
--- A worker's seat served a link of the door, and the clock gave whatever it gave.
-abbrev pub IsHosted : Sight → Sight → Option (List ℕ) → Option (List ℕ) → Option (List ℕ) → Option (List ℕ) → Type 0 → Type 0 → Type 0
+-- A worker's seats served a link of the door, and the clock gave whatever it gave.
+abbrev pub IsHosted : Sights → Sights → Option (List ℕ) → Option (List ℕ) → Option (List ℕ) → Option (List ℕ) → Type 0 → Type 0 → Type 0
 IsHosted s t left left' written written' unread unwritten =
     (given : Option ℕ) × (given' : Option ℕ) × (served : Link) × IsServed (s, given) (t, given') left left' written written' unread unwritten served
 

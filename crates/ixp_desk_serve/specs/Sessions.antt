@@ -11,6 +11,7 @@ use Rattle.ixp_desk_history.specs.declared.turn.First.{First}
 use Rattle.ixp_desk_history.specs.declared.turn.Turn.{Turn}
 use Rattle.ixp_desk_lock.specs.Facts.{KeepsStore, Log}
 use Rattle.ixp_desk_lock.specs.Sights.{Sight}
+use Rattle.ixp_desk_explain.specs.Glass.{Sights}
 use Rattle.ixp_desk.specs.Openings.{Loads}
 use Rattle.ixp_desk_link.specs.Serving.{IsServed}
 use Rattle.ixp_desk_serve.specs.declared.session.SessionEnd.{SessionEnd}
@@ -20,25 +21,25 @@ use Rattle.ixp_desk_serve.specs.declared.session.SessionEnd.TheVariants.{Unopene
 abbrev pub without_memory : Served → Served
 without_memory served = record { end = link.NoMemory; requests = served.requests }
 
--- A link was served by a seat that had seen this before. The store has the rows of the state after a history that
--- begins with all that the seat has seen. Where it can't be shown that the history does, the link ends as out of memory.
-pub record ServesLink (seat : Sight) (given given' : Option ℕ) (left left' written written' : Option (List ℕ)) (unread unwritten : Type 0)
+-- A link was served by seats that had seen this before. The store has the rows of the state after a history that
+-- begins with all that the desk's seat has seen. Where it can't be shown that the history does, the link ends as out of memory.
+pub record ServesLink (seats : Sights) (given given' : Option ℕ) (left left' written written' : Option (List ℕ)) (unread unwritten : Type 0)
     (rows : Option Table) (faults : ℕ) (served : Served) : Type 0 where
-  pub sees : Sight
+  pub sees : Sights
   pub link : Served
-  pub is_served : IsServed (seat, given) (sees, given') left left' written written' unread unwritten link
+  pub is_served : IsServed (seats, given) (sees, given') left left' written written' unread unwritten link
   pub after : Log × Option Turn
   pub store : KeepsStore after rows faults
-  pub is : ((served ≡ link) × IsPrefix sees.2 after.0) ⊎ (served ≡ without_memory link)
+  pub is : ((served ≡ link) × IsPrefix sees.0.2 after.0) ⊎ (served ≡ without_memory link)
 
--- A desk of one seat that has this history, which has no turns, serves a link. Where memory runs out before, nothing
--- is read or written.
-abbrev pub ServesAlone : Log → Option ℕ → Option ℕ → Option (List ℕ) → Option (List ℕ) → Option (List ℕ) → Option (List ℕ) → ℕ → ℕ → ℕ → ℕ
+-- A desk of one seat serves a link, with a looking glass of which nothing is held. Where memory runs out before, the
+-- store has the rows of the state after the desk's history, and nothing is read or written.
+abbrev pub ServesAlone : Log × Option Turn → Sight → Option ℕ → Option ℕ → Option (List ℕ) → Option (List ℕ) → Option (List ℕ) → Option (List ℕ) → ℕ → ℕ → ℕ → ℕ
     → Option Table → ℕ → Option Served → Type 0
-ServesAlone log given given' left left' written written' reads reads' writes writes' rows faults None =
-    KeepsStore (log, None) rows faults × (given' ≡ given) × (left' ≡ left) × (written' ≡ written) × (reads' ≡ reads) × (writes' ≡ writes)
-ServesAlone log given given' left left' written written' reads reads' writes writes' rows faults (Some served) =
-    ServesLink (0, 0, log) given given' left left' written written' (Rose reads reads') (Rose writes writes') rows faults served
+ServesAlone desk seat given given' left left' written written' reads reads' writes writes' rows faults None =
+    KeepsStore desk rows faults × (given' ≡ given) × (left' ≡ left) × (written' ≡ written) × (reads' ≡ reads) × (writes' ≡ writes)
+ServesAlone desk seat given given' left left' written written' reads reads' writes writes' rows faults (Some served) =
+    ServesLink (seat, entries tt []) given given' left left' written written' (Rose reads reads') (Rose writes writes') rows faults served
 
 -- What is told of the objects of a session at a moment: the store's rows and its count of faults, the bytes that are
 -- left to read and how many reads failed, the bytes that were written and how many writes failed, and what the clock
@@ -70,5 +71,5 @@ SessionEnds before after NoMemory =
     × KeepsStore (entries first [], None) after.rows after.faults)
 SessionEnds before after (Answered served) =
     (first : First) × Loads before.rows (Ok first.state) × (first.faults ≡ before.faults)
-    × ServesLink (0, 0, entries first []) before.given after.given before.left after.left before.written after.written
+    × ServesLink ((0, 0, entries first []), entries tt []) before.given after.given before.left after.left before.written after.written
     (Rose before.reads after.reads) (Rose before.writes after.writes) after.rows after.faults served

@@ -7,10 +7,12 @@ ghost use Rattle.ixp_desk_serve.specs.Servers.{DoorEnds, KeepsSome, ServerEnds, 
 
 use crate::hosting::{Hosting, Routers};
 use crate::lent::{Lending, Lent, Loan, take_back};
-use ixp_board::{BoardName, Note, Publish};
+use ixp_board::{BoardName, Copies, Note, Publish};
 use ixp_desk::{Desk, DeskSeat, Shared, open_desk};
+use ixp_desk_explain::{LinkSeats, LookingGlass};
 use ixp_desk_history::DeskStory;
 use ixp_desk_rtr::RoaCache;
+use ixp_glass_holds::{GlassSeat, HoldStory, Holds, open_glass};
 use ixp_io::{Clock, Door, Failed, Gate, Keeper};
 use ixp_io_workers::{Helpers, serve, serve_helped};
 use ixp_store_words::LoadFault;
@@ -62,13 +64,35 @@ fn further_at<D: Door + Drop>(door: &mut D, port: u16) -> Result<D, Failed>
     Ok(further)
 }
 
-/// Serves so many links of the door by threads, each with one of the seats but the last, while helpers serve those of
-/// routers at a further door, by a cache on that seat. The cache's session is the clock's second.
+/// Each seat of the desk with one of the looking glass.
+fn pairs_of<N: BoardName, M: BoardName>(
+    alloc: Global,
+    seats: Vec<DeskSeat<N>>,
+    holders: Vec<GlassSeat<M>>,
+) -> Result<Vec<LinkSeats<N, M>>, AllocError>
+    ensures { IfOk result (λ pairs. vec_len pairs ≡ vec_len seats) }
+{
+    let mut left = seats;
+    let mut holders = holders;
+    let mut pairs = Vec::new(alloc);
+    'each: while let Some(seat) = left.pop() {
+        let Some(holder) = holders.pop() else {
+            return Err(AllocError);
+        };
+        pairs.push((seat, holder))?;
+    }
+    Ok(pairs)
+}
+
+/// Serves so many links of the door by threads, each with one pair of the seats but the last, while helpers serve those
+/// of routers at a further door, by a cache on that one. The cache's session is the clock's second.
 fn serve_both<
     R: Threads + Wait + Sync,
     N: BoardName + Send + Sync,
+    M: BoardName + Send + Sync,
     P: Keeper + Drop + Send,
     W: Publish<Note<DeskStory, N>> + Send,
+    V: Publish<Note<HoldStory, M>> + Send,
     C: Clock + Send,
     D: Door + Drop + Send,
     G: Gate + Sync,
@@ -76,7 +100,8 @@ fn serve_both<
     rt: &R,
     alloc: Global,
     shared: &Shared<P, N, W>,
-    seats: Vec<DeskSeat<N>>,
+    glass: &LookingGlass<M, V>,
+    seats: Vec<LinkSeats<N, M>>,
     clock: &mut C,
     door: &mut D,
     gate: &G,
@@ -94,7 +119,7 @@ where
         return ServerEnd::DoorFault;
     };
     let mut seats = seats;
-    let Some(seat) = seats.pop() else {
+    let Some((seat, _holder)) = seats.pop() else {
         return ServerEnd::NoMemory;
     };
     let session = (clock.now() % 65536) as u16;
@@ -108,6 +133,7 @@ where
     let host = Hosting {
         alloc,
         shared,
+        glass,
         gate,
     };
     let helpers = Helpers::new(further, at.links, routers);
@@ -116,12 +142,14 @@ where
     end_of(served, Some(given))
 }
 
-/// Serves so many links of the door at the port by threads, each with one of the seats, and those of routers.
+/// Serves so many links of the door at the port by threads, each with one pair of the seats, and those of routers.
 fn serve_shared<
     R: Threads + Wait + Sync,
     N: BoardName + Send + Sync,
+    M: BoardName + Send + Sync,
     P: Keeper + Drop + Send,
     W: Publish<Note<DeskStory, N>> + Send,
+    V: Publish<Note<HoldStory, M>> + Send,
     C: Clock + Send,
     D: Door + Drop + Send,
     G: Gate + Sync,
@@ -129,7 +157,8 @@ fn serve_shared<
     rt: &R,
     alloc: Global,
     shared: &Shared<P, N, W>,
-    seats: Vec<DeskSeat<N>>,
+    glass: &LookingGlass<M, V>,
+    seats: Vec<LinkSeats<N, M>>,
     clock: &mut C,
     door: &mut D,
     gate: &G,
@@ -149,11 +178,14 @@ where
         return ServerEnd::DoorFault;
     }
     match routers {
-        Some(at) => serve_both(rt, alloc, shared, seats, clock, door, gate, links, at),
+        Some(at) => serve_both(
+            rt, alloc, shared, glass, seats, clock, door, gate, links, at,
+        ),
         None => {
             let host = Hosting {
                 alloc,
                 shared,
+                glass,
                 gate,
             };
             let served = serve(rt, alloc, door, clock, &host, seats, links);
@@ -162,7 +194,51 @@ where
     }
 }
 
-/// Serves the links by the desk, and takes it apart.
+/// Serves the links by the desk that threads share, and these holds.
+fn serve_glass<
+    R: Threads + Wait + Sync,
+    N: BoardName + Send + Sync,
+    M: BoardName + Send + Sync,
+    P: Keeper + Drop + Send,
+    W: Publish<Note<DeskStory, N>> + Send,
+    C: Clock + Send,
+    D: Door + Drop + Send,
+    G: Gate + Sync,
+>(
+    rt: &R,
+    alloc: Global,
+    shared: &Shared<P, N, W>,
+    seats: Vec<DeskSeat<N>>,
+    holds: Holds,
+    clock: &mut C,
+    door: &mut D,
+    gate: &G,
+    port: u16,
+    links: u32,
+    routers: Option<RtrDoor>,
+) -> ServerEnd
+where
+    D::Link: Drop + Send,
+    requires name { holds.0 ≡ M.book }
+    requires seats { 1 ≤ vec_len seats }
+    requires more { is_some routers ≡ true → 2 ≤ vec_len seats }
+    ensures ends { DoorEnds (is_some routers) (D.links door.old) (D.links door.new) (D.faults door.old)
+        (D.faults door.new) links result }
+    ensures counts { D.faults door.old ≤ D.faults door.new }
+{
+    let Ok((holds, holders)) = holds.share::<M>() else {
+        return ServerEnd::NoMemory;
+    };
+    let glass = LookingGlass::new(alloc, holds);
+    match pairs_of(alloc, seats, holders) {
+        Ok(seats) => serve_shared(
+            rt, alloc, shared, &glass, seats, clock, door, gate, port, links, routers,
+        ),
+        Err(_) => ServerEnd::NoMemory,
+    }
+}
+
+/// Serves the links by the desk, which has so many seats, and takes it apart.
 fn serve_desk<
     R: Threads + Wait + Sync,
     N: BoardName + Send + Sync,
@@ -174,6 +250,7 @@ fn serve_desk<
     rt: &R,
     alloc: Global,
     desk: Desk<P>,
+    seats: u32,
     clock: &mut C,
     door: &mut D,
     gate: &G,
@@ -184,18 +261,23 @@ fn serve_desk<
 where
     D::Link: Drop + Send,
     requires name { desk.0 ≡ N.book }
-    requires some { 0 < desk.2 }
-    requires more { is_some routers ≡ true → 1 < desk.2 }
+    requires count { desk.2 ≡ seats }
+    requires some { 0 < seats }
+    requires few { seats ≤ 64 }
+    requires more { is_some routers ≡ true → 1 < seats }
     ensures ends { DoorEnds (is_some routers) (D.links door.old) (D.links door.new) (D.faults door.old) (D.faults door.new) links
         result.0 }
     ensures counts { D.faults door.old ≤ D.faults door.new }
     ensures store { KeepsSome (P.table result.1) (P.faults result.1) }
 {
+    let Ok(holds) = open_glass(alloc, seats) else {
+        return (ServerEnd::NoMemory, desk.close());
+    };
     match desk.share::<N>() {
         Err(desk) => (ServerEnd::NoMemory, desk.close()),
         Ok((shared, seats)) => {
-            let end = serve_shared(
-                rt, alloc, &shared, seats, clock, door, gate, port, links, routers,
+            let end = serve_glass::<R, N, Brand, P, Copies<Note<DeskStory, N>>, C, D, G>(
+                rt, alloc, &shared, seats, holds, clock, door, gate, port, links, routers,
             );
             (end, shared.into_desk().into_store())
         }
@@ -239,7 +321,8 @@ where
         of: PhantomData,
     };
     let beside = if routers.is_some() { 2 } else { 1 };
-    match open_desk(alloc, lent, workers + beside) {
+    let seats = workers + beside;
+    match open_desk(alloc, lent, seats) {
         Err(refused) => {
             let (fault, lent) = refused;
             let Lent { keeper, of: _of } = lent;
@@ -247,7 +330,7 @@ where
         }
         Ok(desk) => {
             let (end, lent) = serve_desk::<R, Brand, Lent<'a, P, L>, C, D, G>(
-                rt, alloc, desk, clock, door, gate, port, links, routers,
+                rt, alloc, desk, seats, clock, door, gate, port, links, routers,
             );
             let Lent { keeper, of: _of } = lent;
             (end, keeper)

@@ -1,14 +1,17 @@
 //! One link over a desk of one seat.
-ghost use Rattle.std.specs.Prelude.{◌≡◌, None};
+ghost use Rattle.std.specs.Prelude.{◌≡◌, [], None};
 ghost use Rattle.ixp_io.specs.Faults.{Rose};
+ghost use Rattle.ixp_board.specs.Histories.{entries};
 ghost use Rattle.ixp_desk_serve.specs.Sessions.{ServesAlone, ServesLink, SessionEnds};
 
 use crate::lent::{Lending, Lent, Loan, take_back};
 use crate::line::{Joining, Line};
-use ixp_board::{BoardName, Note, Publish};
+use ixp_board::{BoardName, Copies, Note, Publish};
 use ixp_desk::{Desk, DeskSeat, Locked, open_desk};
+use ixp_desk_explain::{LinkSeats, LookingGlass};
 use ixp_desk_history::DeskStory;
 use ixp_desk_link::serve_link;
+use ixp_glass_holds::{HoldStory, Holds, open_glass};
 use ixp_http_link::{LinkEnd, Served};
 use ixp_io::{Clock, Keeper, Sink, Source};
 use ixp_store_words::LoadFault;
@@ -27,10 +30,49 @@ pub enum SessionEnd {
     Served(Served),
 }
 
-/// Serves the link by the seat, and takes the desk apart.
-fn serve_seat<
+/// Serves the link by the seats, and takes the desk apart.
+fn serve_seats<
     R: Wait,
     N: BoardName,
+    M: BoardName,
+    P: Keeper + Drop,
+    W: Publish<Note<DeskStory, N>>,
+    V: Publish<Note<HoldStory, M>>,
+    L: Source + Sink,
+    C: Clock,
+>(
+    rt: &R,
+    alloc: Global,
+    desk: Locked<P, N, W>,
+    glass: &LookingGlass<M, V>,
+    seats: LinkSeats<N, M>,
+    link: &mut L,
+    clock: &mut C,
+) -> (Served, P)
+    ensures { ServesLink seats (C.given clock.old) (C.given clock.new) (L.left link.old) (L.left link.new)
+        (L.written link.old) (L.written link.new)
+        (Rose (L.read_faults link.old) (L.read_faults link.new))
+        (Rose (L.write_faults link.old) (L.write_faults link.new)) (P.table result.1) (P.faults result.1)
+        result.0 }
+{
+    let mut desk = desk;
+    let mut seats = seats;
+    let served = serve_link(rt, alloc, &mut desk, glass, &mut seats, link, clock);
+    let is_covered = desk.covers(&seats.0);
+    let keeper = desk.into_store();
+    if is_covered {
+        return (served, keeper);
+    }
+    let end = LinkEnd::NoMemory;
+    let requests = served.requests;
+    (Served { end, requests }, keeper)
+}
+
+/// Serves the link by the desk's one seat and these holds, and takes the desk apart. None where memory runs out before.
+fn serve_glass<
+    R: Wait,
+    N: BoardName,
+    M: BoardName,
     P: Keeper + Drop,
     W: Publish<Note<DeskStory, N>>,
     L: Source + Sink,
@@ -40,26 +82,36 @@ fn serve_seat<
     alloc: Global,
     desk: Locked<P, N, W>,
     seat: DeskSeat<N>,
+    holds: Holds,
     link: &mut L,
     clock: &mut C,
-) -> (Served, P)
-    ensures { ServesLink seat (C.given clock.old) (C.given clock.new) (L.left link.old) (L.left link.new)
-        (L.written link.old) (L.written link.new)
-        (Rose (L.read_faults link.old) (L.read_faults link.new))
-        (Rose (L.write_faults link.old) (L.write_faults link.new)) (P.table result.1) (P.faults result.1)
+) -> (Option<Served>, P)
+    requires name { holds.0 ≡ M.book }
+    requires nothing { holds.1 ≡ entries tt [] }
+    ensures { ServesAlone desk seat (C.given clock.old) (C.given clock.new) (L.left link.old) (L.left link.new)
+        (L.written link.old) (L.written link.new) (L.read_faults link.old) (L.read_faults link.new)
+        (L.write_faults link.old) (L.write_faults link.new) (P.table result.1) (P.faults result.1)
         result.0 }
 {
-    let mut desk = desk;
-    let mut seat = seat;
-    let served = serve_link(rt, alloc, &mut desk, &mut seat, link, clock);
-    let is_covered = desk.covers(&seat);
-    let keeper = desk.into_store();
-    if is_covered {
-        return (served, keeper);
+    match holds.share::<M>() {
+        Err(_) => (None, desk.into_store()),
+        Ok((holds, mut seats)) => match seats.pop() {
+            None => (None, desk.into_store()),
+            Some(holder) => {
+                let glass = LookingGlass::new(alloc, holds);
+                let (served, keeper) = serve_seats(
+                    rt,
+                    alloc,
+                    desk,
+                    &glass,
+                    (seat, holder),
+                    link,
+                    clock,
+                );
+                (Some(served), keeper)
+            }
+        },
     }
-    let end = LinkEnd::NoMemory;
-    let requests = served.requests;
-    (Served { end, requests }, keeper)
 }
 
 /// Serves the link by the desk's one seat, and takes the desk apart. None where memory runs out before.
@@ -72,18 +124,22 @@ fn serve_alone<R: Wait, N: BoardName, P: Keeper + Drop, L: Source + Sink, C: Clo
 ) -> (Option<Served>, P)
     requires name { desk.0 ≡ N.book }
     requires one { desk.2 ≡ 1 }
-    ensures { ServesAlone desk.1 (C.given clock.old) (C.given clock.new) (L.left link.old) (L.left link.new)
-        (L.written link.old) (L.written link.new) (L.read_faults link.old) (L.read_faults link.new)
-        (L.write_faults link.old) (L.write_faults link.new) (P.table result.1) (P.faults result.1)
-        result.0 }
+    ensures { ServesAlone (desk.1, None) (0, 0, desk.1) (C.given clock.old) (C.given clock.new) (L.left link.old)
+        (L.left link.new) (L.written link.old) (L.written link.new) (L.read_faults link.old)
+        (L.read_faults link.new) (L.write_faults link.old) (L.write_faults link.new) (P.table result.1)
+        (P.faults result.1) result.0 }
 {
+    let Ok(holds) = open_glass(alloc, 1) else {
+        return (None, desk.close());
+    };
     match desk.alone::<N>() {
         Err(desk) => (None, desk.close()),
         Ok((desk, mut seats)) => match seats.pop() {
             None => (None, desk.into_store()),
             Some(seat) => {
-                let (served, keeper) = serve_seat(rt, alloc, desk, seat, link, clock);
-                (Some(served), keeper)
+                serve_glass::<R, N, Brand, P, Copies<Note<DeskStory, N>>, L, C>(
+                    rt, alloc, desk, seat, holds, link, clock,
+                )
             }
         },
     }

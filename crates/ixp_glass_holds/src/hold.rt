@@ -13,7 +13,7 @@ pub const MOST_ROUTES: usize = 1_000;
 /// The most sessions that hold routes at a time.
 pub const MOST_SESSIONS: usize = 16;
 
-/// The routes that a session holds, in the order in which they were handed in. To share them costs the same
+/// The routes that a session holds, in the order in which they were supplied. To share them costs the same
 /// however many they are.
 pub type Routes = Held<Items<Route>>;
 

@@ -322,7 +322,13 @@ fn read_ahead<S: Alter>(trees: &mut Trees<S>, after: Option<&RowName>) -> Result
     count(trees, goes_on, after.is_none());
     match gathered {
         Ok(true) => Ok(()),
-        Ok(false) => test_count(trees),
+        Ok(false) => match test_count(trees) {
+            Ok(()) => Ok(()),
+            Err(error) => {
+                trees.ahead.clear();
+                Err(error)
+            }
+        },
         Err(error) if trees.ahead.is_empty() => Err(error),
         Err(_) => Ok(()),
     }

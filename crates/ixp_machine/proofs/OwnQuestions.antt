@@ -26,7 +26,7 @@ use Rattle.ixp_machine_steps.specs.Views.{View, view}
 use Rattle.ixp_machine.specs.declared.question.Answer.{Answer}
 use Rattle.ixp_machine.specs.declared.question.Answer.TheVariants as answer
 use Rattle.ixp_machine.specs.declared.question.Query.{Query}
-use Rattle.ixp_machine.specs.declared.question.Query.TheVariants.{Member as OfMember, Contacts, Rules, Use, Ixf}
+use Rattle.ixp_machine.specs.declared.question.Query.TheVariants.{Member as OfMember, Contacts, Rules, Use, Ixf, Dump}
 use Rattle.ixp_machine.specs.Questions.{right_asked, unless_known, refusal_without, ask_refusal, IsAnswer}
 
 -- what is refused of an owner's question
@@ -70,6 +70,7 @@ refused_alike r t m (Contacts n) right is who = subst (λ x. refused_of r (Conta
 refused_alike r t m (Rules n) right is who = subst (λ x. refused_of r (Rules n) x (Of m) ≡ refused_of t (Rules n) x (Of m)) (the_right (Own n) right is) (same_member r t m n (m == n) refl who)
 refused_alike r t m (Use vlan f) right is who = subst (λ x. refused_of r (Use vlan f) x (Of m) ≡ refused_of t (Use vlan f) x (Of m)) (the_right Staff right is) refl
 refused_alike r t m (Ixf second) right is who = absurd (let bad : ◌≡◌ {A = Option Right} None (Some right) = is in cc)
+refused_alike r t m Dump right is who = subst (λ x. refused_of r Dump x (Of m) ≡ refused_of t Dump x (Of m)) (the_right Staff right is) refl
 
 apart_by : (s t : State) (m : ℕ) (a b : List ℕ) (q : Query) (o : Option Right) → right_asked q ≡ o → owner_of s.registry a ≡ Some (Of m) → owner_of t.registry b ≡ Some (Of m) → view s m ≡ view t m
     → if_there o None (refusal_without s.registry a q) ≡ if_there o None (refusal_without t.registry b q)
@@ -106,6 +107,8 @@ answer_alike s t m (Rules n) right x is none seen a =
 answer_alike s t m (Use vlan f) right x is none seen a =
     absurd (let bad : ◌≡◌ {A = Option Refusal} (Some (Denied Staff)) None = at_right s.registry (Use vlan f) m Staff right is none in cc)
 answer_alike s t m (Ixf second) right x is none seen a = absurd (let bad : ◌≡◌ {A = Option Right} None (Some right) = is in cc)
+answer_alike s t m Dump right x is none seen a =
+    absurd (let bad : ◌≡◌ {A = Option Refusal} (Some (Denied Staff)) None = at_right s.registry Dump m Staff right is none in cc)
 
 pub answer_apart : (s t : State) (m : ℕ) (secret : List ℕ) (q : Query) (right : Right) (x : Answer) → owner_of s.registry secret ≡ Some (Of m) → right_asked q ≡ Some right
     → ask_refusal s.registry secret q ≡ None → view s m ≡ view t m → IsAnswer s.registry q x → IsAnswer t.registry q x

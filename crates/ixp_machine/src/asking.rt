@@ -25,6 +25,7 @@ use ixp_plan::use_report;
 use ixp_registry::{
     Contact, Kind, MemberRule, Refusal, Registry, Right, RowKey, RuleList, has_member, has_vlan,
 };
+use ixp_rows::print_dump;
 use std::alloc::{AllocError, Global};
 
 fn right_asked(query: Query) -> Option<Right>
@@ -36,6 +37,7 @@ fn right_asked(query: Query) -> Option<Right>
         Query::Rules(member) => Some(Right::Member(member)),
         Query::Use(_, _) => Some(Right::Staff),
         Query::Ixf { .. } => None,
+        Query::Dump => Some(Right::Staff),
     }
 }
 
@@ -105,6 +107,7 @@ fn unless_known(registry: &Registry, query: Query) -> Option<Refusal>
         Query::Rules(member) => unless_member(registry, member),
         Query::Use(vlan, _) => unless_vlan(registry, vlan),
         Query::Ixf { .. } => None,
+        Query::Dump => None,
     }
 }
 
@@ -167,6 +170,14 @@ fn export_answer(alloc: Global, registry: &Registry, second: u64) -> Result<Answ
     Ok(Answer::Json(Items::from_vec(text)))
 }
 
+fn dump_answer(alloc: Global, registry: &Registry) -> Result<Answer, AllocError>
+    ensures { IfOk result (IsAnswer registry.now Query.Dump) }
+{
+    let mut text = Vec::new(alloc);
+    print_dump(registry, &mut text)?;
+    Ok(Answer::Text(Items::from_vec(text)))
+}
+
 fn answer(alloc: Global, registry: &Registry, query: Query) -> Result<Answer, AllocError>
     requires { unless_known registry.now query ≡ None }
     ensures { IfOk result (IsAnswer registry.now query) }
@@ -183,6 +194,7 @@ fn answer(alloc: Global, registry: &Registry, query: Query) -> Result<Answer, Al
         }
         Query::Use(vlan, family) => use_answer(alloc, registry, vlan, family),
         Query::Ixf { second } => export_answer(alloc, registry, second),
+        Query::Dump => dump_answer(alloc, registry),
     }
 }
 

@@ -15,6 +15,8 @@ pub enum Query {
     Use(u32, Family),
     /// The member export at a second since 1970.
     Ixf { second: u64 },
+    /// The dump of the registry, with all keys and passwords.
+    Dump,
 }
 
 /// What is answered.

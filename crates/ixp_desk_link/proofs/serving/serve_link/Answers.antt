@@ -12,17 +12,17 @@ returns-clause-serves g c = serves (λ d. (d.1, g.C.Clock.given d.2)) _ LinkTurn
 
 pub returns-clause-exact : goal.returns-clause-exact
 returns-clause-exact g c =
-    exact LinkTurn (c.args.seat.now, g.C.Clock.given c.args.clock.now) (c.serve.new.store, g.C.Clock.given c.serve.new.clock) (g.L.Stream.left c.args.link.now) (g.L.Stream.written c.args.link.now) (g.L.Stream.written c.serve.new.link)
+    exact LinkTurn (c.args.seats.now, g.C.Clock.given c.args.clock.now) (c.serve.new.store, g.C.Clock.given c.serve.new.clock) (g.L.Stream.left c.args.link.now) (g.L.Stream.written c.args.link.now) (g.L.Stream.written c.serve.new.link)
     (Rose (g.L.Stream.read_faults c.args.link.now) (g.L.Stream.read_faults c.serve.new.link)) (Rose (g.L.Stream.write_faults c.args.link.now) (g.L.Stream.write_faults c.serve.new.link)) c.serve.result
     (serves (λ d. (d.1, g.C.Clock.given d.2)) _ LinkTurn (λ d call o e t. t) _ _ _ _ _ _ _ _ c.serve.ensures.serves)
 
 pub returns-clause-complete : goal.returns-clause-complete
 returns-clause-complete g c =
-    complete LinkTurn (c.args.seat.now, g.C.Clock.given c.args.clock.now) (c.serve.new.store, g.C.Clock.given c.serve.new.clock) (g.L.Stream.left c.args.link.now) (g.L.Stream.written c.args.link.now) (g.L.Stream.written c.serve.new.link)
+    complete LinkTurn (c.args.seats.now, g.C.Clock.given c.args.clock.now) (c.serve.new.store, g.C.Clock.given c.serve.new.clock) (g.L.Stream.left c.args.link.now) (g.L.Stream.written c.args.link.now) (g.L.Stream.written c.serve.new.link)
     (Rose (g.L.Stream.read_faults c.args.link.now) (g.L.Stream.read_faults c.serve.new.link)) (Rose (g.L.Stream.write_faults c.args.link.now) (g.L.Stream.write_faults c.serve.new.link)) c.serve.result
     (serves (λ d. (d.1, g.C.Clock.given d.2)) _ LinkTurn (λ d call o e t. t) _ _ _ _ _ _ _ _ c.serve.ensures.serves)
 
 pub returns-clause-sees : goal.returns-clause-sees
 returns-clause-sees g c =
-    served_keeps LinkTurn (λ d e. SeesMore d.0 e.0) (c.args.seat.now, g.C.Clock.given c.args.clock.now) (c.serve.new.store, g.C.Clock.given c.serve.new.clock) _ _ _ _ _ _ turns_see
+    served_keeps LinkTurn (λ d e. SeesMore d.0 e.0) (c.args.seats.now, g.C.Clock.given c.args.clock.now) (c.serve.new.store, g.C.Clock.given c.serve.new.clock) _ _ _ _ _ _ turns_see
     (serves (λ d. (d.1, g.C.Clock.given d.2)) _ LinkTurn (λ d call o e t. t) _ _ _ _ _ _ _ _ c.serve.ensures.serves)
