@@ -28,7 +28,7 @@ export const words = {
   },
   "X1": {
    "status": "403",
-   "when": "the key's owner hasn't the right; with explain and glass, the interface isn't its own, or isn't there",
+   "when": "the key's owner hasn't the right; with explain and the looking glass, the interface isn't its own, or isn't there",
    "detail": "staff or member <number>"
   },
   "X2": {
@@ -58,7 +58,7 @@ export const words = {
   },
   "X7": {
    "status": "422",
-   "when": "an address or prefix is of the wrong family, or the VLAN has none of it",
+   "when": "an address, a prefix or a route is of the wrong family, or the VLAN has none of it",
    "detail": "the family that is wanted"
   },
   "X8": {
