@@ -1,6 +1,6 @@
 -- What a looking glass shows, which routes it has held, and which turns of the seats stand in the two histories for
 -- that: the desk's, and that of the routes that sessions hold.
-use Rattle.std.specs.Prelude.{◌≡◌, ◌⊎◌, ℕ, zero, suc, Bool, true, ◌&&◌, List, [], ◌∷◌, ◌++◌, codes, decimal, flat_map, length, Option, Some, None, option_and_then, slice_get, Result, Ok, Err, if◌then◌else◌}
+use Rattle.std.specs.Prelude.{◌≡◌, ◌⊎◌, ℕ, zero, suc, Bool, true, false, ◌&&◌, List, [], ◌∷◌, ◌++◌, codes, decimal, flat_map, length, Option, Some, None, option_and_then, slice_get, Result, Ok, Err, if◌then◌else◌}
 use Rattle.std.specs.declared.alloc.AllocError.{AllocError}
 use mathlib.Core.List.{IsPrefix}
 use Rattle.ixp_num.specs.declared.family.Family.{Family}
@@ -27,6 +27,7 @@ use Rattle.ixp_glass_holds.specs.Calls.{IsHeld, MakesHold, hold_of, Log as HoldL
 use Rattle.ixp_desk_history.specs.declared.turn.Text.{Text}
 use Rattle.ixp_desk_history.specs.Answers.{IsOwnText}
 use Rattle.ixp_desk_lock.specs.declared.fault.AskFault.{AskFault}
+use Rattle.ixp_desk_lock.specs.declared.fault.AskFault.TheVariants as ask
 use Rattle.ixp_desk_lock.specs.declared.fault.PubFault.{PubFault}
 use Rattle.ixp_desk_lock.specs.Calls.{Grows, OwnTexts}
 use Rattle.ixp_desk_lock.specs.Facts.{Log}
@@ -84,6 +85,16 @@ ShowTurn held secret handle n o s t = (r : Result Text AskFault) × OwnTexts sec
 abbrev pub GlassTurn : List ℕ → List ℕ → ℕ → Outcome → Sights → Sights → Type 0
 GlassTurn secret handle n o s t = (held : Option (List Route)) × ShowTurn held secret handle n o s t
 
+-- What the staff asks of a session that isn't there: of an interface that isn't there either, or of a router that is
+-- there no longer, it is told the same.
+
+abbrev pub is_unknown : AskFault → Bool
+is_unknown (ask.Refused (refusal.Unknown table key)) = true
+is_unknown x = false
+
+abbrev pub session_fault : AskFault → Outcome
+session_fault x = if is_unknown x then outcome.NoSession else own_fault x
+
 -- The whole fate of one of them.
 
 abbrev pub version_line : ℕ → List ℕ
@@ -119,7 +130,7 @@ IsFateShown {before} {now} {handle} n place log p o =
 
 abbrev pub FateBy : {before now : Log} {handle : List ℕ} {text : Text} → ℕ → ℕ → IsPublished before now handle text → Result Text AskFault → Outcome → HoldLog → HoldLog → Type 0
 FateBy n place p (Ok own) o g h = IsFateShown n place h p o
-FateBy n place p (Err x) o g h = (h ≡ g) × (o ≡ own_fault x)
+FateBy n place p (Err x) o g h = (h ≡ g) × (o ≡ session_fault x)
 
 -- the interface has to have a session with the router now, which is told by its own text
 abbrev pub SessionTurn : {before now : Log} {handle : List ℕ} {text : Text} → List ℕ → ℕ → ℕ → IsPublished before now handle text → Outcome → Sights → Sights → Type 0
@@ -149,7 +160,7 @@ Holds {st} {handle} {n} routes x o g h =
 
 abbrev pub HoldsBy : List ℕ → ℕ → List Route → Result Text AskFault → Outcome → Log → HoldLog → HoldLog → Type 0
 HoldsBy handle n routes (Ok text) o log g h = (x : OwnTextIn log handle n text) × Holds routes x.own o g h
-HoldsBy handle n routes (Err x) o log g h = (h ≡ g) × (o ≡ own_fault x)
+HoldsBy handle n routes (Err x) o log g h = (h ≡ g) × (o ≡ session_fault x)
 
 abbrev pub HoldsAt : List ℕ → List ℕ → ℕ → List Route → Outcome → Sights → Sights → Type 0
 HoldsAt secret handle n routes o s t = (r : Result Text AskFault) × OwnTexts secret handle n r s.0 t.0 × HoldsBy handle n routes r o t.0.2 s.1 t.1

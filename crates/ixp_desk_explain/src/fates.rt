@@ -18,7 +18,7 @@ ghost use Rattle.ixp_desk_explain.specs.Glass.{
   version_line,
 };
 
-use crate::faults::{fault_outcome, own_fault};
+use crate::faults::{fault_outcome, session_fault};
 use ixp_api_replies::Outcome;
 use ixp_board::BoardName;
 use ixp_desk::{DeskSeat, Desks, Text, published};
@@ -146,7 +146,7 @@ fn told_session<R: Wait, N: BoardName, M: BoardName, D: Desks<N>>(
 {
     match desk.own_text(rt, seat, secret, router, interface) {
         Ok(_own) => told_held(alloc, holds, text, router, interface, place),
-        Err(fault) => own_fault(fault),
+        Err(fault) => session_fault(fault),
     }
 }
 

@@ -9,7 +9,7 @@ ghost use Rattle.ixp_desk_lock.specs.Facts.{Log};
 ghost use Rattle.ixp_desk_explain.specs.Explanations.{OwnTextIn};
 ghost use Rattle.ixp_desk_explain.specs.Glass.{HoldTurn, Holds, HoldsAt, IsFamilyFor, ToldFamily, hold_outcome};
 
-use crate::faults::{fault_outcome, own_fault};
+use crate::faults::{fault_outcome, session_fault};
 use crate::glass::LookingGlass;
 use ixp_api_replies::Outcome;
 use ixp_board::{BoardName, Note, Publish};
@@ -126,7 +126,7 @@ fn hold_session<R: Wait, N: BoardName, M: BoardName, D: Desks<N>, V: Publish<Not
             interface,
             routes,
         ),
-        Err(fault) => own_fault(fault),
+        Err(fault) => session_fault(fault),
     }
 }
 

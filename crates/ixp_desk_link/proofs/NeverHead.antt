@@ -22,7 +22,7 @@ use Rattle.ixp_desk_lock.specs.Facts.{Log}
 use Rattle.ixp_desk_lock.specs.Sights.{Sight}
 use Rattle.ixp_desk.specs.Publications.{IsPublished}
 use Rattle.ixp_desk_explain.specs.Explanations.{Explains, ExplainsElse, OrNoMemory, OwnTold, explanation_outcome, fault_outcome, is_denied, own_fault}
-use Rattle.ixp_desk_explain.specs.Glass.{FateBy, HoldsBy, HoldsElse, IsFateShown, PlaceBy, Shows, ShowsBy, Sights, are_of, fate_outcome, held_say, hold_outcome, place_says}
+use Rattle.ixp_desk_explain.specs.Glass.{FateBy, HoldsBy, HoldsElse, IsFateShown, PlaceBy, Shows, ShowsBy, Sights, are_of, fate_outcome, held_say, hold_outcome, is_unknown, place_says, session_fault}
 use Rattle.ixp_api_replies.specs.declared.outcome.Outcome.{Outcome}
 use Rattle.ixp_api_replies.specs.declared.outcome.Outcome.TheVariants.{Done, Answered, Text, Called, Head, Refused, KeeperFault, SeenUnknown, NoRouter, NoSession, SeatCount, Ended, Held, TooManyHeld, HeldFamily, NotHeld, NoMemory}
 use Rattle.ixp_api.specs.declared.call.Call.{Call}
@@ -111,6 +111,13 @@ of_explains call (Err x) o s u t e = of_else (is_denied x) call x o u t e
 
 -- The looking glass.
 
+by_unknown : (b : Bool) (x : AskFault) → is_head (if b then NoSession else own_fault x) ≡ false
+by_unknown true x = refl
+by_unknown false x = of_own x
+
+of_session : (x : AskFault) → is_head (session_fault x) ≡ false
+of_session x = by_unknown (is_unknown x) x
+
 of_hold : (number : ℕ) (r : Result (Unit {0}) HoldFault) → is_head (hold_outcome number r) ≡ false
 of_hold number (Ok done) = refl
 of_hold number (Err (hold.TooMany have limit)) = refl
@@ -119,7 +126,7 @@ of_hold number (Err hold.NoMemory) = refl
 
 of_holds_by : (handle : List ℕ) (n : ℕ) (routes : List Route) (r : Result Handed AskFault) (o : Outcome) (log : Log) (g h : HoldLog) → HoldsBy handle n routes r o log g h → is_head o ≡ false
 of_holds_by handle n routes (Ok text) o log g h e = ap is_head e.1.2 ∙ of_hold _ e.1.0
-of_holds_by handle n routes (Err x) o log g h e = ap is_head e.1 ∙ of_own x
+of_holds_by handle n routes (Err x) o log g h e = ap is_head e.1 ∙ of_session x
 
 of_holds : (secret handle : List ℕ) (n : ℕ) (routes : List Route) (r : Result Handed PubFault) (o : Outcome) (s : Sights) (u : Sight) (t : Sights) → HoldsElse secret handle n routes r o s u t → is_head o ≡ false
 of_holds secret handle n routes (Ok text) o s u t e = of_holds_by handle n routes e.0 o t.0.2 s.1 t.1 e.2
@@ -157,7 +164,7 @@ of_fate_shown n place log p o (inr is) = ap is_head is
 
 of_fate_by : {before now : Log} {handle : List ℕ} {text : Handed} (n place : ℕ) (p : IsPublished before now handle text) (r : Result Handed AskFault) (o : Outcome) (g h : HoldLog) → FateBy n place p r o g h → is_head o ≡ false
 of_fate_by n place p (Ok own) o g h e = of_fate_shown n place h p o e
-of_fate_by n place p (Err x) o g h e = ap is_head e.1 ∙ of_own x
+of_fate_by n place p (Err x) o g h e = ap is_head e.1 ∙ of_session x
 
 of_place_by : (secret handle : List ℕ) (n place : ℕ) (r : Result Handed PubFault) (o : Outcome) (s : Sights) (u : Sight) (t : Sights) → PlaceBy secret handle n place r o s u t → is_head o ≡ false
 of_place_by secret handle n place (Ok text) o s u t e = of_fate_by n place e.0 e.1.0 o s.1 t.1 e.1.2
