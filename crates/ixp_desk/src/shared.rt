@@ -30,11 +30,21 @@ impl Bell {
 
 /// A desk that threads share. Its type keeps which desk it is, so a seat of another one can't be used with
 /// it. A bell rings where an edit touched texts, for whoever makes them while the lock is free.
-#[derive(Drop)]
 pub struct Shared<P: Keeper + Drop, N: BoardName, W: Publish<Note<DeskStory, N>>> {
     pub(crate) lock: Mutex<Locked<P, N, W>>,
     bell: Mutex<Bell>,
     rung: Condvar,
+}
+
+// It is written out, so that crates above don't prove again how each part is dropped.
+impl<P: Keeper + Drop, N: BoardName, W: Publish<Note<DeskStory, N>>> Drop for Shared<P, N, W> {
+    fn drop(self) {
+        let Shared {
+            lock: _,
+            bell: _,
+            rung: _,
+        } = self;
+    }
 }
 
 impl<P: Keeper + Drop, N: BoardName, W: Publish<Note<DeskStory, N>>> Shared<P, N, W> {

@@ -9,7 +9,6 @@ use ixp_roa::RoaTable;
 use std::snapshot::Snapshot;
 
 /// What readers see: enough to answer who asks for a configuration without the desk's lock.
-#[derive(Drop)]
 pub struct Shown {
     /// How many edits were accepted.
     pub accepted: u64,
@@ -17,6 +16,17 @@ pub struct Shown {
     pub keys: Held<Table<ApiKey>>,
     /// The texts that were installed last.
     pub bundle: Held<Bundle>,
+}
+
+// It is written out, so that crates above don't prove again how each part is dropped.
+impl Drop for Shown {
+    fn drop(self) {
+        let Shown {
+            accepted: _,
+            keys: _,
+            bundle: _,
+        } = self;
+    }
 }
 
 /// What readers see. To share it costs the same whatever it holds.
@@ -87,7 +97,6 @@ pub enum Event {
 }
 
 /// A turn of a seat.
-#[derive(Drop)]
 pub struct Turn {
     /// The seat's number.
     pub seat: u64,
@@ -96,4 +105,16 @@ pub struct Turn {
     pub event: Event,
     /// What readers see after it.
     pub view: View,
+}
+
+// It is written out, so that crates above don't prove again how each part is dropped.
+impl Drop for Turn {
+    fn drop(self) {
+        let Turn {
+            seat: _,
+            number: _,
+            event: _,
+            view: _,
+        } = self;
+    }
 }

@@ -22,7 +22,6 @@ use std::sync::Wait;
 
 /// State, what is pending, counts of turns, pen, store, the last member export, and at most one turn that is
 /// owed. Contracts see the history and the turn that is owed.
-#[derive(Drop)]
 pub struct Locked<P: Keeper + Drop, N: BoardName, W: Publish<Note<DeskStory, N>>> {
     pub(crate) alloc: Global,
     pub(crate) state: State,
@@ -34,6 +33,22 @@ pub struct Locked<P: Keeper + Drop, N: BoardName, W: Publish<Note<DeskStory, N>>
     pub(crate) owed: Option<Owed>,
     pub(crate) pen: Pen<DeskStory, N, W>,
     pub(crate) keeper: P,
+}
+
+// It is written out, so that crates above don't prove again how each part is dropped.
+impl<P: Keeper + Drop, N: BoardName, W: Publish<Note<DeskStory, N>>> Drop for Locked<P, N, W> {
+    fn drop(self) {
+        let Locked {
+            alloc: _,
+            state: _,
+            pending: _,
+            export: _,
+            counts: _,
+            owed: _,
+            pen: _,
+            keeper: _,
+        } = self;
+    }
 }
 
 impl<P: Keeper + Drop, N: BoardName, W: Publish<Note<DeskStory, N>>> Model for Locked<P, N, W> {

@@ -13,11 +13,21 @@ use std::marker::Model;
 
 /// A caller's seat. Contracts see its number, how many turns it has made, and what it has seen of the
 /// history.
-#[derive(Drop)]
 pub struct DeskSeat<N: BoardName> {
     number: u64,
     count: u64,
     seat: Seat<DeskStory, N>,
+}
+
+// It is written out, so that crates above don't prove again how each part is dropped.
+impl<N: BoardName> Drop for DeskSeat<N> {
+    fn drop(self) {
+        let DeskSeat {
+            number: _,
+            count: _,
+            seat: _,
+        } = self;
+    }
 }
 
 impl<N: BoardName> Model for DeskSeat<N> {

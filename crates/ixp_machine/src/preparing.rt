@@ -62,7 +62,7 @@ pub fn prepare(
     let weight = weight_after(alloc, &state.registry, state.weight, &entry.edit)?;
     let prefixes = prefixes_after(&state.registry, state.prefixes, &entry.edit);
     let kept = kept_entry(alloc, &entry, state.accepted + 1)?;
-    let change = change_of(alloc, &state.registry, entry.edit)?;
+    let change = change_of(alloc, &state.registry, entry.into_edit())?;
     Ok(Prepared {
         owner,
         kept,

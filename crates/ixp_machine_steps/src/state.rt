@@ -1,5 +1,5 @@
 //! Requests, and the state that they change.
-ghost use Rattle.std.specs.Prelude.{◌<◌, ◌^◌, IsTrue};
+ghost use Rattle.std.specs.Prelude.{◌≡◌, ◌<◌, ◌^◌, IsTrue};
 ghost use Rattle.ixp_machine_edits.specs.Lists.{has_few_rules};
 ghost use Rattle.ixp_machine_steps.specs.Requests.{has_family};
 
@@ -11,7 +11,7 @@ use ixp_registry::Registry;
 
 /// A request to change something. Its number is its owner's choice; with the same number, kind and subject it
 /// is the same request.
-#[derive(Debug, Drop)]
+#[derive(Debug)]
 pub struct Entry {
     /// The secret of an API key.
     pub secret: Items<u8>,
@@ -25,8 +25,32 @@ pub struct Entry {
     pub ghost rules: { IsTrue (has_few_rules edit) },
 }
 
+// It is written out, so that crates above don't prove again how each part is dropped.
+impl Drop for Entry {
+    fn drop(self) {
+        let Entry {
+            secret: _,
+            number: _,
+            edit: _,
+        } = self;
+    }
+}
+
+impl Entry {
+    /// The edit alone.
+    pub fn into_edit(self) -> Edit
+        ensures { result ≡ self.edit }
+    {
+        let Entry {
+            secret: _,
+            number: _,
+            edit,
+        } = self;
+        edit
+    }
+}
+
 /// The registry, what is kept of requests, and how many were accepted.
-#[derive(Drop)]
 pub struct State {
     pub registry: Registry,
     pub kept: Table<KeptOwner>,
@@ -35,4 +59,17 @@ pub struct State {
     pub weight: u64,
     /// The prefixes of all members' lists together.
     pub prefixes: u64,
+}
+
+// It is written out, so that crates above don't prove again how each part is dropped.
+impl Drop for State {
+    fn drop(self) {
+        let State {
+            registry: _,
+            kept: _,
+            accepted: _,
+            weight: _,
+            prefixes: _,
+        } = self;
+    }
 }

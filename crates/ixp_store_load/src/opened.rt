@@ -212,14 +212,10 @@ fn joined(alloc: Global, registry: Registry, kept: Table<KeptOwner>, accepted: u
     if !have_owners(&registry.members, &kept) {
         return None;
     }
-    let first = first_state(alloc, registry);
-    Some(State {
-        registry: first.registry,
-        kept,
-        accepted,
-        weight: first.weight,
-        prefixes: first.prefixes,
-    })
+    let mut first = first_state(alloc, registry);
+    first.kept = kept;
+    first.accepted = accepted;
+    Some(first)
 }
 
 /// The state that rows tell, if they tell one.
