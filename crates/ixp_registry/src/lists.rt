@@ -117,7 +117,7 @@ impl Row for MemberOrigin {
 }
 
 /// The lists that all route servers share, each ascending and without doubles.
-#[derive(Debug, Drop)]
+#[derive(Debug)]
 pub struct PublicLists {
     /// Nets that nobody may announce.
     pub bogons: Sorted<Pattern>,
@@ -126,4 +126,16 @@ pub struct PublicLists {
     /// AS numbers that buy no transit, and so stand in no other member's paths.
     pub transit: Sorted<Asn>,
     pub roas: Sorted<Roa>,
+}
+
+// It is written out, so that crates above don't prove again how each part is dropped.
+impl Drop for PublicLists {
+    fn drop(self) {
+        let PublicLists {
+            bogons: _,
+            bogon_as: _,
+            transit: _,
+            roas: _,
+        } = self;
+    }
 }

@@ -6,7 +6,6 @@ use crate::{
 use ixp_num_tables::Table;
 
 /// All that the exchange has on record. `specs/Valid.antt` says which registries are valid.
-#[derive(Drop)]
 pub struct Registry {
     pub site: Site,
     pub members: Table<Member>,
@@ -21,4 +20,25 @@ pub struct Registry {
     pub origins: Table<OriginList>,
     pub rules: Table<RuleList>,
     pub public: PublicLists,
+}
+
+// It is written out, so that crates above don't prove again how each part is dropped.
+impl Drop for Registry {
+    fn drop(self) {
+        let Registry {
+            site: _,
+            members: _,
+            contacts: _,
+            keys: _,
+            switches: _,
+            ports: _,
+            vlans: _,
+            interfaces: _,
+            routers: _,
+            irr: _,
+            origins: _,
+            rules: _,
+            public: _,
+        } = self;
+    }
 }

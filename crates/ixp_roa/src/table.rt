@@ -19,10 +19,20 @@ const MOST: usize = 1_000_000;
 /// A table of ROAs, as a filter's `roa_check` asks it. It holds an index by prefix, so that an answer takes a
 /// search for the net and then a step for each ROA on the way up from it, and where in the index each ROA of
 /// the list stands that it was made of.
-#[derive(Debug, Drop)]
+#[derive(Debug)]
 pub struct RoaTable {
     places: Vec<usize>,
     index: Index,
+}
+
+// It is written out, so that crates above don't prove again how each part is dropped.
+impl Drop for RoaTable {
+    fn drop(self) {
+        let RoaTable {
+            places: _,
+            index: _,
+        } = self;
+    }
 }
 
 impl Model for RoaTable {
