@@ -1,3 +1,4 @@
+pub mod Sharing
 mod Families
 pub mod Places
 mod Reports

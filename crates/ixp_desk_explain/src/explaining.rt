@@ -18,11 +18,14 @@ ghost use Rattle.ixp_desk_explain.specs.Explanations.{
 };
 
 use crate::faults::{fault_outcome, own_fault};
+use crate::glass::LookingGlass;
+use crate::readings::Readings;
 use ixp_api::ExplainCall;
 use ixp_api_replies::Outcome;
-use ixp_board::BoardName;
+use ixp_board::{BoardName, Note, Publish};
 use ixp_desk::{DeskSeat, Desks, PubFault, Text, published};
 use ixp_explain_member::{Explanation, member_told, staff_told};
+use ixp_glass_holds::HoldStory;
 use ixp_registry::Refusal;
 use std::alloc::{AllocError, Global};
 use std::sync::Wait;
@@ -52,13 +55,22 @@ fn is_denied(fault: &PubFault) -> bool
 }
 
 /// What the staff is told of a route by a configuration.
-fn told(alloc: Global, text: &Text, call: &ExplainCall) -> Outcome
+fn told<R: Wait>(
+    rt: &R,
+    alloc: Global,
+    readings: &Readings,
+    text: &Text,
+    call: &ExplainCall,
+) -> Outcome
     ensures { (before now : Log) (p : IsPublished before now call.now.router text.now)
         → OrNoMemory (staff_says call.now p) result }
 {
+    let Ok(reading) = readings.of(rt, alloc, &call.router, text) else {
+        return Outcome::NoMemory;
+    };
     outcome_of(staff_told(
         alloc,
-        text.bytes.as_slice(),
+        reading.get(),
         &text.roas,
         call.interface,
         &call.asked.route,
@@ -105,10 +117,11 @@ fn own_told<R: Wait, N: BoardName, D: Desks<N>>(
 
 /// What is told to who asks what becomes of a route: the staff its fate by the configuration that is handed
 /// out, a member what its session's own text says of its own route.
-pub fn explained<R: Wait, N: BoardName, D: Desks<N>>(
+pub fn explained<R: Wait, N: BoardName, M: BoardName, D: Desks<N>, V: Publish<Note<HoldStory, M>>>(
     rt: &R,
     alloc: Global,
     desk: &mut D,
+    glass: &LookingGlass<M, V>,
     seat: &mut DeskSeat<N>,
     call: &ExplainCall,
 ) -> Outcome
@@ -124,7 +137,7 @@ pub fn explained<R: Wait, N: BoardName, D: Desks<N>>(
         &call.router,
         call.seen,
     ) {
-        Ok(text) => told(alloc, &text, call),
+        Ok(text) => told(rt, alloc, &glass.readings, &text, call),
         Err(fault) => {
             if is_denied(&fault) {
                 own_told(rt, alloc, desk, seat, call)

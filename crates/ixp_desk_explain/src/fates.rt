@@ -1,5 +1,5 @@
 //! The fate of one of the routes that a session holds.
-ghost use Rattle.std.specs.Prelude.{◌≡◌, ◌++◌, ℕ, List, IfOk, OnOk, option_copied};
+ghost use Rattle.std.specs.Prelude.{◌≡◌, ◌++◌, IfOk, OnOk, option_copied};
 ghost use mathlib.Core.List.{IsPrefix};
 ghost use Rattle.ixp_explain_member.specs.declared.explanation.Explanation.{Explanation as Said};
 ghost use Rattle.ixp_desk_lock.specs.Calls.{Grows};
@@ -19,11 +19,13 @@ ghost use Rattle.ixp_desk_explain.specs.Glass.{
 };
 
 use crate::faults::{fault_outcome, session_fault};
+use crate::glass::LookingGlass;
+use crate::readings::Readings;
 use ixp_api_replies::Outcome;
-use ixp_board::BoardName;
+use ixp_board::{BoardName, Note, Publish};
 use ixp_desk::{DeskSeat, Desks, Text, published};
 use ixp_explain_member::{Explanation, staff_told};
-use ixp_glass_holds::{GlassSeat, held};
+use ixp_glass_holds::{GlassSeat, HoldStory, held};
 use ixp_lang::Route;
 use ixp_num::{Items, Name};
 use ixp_num_tables::{put, put_number};
@@ -84,31 +86,53 @@ fn fate_outcome(alloc: Global, built: u64, explanation: Result<Explanation, Allo
 }
 
 /// The fate of a route by a configuration.
-fn told_fate(alloc: Global, text: &Text, interface: u32, route: &Route) -> Outcome
-    ensures { (before now : Log) (router : List ℕ) (p : IsPublished before now router text.now)
+fn told_fate<R: Wait>(
+    rt: &R,
+    alloc: Global,
+    readings: &Readings,
+    router: &Name,
+    text: &Text,
+    interface: u32,
+    route: &Route,
+) -> Outcome
+    ensures { (before now : Log) (p : IsPublished before now router.now text.now)
         → OrNoMemory (fate_says interface p route.now) result }
 {
+    let Ok(reading) = readings.of(rt, alloc, router, text) else {
+        return Outcome::NoMemory;
+    };
     fate_outcome(
         alloc,
         text.built,
-        staff_told(alloc, text.bytes.as_slice(), &text.roas, interface, route),
+        staff_told(alloc, reading.get(), &text.roas, interface, route),
     )
 }
 
 /// The fate of that one of the routes at the place.
-fn told_place(alloc: Global, text: &Text, interface: u32, routes: &[Route], place: u32) -> Outcome
-    ensures { (before now : Log) (router : List ℕ) (p : IsPublished before now router text.now)
+fn told_place<R: Wait>(
+    rt: &R,
+    alloc: Global,
+    readings: &Readings,
+    router: &Name,
+    text: &Text,
+    interface: u32,
+    routes: &[Route],
+    place: u32,
+) -> Outcome
+    ensures { (before now : Log) (p : IsPublished before now router.now text.now)
         → OrNoMemory (place_says interface p (at_place place routes.now)) result }
 {
     match at_place(routes, place) {
-        Some(route) => told_fate(alloc, text, interface, route),
+        Some(route) => told_fate(rt, alloc, readings, router, text, interface, route),
         None => Outcome::NotHeld,
     }
 }
 
 /// The fate of that one of the routes that the session holds.
-fn told_held<M: BoardName>(
+fn told_held<R: Wait, M: BoardName>(
+    rt: &R,
     alloc: Global,
+    readings: &Readings,
     seat: &mut GlassSeat<M>,
     text: &Text,
     router: &Name,
@@ -120,7 +144,16 @@ fn told_held<M: BoardName>(
         → IsFateShown interface place seat.new p result }
 {
     match held(alloc, seat, router, interface) {
-        Ok(Some(routes)) => { told_place(alloc, text, interface, routes.get().as_slice(), place) }
+        Ok(Some(routes)) => told_place(
+            rt,
+            alloc,
+            readings,
+            router,
+            text,
+            interface,
+            routes.get().as_slice(),
+            place,
+        ),
         Ok(None) => Outcome::NotHeld,
         Err(_) => Outcome::NoMemory,
     }
@@ -131,6 +164,7 @@ fn told_session<R: Wait, N: BoardName, M: BoardName, D: Desks<N>>(
     rt: &R,
     alloc: Global,
     desk: &mut D,
+    readings: &Readings,
     seat: &mut DeskSeat<N>,
     holds: &mut GlassSeat<M>,
     text: &Text,
@@ -145,17 +179,18 @@ fn told_session<R: Wait, N: BoardName, M: BoardName, D: Desks<N>>(
         → SessionTurn secret.now interface place p result (seat.old, holds.old) (seat.new, holds.new) }
 {
     match desk.own_text(rt, seat, secret, router, interface) {
-        Ok(_own) => told_held(alloc, holds, text, router, interface, place),
+        Ok(_own) => told_held(rt, alloc, readings, holds, text, router, interface, place),
         Err(fault) => session_fault(fault),
     }
 }
 
 /// The whole fate of that one of the routes that the router's session at the interface holds which stands at the
 /// place, counted from 1; for the staff, by the configuration that is handed out.
-pub fn fate_shown<R: Wait, N: BoardName, M: BoardName, D: Desks<N>>(
+pub fn fate_shown<R: Wait, N: BoardName, M: BoardName, D: Desks<N>, V: Publish<Note<HoldStory, M>>>(
     rt: &R,
     alloc: Global,
     desk: &mut D,
+    glass: &LookingGlass<M, V>,
     seat: &mut DeskSeat<N>,
     holds: &mut GlassSeat<M>,
     secret: &[u8],
@@ -170,7 +205,17 @@ pub fn fate_shown<R: Wait, N: BoardName, M: BoardName, D: Desks<N>>(
 {
     match published(rt, alloc, desk, seat, secret, router, None) {
         Ok(text) => told_session(
-            rt, alloc, desk, seat, holds, &text, secret, router, interface, place,
+            rt,
+            alloc,
+            desk,
+            &glass.readings,
+            seat,
+            holds,
+            &text,
+            secret,
+            router,
+            interface,
+            place,
         ),
         Err(fault) => fault_outcome(fault),
     }

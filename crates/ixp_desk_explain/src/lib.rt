@@ -5,7 +5,8 @@
 //! announce: [`hold`] says which ones a session holds, [`shown`] tells what becomes of each of them now, and
 //! [`fate_shown`] the whole fate of one by the configuration that is handed out.
 //!
-//! Each is answered by texts that the desk hands out, with no look at the registry. `specs/Explanations.antt` and
+//! Each is answered by texts that the desk hands out, with no look at the registry. Configurations that were read
+//! are kept. `specs/Explanations.antt` and
 //! `specs/Glass.antt` say which turns of the seat stand in the desk's history for each, and that what is told is
 //! what the rules over that version's rows say.
 #![tactic(auto)]
@@ -17,6 +18,7 @@ mod faults;
 mod glass;
 mod holding;
 mod printing;
+mod readings;
 mod showing;
 
 pub use crossing::looking_glass_crosses_threads;

@@ -70,7 +70,7 @@ impl<
                 &router,
                 seen,
             ),
-            Call::Explain(call) => explained(rt, alloc, self.desk, &mut seats.0, &call),
+            Call::Explain(call) => explained(rt, alloc, self.desk, self.glass, &mut seats.0, &call),
             Call::Hold(secret, router, interface, routes) => hold(
                 rt,
                 alloc,
@@ -98,6 +98,7 @@ impl<
                 rt,
                 alloc,
                 self.desk,
+                self.glass,
                 &mut seats.0,
                 &mut seats.1,
                 secret.as_slice(),

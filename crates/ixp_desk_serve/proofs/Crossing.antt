@@ -11,7 +11,7 @@ use Rattle.ixp_desk_lock.specs.contracts.locked.Locked as Locked
 use Rattle.ixp_desk_lock.proofs.Sends.{locked_send}
 use Rattle.ixp_desk.specs.contracts.shared.Shared as Shared
 use Rattle.ixp_desk_explain.specs.contracts.glass.LookingGlass as LookingGlass
-use Rattle.ixp_desk_explain.proofs.glass.LookingGlass.TheSendSync as GlassCrosses
+use Rattle.ixp_desk_explain.proofs.Sharing as GlassCrosses
 use Rattle.ixp_desk_rtr.specs.contracts.cache.RoaCache as RoaCache
 use Rattle.ixp_desk_rtr.proofs.cache.RoaCache.TheSendSync as CacheSends
 use Rattle.ixp_desk_serve.specs.contracts.hosting.Hosting as Hosting
@@ -26,7 +26,7 @@ module _ (P N W : RattleType) (k : Keeper.Ghosts P.Denot) (g : BoardName.Ghosts 
 
   module _ (M V : RattleType) (h : BoardName.Ghosts M.Denot) (v : IsSend V) (n : IsSend M) (m : IsSync M) where
     glass_sync : IsSync (LookingGlass.the_row M V h)
-    glass_sync = search (GlassCrosses.the_sync, crosses, sendable) depth 12
+    glass_sync = GlassCrosses.glass_sync M V h v n m
 
     pub hosting_sync : (l : NamedLft) (G : RattleType) → IsSync G → IsSync (Hosting.the_row l P N M W V G k g h)
     hosting_sync l G s = search (shared_sync, glass_sync, crosses, sendable) depth 12

@@ -46,7 +46,7 @@ pub fn explain(
 
 /// The text of a fate.
 #[tactic(auto, using(crate::proofs::Telling::telling))]
-fn text_by(
+pub(crate) fn text_by(
     alloc: Global,
     config: &Config,
     roas: &[(Name, Held<RoaTable>)],

@@ -10,13 +10,16 @@ ghost use Rattle.ixp_registry.specs.Valid.{Valid};
 ghost use Rattle.ixp_policy.specs.Fates.{fate_of};
 ghost use Rattle.ixp_compile_laws.specs.Right.{Gen, Part};
 ghost use Rattle.ixp_explain.specs.declared.report.ExplainFault.TheVariants.{NoMemory as no_memory};
+ghost use Rattle.ixp_explain.specs.Answers.{in_bytes};
 ghost use Rattle.ixp_explain.specs.Texts.{own_text};
-ghost use Rattle.ixp_explain_member.specs.ByText.{untold};
+ghost use Rattle.ixp_explain_member.specs.ByText.{answered, untold};
 ghost use Rattle.ixp_explain_member.specs.Explanations as spec;
 ghost use Rattle.ixp_explain_member.specs.Rows.{own_report_by_rows};
 
 use crate::explanation::Explanation;
-use ixp_explain::{ExplainFault, OwnReport, explain_member, explain_text, print_own, tables_of};
+use ixp_explain::{
+    ExplainFault, OwnReport, Reading, explain_member, explain_text, print_own, tables_of,
+};
 use ixp_lang::Route;
 use ixp_num::{Asn, Items};
 use ixp_num_tables::Held;
@@ -44,6 +47,16 @@ fn own_text(alloc: Global, report: &OwnReport) -> Result<Items<u8>, AllocError>
     Ok(Items::from_vec(out))
 }
 
+/// A fate's text as an explanation.
+fn told_text(answer: Result<Vec<u8>, ExplainFault>) -> Result<Explanation, ExplainFault>
+    ensures { result ≡ answered (λ bytes. bytes) (in_bytes answer) }
+{
+    match answer {
+        Ok(text) => Ok(Explanation::Text(Items::from_vec(text))),
+        Err(fault) => untold(fault),
+    }
+}
+
 /// What the text of a router tells. Nothing else goes wrong with it but running out of memory.
 pub(crate) fn staff_by_text(
     alloc: Global,
@@ -61,10 +74,27 @@ pub(crate) fn staff_by_text(
         (session r router interface)) (λ f. f ≡ no_memory) }
 {
     let tables = tables_of(alloc, roas)?;
-    match explain_text(alloc, text, tables.as_slice(), interface, route) {
-        Ok(text) => Ok(Explanation::Text(Items::from_vec(text))),
-        Err(fault) => untold(fault),
-    }
+    told_text(explain_text(alloc, text, tables.as_slice(), interface, route))
+}
+
+/// The same of a text that was read.
+fn staff_by_reading(
+    alloc: Global,
+    reading: &Reading,
+    roas: &Held<RoaTable>,
+    interface: u32,
+    route: &Route,
+) -> Result<Explanation, ExplainFault>
+    ensures { (r : Registry) (handle : List ℕ) (router : Router) → Valid r
+        → find router_key handle r.routers ≡ Some router → reading.now ≡ Gen r router
+        → roas.now ≡ r.public.roas
+        → MatchResult result
+        (λ e. e ≡ spec.told_by (λ s. fate_text (fate_of r router route.now s) (Some router.asn)) router
+        route.now
+        (session r router interface)) (λ f. f ≡ no_memory) }
+{
+    let tables = tables_of(alloc, roas)?;
+    told_text(reading.fate_text(alloc, tables.as_slice(), interface, route))
 }
 
 /// What a session's own text tells, likewise.
@@ -91,24 +121,24 @@ pub(crate) fn member_by_text(
     }
 }
 
-/// What becomes of a route that the interface's session brings, by the text of a router and the ROAs of its
-/// version. Of a text that is no router's nothing is claimed.
+/// What becomes of a route that the interface's session brings, by the text of a router, which was read, and the
+/// ROAs of its version. Of a text that is no router's nothing is claimed.
 pub fn staff_told(
     alloc: Global,
-    text: &[u8],
+    reading: &Reading,
     roas: &Held<RoaTable>,
     interface: u32,
     route: &Route,
 ) -> Result<Explanation, AllocError>
     ensures { (r : Registry) (handle : List ℕ) (router : Router) → Valid r
-        → find router_key handle r.routers ≡ Some router → text.now ≡ Gen r router
+        → find router_key handle r.routers ≡ Some router → reading.now ≡ Gen r router
         → roas.now ≡ r.public.roas
         → IfOk result
         (λ e. e ≡ spec.told_by (λ s. fate_text (fate_of r router route.now s) (Some router.asn)) router
         route.now
         (session r router interface)) }
 {
-    match staff_by_text(alloc, text, roas, interface, route) {
+    match staff_by_reading(alloc, reading, roas, interface, route) {
         Ok(told) => Ok(told),
         Err(_) => Err(AllocError),
     }

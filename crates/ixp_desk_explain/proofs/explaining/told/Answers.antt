@@ -7,8 +7,8 @@ use Rattle.ixp_desk_history.proofs.ShownRight.{version_valid}
 use Rattle.ixp_desk_explain.proofs.explaining.told.Goals as goal
 
 pub returns : goal.returns
-returns c before now p =
+returns g c before now p =
     let call = c.args.call.now in
     c.outcome_of.ensures
     (told_by (λ s. fate_text (fate_of p.registry p.router call.asked.route s) (Some p.router.asn)) p.router call.asked.route (session p.registry p.router call.interface))
-    (c.staff_told.ensures p.registry call.router p.router (version_valid p.first p.turns c.args.text.now.built p.registry p.legal p.version) p.is_there (c.as_slice.ensures ∙ p.bytes) p.roas)
+    (c.staff_told.ensures p.registry call.router p.router (version_valid p.first p.turns c.args.text.now.built p.registry p.legal p.version) p.is_there (c.get.ensures ∙ (c.in-Ok.ensures ∙ p.bytes)) p.roas)

@@ -7,7 +7,7 @@ use Rattle.ixp_desk_history.proofs.ShownRight.{version_valid}
 use Rattle.ixp_desk_explain.proofs.fates.told_fate.Goals as goal
 
 pub returns : goal.returns
-returns c before now router p =
+returns g c before now p =
     c.fate_outcome.ensures
     (told_by (λ s. fate_text (fate_of p.registry p.router c.args.route.now s) (Some p.router.asn)) p.router c.args.route.now (session p.registry p.router c.args.interface))
-    (c.staff_told.ensures p.registry router p.router (version_valid p.first p.turns c.args.text.now.built p.registry p.legal p.version) p.is_there (c.as_slice.ensures ∙ p.bytes) p.roas)
+    (c.staff_told.ensures p.registry c.args.router.now p.router (version_valid p.first p.turns c.args.text.now.built p.registry p.legal p.version) p.is_there (c.get.ensures ∙ (c.in-Ok.ensures ∙ p.bytes)) p.roas)

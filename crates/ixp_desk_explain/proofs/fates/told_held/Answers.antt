@@ -9,4 +9,4 @@ pub returns-in-Ok-Some-clause-shows : goal.returns-in-Ok-Some-clause-shows
 returns-in-Ok-Some-clause-shows g c before now p =
     let held = subst (λ o. IsHeld c.held.new.seat c.args.router.now c.args.interface o) c.in-Ok-Some.field-0-is c.in-Ok-Some.ensures.held in
     or_left (λ is. (Some c.in-Ok-Some.routes, held, is))
-    (subst (λ rs. OrNoMemory (place_says c.args.interface p (at_place c.args.place rs)) c.told_place.result) (c.as_slice.ensures ∙ c.get.ensures) (c.told_place.ensures before now c.args.router.now p))
+    (subst (λ rs. OrNoMemory (place_says c.args.interface p (at_place c.args.place rs)) c.told_place.result) (c.as_slice.ensures ∙ c.get.ensures) (c.told_place.ensures before now p))

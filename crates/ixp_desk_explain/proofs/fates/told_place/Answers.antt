@@ -4,4 +4,4 @@ use Rattle.ixp_desk_explain.specs.Glass.{place_says}
 use Rattle.ixp_desk_explain.proofs.fates.told_place.Goals as goal
 
 pub returns-in-Some : goal.returns-in-Some
-returns-in-Some c before now router p = subst (λ o. OrNoMemory (place_says c.args.interface p o) c.told_fate.result) c.in-Some.ensures (c.told_fate.ensures before now router p)
+returns-in-Some g c before now p = subst (λ o. OrNoMemory (place_says c.args.interface p o) c.told_fate.result) c.in-Some.ensures (c.told_fate.ensures before now p)

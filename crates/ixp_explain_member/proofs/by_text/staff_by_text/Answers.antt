@@ -1,29 +1,22 @@
-use Rattle.std.proofs.Common.{List, [], ◌∷◌, Ok, Err, Some, MatchResult, Result, ◌≡◌, ap, sym, ◌∙◌, subst, arith}
+use Rattle.std.proofs.Common.{List, [], ◌∷◌, Some, MatchResult, Result, ◌≡◌, ap, sym, ◌∙◌, subst, arith}
 use Rattle.ixp_num.specs.declared.family.Family.TheVariants.{V4, V6}
 use Rattle.ixp_num.specs.declared.roa.Roa.{Roa}
 use Rattle.ixp_lang.specs.Texts.{fate_text}
 use Rattle.ixp_registry.specs.Sessions.{session}
 use Rattle.ixp_policy.specs.Fates.{fate_of}
 use Rattle.ixp_compile.specs.Pieces.{roas}
+use Rattle.ixp_explain.specs.Answers.{in_bytes}
 use Rattle.ixp_explain.specs.declared.report.ExplainFault.{ExplainFault}
 use Rattle.ixp_explain.specs.declared.report.ExplainFault.TheVariants.{NoMemory}
 use Rattle.ixp_explain_member.specs.declared.explanation.Explanation.{Explanation}
-use Rattle.ixp_explain_member.specs.declared.explanation.Explanation.TheVariants.{Text}
 use Rattle.ixp_explain_member.specs.Explanations.{told_by}
 use Rattle.ixp_explain_member.proofs.ByText.{staff_answered}
 use Rattle.ixp_explain_member.proofs.by_text.staff_by_text.Goals as goal
 
-pub returns-in-Ok : goal.returns-in-Ok
-returns-in-Ok c = λ r handle router valid there is_text is_roas.
-    ap Text c.from_vec.ensures
-    ∙ staff_answered r handle router c.args.interface c.args.route.now valid there (omega arith) c.args.text.now c.as_slice.result.now (Ok c.in-Ok.text.items) is_text
-    (c.as_slice.ensures ∙ (c.in_ok-tables.ensures ∙ ap (λ (x : List Roa). (roas V4, x) ∷ (roas V6, x) ∷ []) is_roas))
-    c.in-Ok.ensures
-
 pub returns : goal.returns
 returns c = λ r handle router valid there is_text is_roas.
     subst (λ (o : Result Explanation ExplainFault). MatchResult o (λ e. e ≡ told_by (λ s. fate_text (fate_of r router c.args.route.now s) (Some router.asn)) router c.args.route.now (session r router c.args.interface)) (λ f. f ≡ NoMemory))
-    (sym c.untold.ensures)
-    (staff_answered r handle router c.args.interface c.args.route.now valid there (omega arith) c.args.text.now c.as_slice.result.now (Err c.in-Err.fault) is_text
+    (sym c.told_text.ensures)
+    (staff_answered r handle router c.args.interface c.args.route.now valid there (omega arith) c.args.text.now c.as_slice.result.now (in_bytes c.explain_text.result) is_text
     (c.as_slice.ensures ∙ (c.in_ok-tables.ensures ∙ ap (λ (x : List Roa). (roas V4, x) ∷ (roas V6, x) ∷ []) is_roas))
-    c.in-Err.ensures)
+    c.explain_text.ensures)
