@@ -25,7 +25,7 @@ no e = cc
 
 -- how it ends, by the end's status
 abbrev Well : Bool → ℕ → Flow → Flow → DoorAt → DoorAt → ℕ → Type 0
-Well f n o p d e status = (status ≡ 8) ⊎ ((status ≡ 7) × (f ≡ true)) ⊎ ((status ≡ 0) × ServedAll f n o p d e)
+Well f n o p d e status = (status ≡ 8) ⊎ ((status ≡ 0) × ServedAll f n o p d e)
 
 module _ (f : Bool) (n : ℕ) (o p : Flow) (d e : DoorAt) (end : End) where
   unopened : (fault : LoadFault) → IsKeepers fault → (fault ≡ load.KeeperFault → ⊥) → Unloaded fault end → Well f n o p d e (status_of end)
@@ -36,10 +36,9 @@ module _ (f : Bool) (n : ℕ) (o p : Flow) (d e : DoorAt) (end : End) where
 
   by_server : (s t : Store) (x : ServerEnd) → CanBeLoaded s → (Rose s.faults t.faults → ⊥) → (Rose o.faults p.faults → ⊥) → (Rose d.faults e.faults → ⊥)
       → ServerEnds f s.rows t.rows s.faults t.faults d.given e.given d.faults e.faults n x → IsServerEnd n o p x end → Well f n o p d e (status_of end)
-  by_server s t (server.Served routers) can store output door (state, loads, (gave, asked), keeps) (inl (is, takes)) = inr (inr (ap status_of is, (gave, (routers, asked, takes))))
+  by_server s t (server.Served routers) can store output door (state, loads, (gave, asked), keeps) (inl (is, takes)) = inr (ap status_of is, (gave, (routers, asked, takes)))
   by_server s t (server.Served routers) can store output door (state, loads, gave, keeps) (inr (is, part, rose)) = absurd (output rose)
-  by_server s t server.DoorFault can store output door (state, loads, inl rose, keeps) is = absurd (door rose)
-  by_server s t server.DoorFault can store output door (state, loads, inr asked, keeps) (is, same) = inr (inl (ap status_of is, asked))
+  by_server s t server.DoorFault can store output door (state, loads, rose, keeps) is = absurd (door rose)
   by_server s t server.NoMemory can store output door ends (is, same) = inl (ap status_of is)
   by_server s t (server.Unopened fault) can store output door (loads, rows, cause, links, doors) (un, same) =
       unopened fault (of_store s fault can loads.all) (λ k. store (cause k)) un

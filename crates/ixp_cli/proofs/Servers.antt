@@ -1,5 +1,5 @@
 -- Servers that end with status 0, and faults of doors.
-use Rattle.std.proofs.Common.{◌≡◌, ◌⊎◌, inl, inr, ℕ, Bool, true, false, Option, Some, None, is_some, refl, sym, subst, arith, ◌∙◌, ap}
+use Rattle.std.proofs.Common.{◌≡◌, inl, inr, ℕ, Bool, true, false, Option, Some, None, is_some, refl, sym, subst, arith, ◌∙◌, ap}
 use Rattle.ixp_io.specs.Faults.{Rose}
 use Rattle.ixp_io.specs.Told.{Takes}
 use Rattle.ixp_desk_serve.specs.declared.server.ServerEnd.{ServerEnd}
@@ -16,7 +16,7 @@ use Rattle.ixp_cli_plain.specs.declared.end.End.{End}
 use Rattle.ixp_cli_plain.specs.Restores.{Store}
 use Rattle.ixp_cli_plain.specs.Runs.{Flow, Outside, status_of}
 use Rattle.ixp_cli_plain.proofs.NoDoor.{never_door}
-use Rattle.ixp_cli.specs.Waits.{AllRuns, DoorAt, IsEndOf, IsServed, IsServerEnd, ServedAll, WaitEnds, WaitRuns, opens_further, served_lines}
+use Rattle.ixp_cli.specs.Waits.{AllRuns, DoorAt, IsEndOf, IsServed, IsServerEnd, ServedAll, WaitEnds, WaitRuns, served_lines}
 use Rattle.ixp_cli.proofs.Statuses.{holds_at, one_status, one_wait, served_status, serves, unloaded_status, unloads}
 
 no : false ≡ true → ⊥
@@ -45,7 +45,7 @@ all_served port workers n routers before after d e (inr (waiting, is, r)) =
     of_serve port workers n routers before after d e (subst (λ (w : Waiting). WaitRuns w before after d e 0) (one_wait _ _ is) r)
 
 failed_server : (f : Bool) (n : ℕ) (o p : Flow) (s t : Store) (d e : DoorAt) (x : ServerEnd) (end : End) → status_of end ≡ 7
-    → ServerEnds f s.rows t.rows s.faults t.faults d.given e.given d.faults e.faults n x → IsServerEnd n o p x end → Rose d.faults e.faults ⊎ (f ≡ true)
+    → ServerEnds f s.rows t.rows s.faults t.faults d.given e.given d.faults e.faults n x → IsServerEnd n o p x end → Rose d.faults e.faults
 failed_server f n o p s t d e (server.Served routers) end seven ends (inl (is, takes)) = let bad : 0 ≡ 7 = sym (ap status_of is) ∙ seven in absurd (omega (arith, bad))
 failed_server f n o p s t d e (server.Served routers) end seven ends (inr (is, part, rose)) = let bad : 4 ≡ 7 = sym (ap status_of is) ∙ seven in absurd (omega (arith, bad))
 failed_server f n o p s t d e server.DoorFault end seven (state, loads, rose, keeps) is = rose
@@ -58,12 +58,12 @@ failed_session session.NoMemory end seven is = let bad : 8 ≡ 7 = sym (ap statu
 failed_session (session.Served s) end seven is = no (holds_at serves end 7 seven (served_status s end is))
 
 failed_wait : (w : Waiting) (before after : Outside) (d e : DoorAt) (end : End) → status_of end ≡ 7
-    → WaitEnds w before.input after.input before.output after.output before.store after.store before.second after.second d e end → Rose d.faults e.faults ⊎ (opens_further (Some (Wait w)) ≡ true)
+    → WaitEnds w before.input after.input before.output after.output before.store after.store before.second after.second d e end → Rose d.faults e.faults
 failed_wait Session before after d e end seven ((x, ends, is), same) = absurd (failed_session x end seven is)
 failed_wait (Serve port workers n routers) before after d e end seven ((x, ends, is), same) =
     failed_server (is_some routers) n before.output after.output before.store after.store d e x end seven ends is
 
-pub door_failed : (command : Option Command) (before after : Outside) (d e : DoorAt) → AllRuns command before after d e 7 → Rose d.faults e.faults ⊎ (opens_further command ≡ true)
+pub door_failed : (command : Option Command) (before after : Outside) (d e : DoorAt) → AllRuns command before after d e 7 → Rose d.faults e.faults
 door_failed command before after d e (inl ((still, runs), same)) = absurd (never_door command before after runs)
 door_failed command before after d e (inr (waiting, is, r)) =
-    subst (λ (c : Option Command). Rose d.faults e.faults ⊎ (opens_further c ≡ true)) (sym is) (failed_wait waiting before after d e r.end (sym (one_status 7 (status_of r.end) r.told.0)) r.ends)
+    failed_wait waiting before after d e r.end (sym (one_status 7 (status_of r.end) r.told.0)) r.ends

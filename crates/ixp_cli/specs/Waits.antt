@@ -103,15 +103,10 @@ abbrev pub ServedAll : Bool → ℕ → Flow → Flow → DoorAt → DoorAt → 
 ServedAll further n output output' door door' =
     Gave door.given door'.given n × ((routers : Option ℕ) × (is_some routers ≡ further) × Takes output.bytes output'.bytes (served_lines n routers))
 
--- All was served, or memory ran out, or a further door couldn't be opened.
+-- All was served, or memory ran out.
 abbrev pub ServesAll : Bool → ℕ → Outside → Outside → DoorAt → DoorAt → ℕ → Type 0
 ServesAll further n before after door door' status =
-    (status ≡ 8) ⊎ ((status ≡ 7) × (further ≡ true)) ⊎ ((status ≡ 0) × ServedAll further n before.output after.output door door')
-
--- the command opens a further door, for routers
-abbrev pub opens_further : Option Command → Bool
-opens_further (Some (Wait (Serve port workers links routers))) = is_some routers
-opens_further command = false
+    (status ≡ 8) ⊎ ((status ≡ 0) × ServedAll further n before.output after.output door door')
 
 -- the command loads the store, of today's version
 abbrev pub loads_store : Command → Bool

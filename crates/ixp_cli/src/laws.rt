@@ -1,5 +1,5 @@
 //! Laws of runs that wait. The functions do nothing: each is called for what it ensures.
-ghost use Rattle.std.specs.Prelude.{◌≡◌, ◌⊎◌, ℕ, true, Option, Some, is_some};
+ghost use Rattle.std.specs.Prelude.{◌≡◌, ℕ, true, Option, Some, is_some};
 ghost use Rattle.ixp_io.specs.Faults.{Rose};
 ghost use Rattle.ixp_io.specs.Tables.{Table};
 ghost use Rattle.ixp_io.specs.Told.{WhereTold};
@@ -19,7 +19,6 @@ ghost use Rattle.ixp_cli.specs.Waits.{
   ServedAll,
   ServesAll,
   loads_store,
-  opens_further,
 };
 
 /// A server that ends with status 0 was given as many links as were asked for, where its door tells that, and
@@ -32,8 +31,8 @@ pub fn servers_serve_all_links()
 {}
 
 /// A server over a store that can be loaded ends with status 0, was given as many links as were asked for, and has
-/// written so, unless a call of the store, the output or the door fails, memory runs out, or a further door for
-/// routers can't be opened. What the links were answered isn't said.
+/// written so, unless a call of the store, the output or the door fails, or memory runs out. What the links were
+/// answered isn't said.
 pub fn servers_are_complete()
     ensures { (port workers n status : ℕ) (routers : Option RtrPort) (before after : Outside)
         (door door' : DoorAt) → CanBeLoaded before.store → ¬ (Rose before.store.faults after.store.faults)
@@ -42,12 +41,12 @@ pub fn servers_are_complete()
         → ServesAll (is_some routers) n before after door door' status }
 {}
 
-/// Status 7 comes only where the door's count of faults rose, or where a further door for routers was to be opened.
+/// Status 7 comes only where the door's count of faults rose.
 #[tactic(auto, using(crate::proofs::Servers::door_failed))]
 pub fn door_faults_have_a_cause()
     ensures { (command : Option Command) (before after : Outside) (door door' : DoorAt)
         → AllRuns command before after door door' 7
-        → Rose door.faults door'.faults ⊎ (opens_further command ≡ true) }
+        → Rose door.faults door'.faults }
 {}
 
 /// Damage is told of no store that has the rows of a state that requests lead to, or none; nor is such a

@@ -20,7 +20,6 @@ use Rattle.ixp_glass.proofs.sharing.SharedReports.TheSendSync as ReportsCross
 use Rattle.ixp_glass_holds.proofs.sharing.GlassDesk.TheSendSync as HoldsCross
 use Rattle.ixp_board.specs.declared.front.BoardName
 use Rattle.ixp_desk_explain.specs.contracts.readings.Kept as Kept
-use Rattle.ixp_desk_explain.specs.contracts.readings.Kept.TheInside as KeptInside
 use Rattle.ixp_desk_explain.specs.contracts.readings.Readings as Readings
 use Rattle.ixp_desk_explain.specs.contracts.glass.LookingGlass as LookingGlass
 

@@ -1,5 +1,5 @@
 -- How a server ends, and what became of its store and its door.
-use Rattle.std.specs.Prelude.{◌≡◌, ◌⊎◌, ℕ, Bool, true, List, Option, is_some, Result, Ok, Err}
+use Rattle.std.specs.Prelude.{◌≡◌, ℕ, Bool, List, Option, is_some, Result, Ok, Err}
 use Rattle.std.specs.declared.alloc.AllocError.{AllocError}
 use Rattle.ixp_io.specs.declared.stream.Failed.{Failed}
 use Rattle.ixp_io.specs.Faults.{Rose}
@@ -39,10 +39,10 @@ end_of (Ok (Ok done)) routers = Served routers
 
 -- How the links of a door end: served, the door gave as many as were asked for, where it tells that, and how many
 -- routers' links a further door gave is told where routers were to be served. A fault comes only where the door's count
--- rose, or where a further door was to be opened, which may fail, too.
+-- rose, by a further door that couldn't be opened, too.
 abbrev pub DoorEnds : Bool → Option ℕ → Option ℕ → ℕ → ℕ → ℕ → ServerEnd → Type 0
 DoorEnds further links links' doors doors' n (Served routers) = Gave links links' n × (is_some routers ≡ further)
-DoorEnds further links links' doors doors' n DoorFault = Rose doors doors' ⊎ (further ≡ true)
+DoorEnds further links links' doors doors' n DoorFault = Rose doors doors'
 DoorEnds further links links' doors doors' n NoMemory = Unit {0}
 DoorEnds further links links' doors doors' n (Unopened fault) = ⊥
 

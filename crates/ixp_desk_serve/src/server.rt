@@ -1,7 +1,6 @@
 //! The links of a door over a desk that threads share.
 ghost use Rattle.std.specs.Prelude.{◌≡◌, ◌<◌, ◌≤◌, ◌+◌, true, is_some, IfOk, OnOk, OnErr, vec_len};
 ghost use Rattle.ixp_io.specs.Faults.{Rose};
-ghost use Rattle.ixp_io.specs.Told.{WhereTold};
 ghost use Rattle.ixp_io_workers.specs.Doors.{Gave};
 ghost use Rattle.ixp_desk_serve.specs.Servers.{DoorEnds, KeepsSome, ServerEnds, end_of};
 
@@ -51,17 +50,6 @@ fn end_of(served: Result<Result<(), Failed>, AllocError>, routers: Option<u32>) 
         Ok(Err(_)) => ServerEnd::DoorFault,
         Ok(Ok(())) => ServerEnd::Served { routers },
     }
-}
-
-/// A further door that listens at the port.
-fn further_at<D: Door + Drop>(door: &mut D, port: u16) -> Result<D, Failed>
-    ensures fresh { IfOk result (λ further. WhereTold (D.links further) (λ n. n ≡ 0)) }
-    ensures kept { D.links door.new ≡ D.links door.old }
-    ensures counts { D.faults door.old ≤ D.faults door.new }
-{
-    let mut further = door.second()?;
-    further.listen(port)?;
-    Ok(further)
 }
 
 /// Each seat of the desk with one of the looking glass.
@@ -115,7 +103,7 @@ where
         links result }
     ensures counts { D.faults door.old ≤ D.faults door.new }
 {
-    let Ok(further) = further_at(door, at.port) else {
+    let Ok(further) = door.second(at.port) else {
         return ServerEnd::DoorFault;
     };
     let mut seats = seats;

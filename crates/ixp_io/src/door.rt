@@ -30,9 +30,9 @@ pub trait Door {
         ensures counts { faults self.old ≤ faults self.new }
         ensures cause { OnErr result (Rose (faults self.old) (faults self.new)) };
 
-    /// A further door of its kind, which gave no links yet, had no faults and doesn't listen. Its links are patient:
-    /// they are for peers that may be silent for an hour.
-    fn second(&mut self) -> Result<Self, Failed>
+    /// A further door of its kind, which takes links at this port from now on, gave none yet and had no faults. Its
+    /// links are patient: they are for peers that may be silent for an hour.
+    fn second(&mut self, port: u16) -> Result<Self, Failed>
     where
         Self: Sized,
         ensures fresh { IfOk result (λ door. WhereTold (links door) (λ given. given ≡ 0)) }

@@ -130,7 +130,7 @@ impl Door for MemDoor {
         Err(Failed)
     }
 
-    fn second(&mut self) -> Result<MemDoor, Failed>
+    fn second(&mut self, _port: u16) -> Result<MemDoor, Failed>
         ensures fails { is_err result ≡ fails_next self.old.plan }
         ensures gives { IfOk result (λ door. door.links.items ≡ self.old.further.items) }
         ensures fresh { IfOk result (λ door. door.given ≡ 0) }

@@ -55,7 +55,7 @@ impl<'a> Door for HoldDoor<'a> {
         Err(Failed)
     }
 
-    fn second(&mut self) -> Result<HoldDoor<'a>, Failed> {
+    fn second(&mut self, _port: u16) -> Result<HoldDoor<'a>, Failed> {
         match self.further.take() {
             Some(links) => Ok(HoldDoor::new(links, None)),
             None => {

@@ -33,6 +33,12 @@ pub struct TcpDoor {
     faults: u64,
 }
 
+// What listens at the port of 127.0.0.1, where nothing else has it.
+fn listener_at(rt: &HostRuntime, port: u16) -> Option<TcpListener> {
+    let at = SocketAddr::V4(SocketAddrV4::new(Ipv4Addr::LOCALHOST, port));
+    TcpListener::bind(rt, at).ok()
+}
+
 impl TcpDoor {
     /// A door that doesn't listen yet.
     pub fn new(rt: &HostRuntime) -> TcpDoor
@@ -73,13 +79,12 @@ impl Door for TcpDoor {
     ghost faults = { λ door. door.faults };
 
     fn listen(&mut self, port: u16) -> Result<(), Failed> {
-        let at = SocketAddr::V4(SocketAddrV4::new(Ipv4Addr::LOCALHOST, port));
-        match TcpListener::bind(&self.rt, at) {
-            Ok(listener) => {
+        match listener_at(&self.rt, port) {
+            Some(listener) => {
                 self.listener = Some(listener);
                 Ok(())
             }
-            Err(_) => {
+            None => {
                 self.faults = self.faults.saturating_add(1);
                 Err(Failed)
             }
@@ -96,12 +101,18 @@ impl Door for TcpDoor {
         }
     }
 
-    fn second(&mut self) -> Result<TcpDoor, Failed> {
-        Ok(TcpDoor {
-            rt: self.rt,
-            listener: None,
-            read_seconds: PATIENT_SECONDS,
-            faults: 0,
-        })
+    fn second(&mut self, port: u16) -> Result<TcpDoor, Failed> {
+        match listener_at(&self.rt, port) {
+            Some(listener) => Ok(TcpDoor {
+                rt: self.rt,
+                listener: Some(listener),
+                read_seconds: PATIENT_SECONDS,
+                faults: 0,
+            }),
+            None => {
+                self.faults = self.faults.saturating_add(1);
+                Err(Failed)
+            }
+        }
     }
 }

@@ -60,7 +60,7 @@ fn a_door_gives_its_links_in_order(rt: HostRuntime) -> Result<(), Fail> {
 
 // What the first link of the further door gives; 0 where there is none.
 fn further_length(alloc: Global, door: &mut MemDoor) -> usize {
-    match door.second() {
+    match door.second(1) {
         Ok(mut further) => next_length(alloc, &mut further),
         Err(_) => 0,
     }

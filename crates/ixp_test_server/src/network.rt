@@ -67,6 +67,7 @@ fn a_port_that_is_taken_is_a_fault(rt: HostRuntime) -> Result<(), Fail> {
         return Ok(());
     };
     assert!(rt; TcpDoor::new(&rt).listen(port).is_err());
+    assert!(rt; TcpDoor::new(&rt).second(port).is_err());
     assert!(rt; TcpDoor::new(&rt).accept().is_err());
     Ok(())
 }
