@@ -35,14 +35,16 @@ Said = Result Call CallFault
 -- an edit with its number and the secret of the request
 abbrev pub Numbered : Request → ℕ → Result Edit CallFault → Said → Type 0
 Numbered request number (Ok edit) r =
-    (e : Entry) × (r ≡ Ok (call.Edit e)) × (e.secret ≡ secret_of request.fields) × (e.number ≡ number) × (e.edit ≡ edit)
+    (e : Entry) × (r ≡ Ok (call.Edit e)) × (e.secret ≡ secret_of request.fields) × (e.number ≡ number)
+    × (e.edit ≡ edit)
 Numbered request number (Err fault) r = r ≡ Err fault
 
 -- an edit: its number is tested before its body
 abbrev pub SaysCallOfEdit : EditKind → Args → Request → Said → Type 0
 SaysCallOfEdit k args request r =
     ThenSays (must RequestNumber (number_of request.fields))
-    (λ number x. (said : Result Edit CallFault) × SaysEdit k args request.body said × Numbered request number said x) r
+    (λ number x. (said : Result Edit CallFault) × SaysEdit k args request.body said
+    × Numbered request number said x) r
 
 abbrev pub query_of : Question → Args → Query
 query_of question.Member args = query.Member args.row
@@ -76,12 +78,14 @@ SaysHold args request r =
 
 -- what becomes of the routes that are held of a session
 abbrev pub glass : Args → Request → Said
-glass args request = read_then (handle_in args.router) (λ router. Ok (call.Glass (secret_of request.fields) router args.row))
+glass args request = read_then (handle_in args.router)
+    (λ router. Ok (call.Glass (secret_of request.fields) router args.row))
 
 -- what becomes of the one at a place
 abbrev pub glass_place : Args → Request → Said
 glass_place args request =
-    read_then (handle_in args.router) (λ router. Ok (call.GlassPlace (secret_of request.fields) router args.row args.place))
+    read_then (handle_in args.router) (λ router. Ok
+    (call.GlassPlace (secret_of request.fields) router args.row args.place))
 
 abbrev pub SaysCallOf : Kind → Args → Request → Said → Type 0
 SaysCallOf (kind.Edit k) args request r = SaysCallOfEdit k args request r

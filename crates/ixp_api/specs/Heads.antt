@@ -36,7 +36,8 @@ form_text bytes = utf8_lossy (decode bytes)
 -- the value of the first pair with the name `seen`
 abbrev pub seen_in : List (List ℕ × List ℕ) → Option (List ℕ)
 seen_in [] = None
-seen_in (p ∷ ps) = if pointwise nat_eq (form_text p.0) (codes "seen") then Some (form_text p.1) else seen_in ps
+seen_in (p ∷ ps) = if pointwise nat_eq (form_text p.0) (codes "seen") then Some (form_text p.1)
+    else seen_in ps
 
 -- What the reader has seen: nothing is said, or a number of a request, or something else.
 abbrev pub seen_by : Option (List ℕ) → Option (Option ℕ)

@@ -29,7 +29,8 @@ read_then (Ok x) next = next x
 read_then (Err e) next = Err e
 
 -- the same, where what follows is a sentence on the answer
-abbrev pub ThenSays : {A B : Type 0} → Result A CallFault → (A → Result B CallFault → Type 0) → Result B CallFault → Type 0
+abbrev pub ThenSays : {A B : Type 0} → Result A CallFault → (A → Result B CallFault → Type 0)
+    → Result B CallFault → Type 0
 ThenSays (Ok x) Next r = Next x r
 ThenSays (Err e) Next r = r ≡ Err e
 

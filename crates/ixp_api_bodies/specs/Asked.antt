@@ -39,7 +39,8 @@ triple_at d = option_and_then (λ t. whole (triple_item t)) (as_str d)
 -- the items of a list, or the fault of the first that is none, at its place from 0
 abbrev pub items_from : {A : Type 0} → (Data → Option A) → Field → ℕ → Items → Result (List A) CallFault
 items_from at f place no_items = Ok []
-items_from at f place (item d ds) = read_then (must (Item f place) (at d)) (λ x. read_then (items_from at f (place + 1) ds) (λ xs. Ok (x ∷ xs)))
+items_from at f place (item d ds) = read_then (must (Item f place) (at d))
+    (λ x. read_then (items_from at f (place + 1) ds) (λ xs. Ok (x ∷ xs)))
 
 abbrev pub count : Items → ℕ
 count no_items = 0
@@ -81,7 +82,8 @@ asked said hop d =
     Ok (record { route = record { net = net; path = path; next_hop = next_hop; pairs = pairs; triples = triples }; peers = peers })))))))
 
 abbrev pub Asked : Data → Result RouteAsked CallFault → Type 0
-Asked d r = (net : Option Prefix) × PrefixIn field.Net d net × ((hop : Option Addr) × AddressIn field.NextHop d hop × (r ≡ asked net hop d))
+Asked d r = (net : Option Prefix) × PrefixIn field.Net d net
+    × ((hop : Option Addr) × AddressIn field.NextHop d hop × (r ≡ asked net hop d))
 
 -- what a body asks of a route
 abbrev pub SaysRoute : List ℕ → Result RouteAsked CallFault → Type 0

@@ -10,7 +10,8 @@ module _ {A : Type 0} (Says : ℕ → Data → Result A CallFault → Type 0) wh
   Each place no_items r = r ≡ Ok []
   Each place (item d ds) r =
       (first : Result A CallFault) × Says place d first
-      × ThenSays first (λ x rest. (xs : Result (List A) CallFault) × Each (place + 1) ds xs × (rest ≡ read_then xs (λ more. Ok (x ∷ more)))) r
+      × ThenSays first (λ x rest. (xs : Result (List A) CallFault) × Each (place + 1) ds xs
+      × (rest ≡ read_then xs (λ more. Ok (x ∷ more)))) r
 
 -- ---- for private clauses
 

@@ -35,7 +35,8 @@ abbrev pub rename_member : Args → Data → Said
 rename_member args d = read_then (text field.Name d) (λ name. Ok (edit.RenameMember args.row name))
 
 abbrev pub move_status : Args → Data → Said
-move_status args d = read_then (must (At field.To) (status_in field.To d)) (λ to. Ok (edit.MoveStatus args.row to))
+move_status args d = read_then (must (At field.To) (status_in field.To d))
+    (λ to. Ok (edit.MoveStatus args.row to))
 
 abbrev pub set_macro : Args → Data → Said
 set_macro args d = read_then (text field.Macro d) (λ as_macro. Ok (edit.SetMacro args.row as_macro))
@@ -88,7 +89,8 @@ add_vlan v4 v6 d =
     Ok (edit.AddVlan n name tag four six))))))
 
 abbrev pub AddVlan : Data → Said → Type 0
-AddVlan d r = (v4 v6 : Option (Option Prefix)) × PrefixOrNull field.V4 d v4 × PrefixOrNull field.V6 d v6 × (r ≡ add_vlan v4 v6 d)
+AddVlan d r = (v4 v6 : Option (Option Prefix)) × PrefixOrNull field.V4 d v4 × PrefixOrNull field.V6 d v6
+    × (r ≡ add_vlan v4 v6 d)
 
 abbrev pub add_interface : Data → Said
 add_interface d =
@@ -127,7 +129,8 @@ settings id blackhole d =
 
 -- the settings of a router; `blackhole` and `max_comms` may be left out
 abbrev pub Settings : Data → Result RouterSettings CallFault → Type 0
-Settings d r = (id : Option ℕ) × (blackhole : Option (Option Addr)) × IdentifierIn field.Id d id × AddressOrNothing field.Blackhole d blackhole × (r ≡ settings id blackhole d)
+Settings d r = (id : Option ℕ) × (blackhole : Option (Option Addr)) × IdentifierIn field.Id d id
+    × AddressOrNothing field.Blackhole d blackhole × (r ≡ settings id blackhole d)
 
 abbrev pub add_router : Option Addr → Result RouterSettings CallFault → Data → Said
 add_router address s d =
@@ -139,7 +142,8 @@ add_router address s d =
     Ok (edit.AddRouter handle vlan family a router_settings))))))
 
 abbrev pub AddRouter : Data → Said → Type 0
-AddRouter d r = (a : Option Addr) × (s : Result RouterSettings CallFault) × AddressIn field.Address d a × Settings d s × (r ≡ add_router a s d)
+AddRouter d r = (a : Option Addr) × (s : Result RouterSettings CallFault) × AddressIn field.Address d a
+    × Settings d s × (r ≡ add_router a s d)
 
 -- the router that the path names
 abbrev pub handle_in : Option (List ℕ) → Result (List ℕ) CallFault

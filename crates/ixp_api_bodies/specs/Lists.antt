@@ -14,7 +14,7 @@ use Rattle.ixp_roa.specs.declared.fault.RoaFault.TheVariants as roa_fault
 use Rattle.ixp_roa.specs.CsvRoas.{CsvAnswer}
 use Rattle.ixp_machine_edits.specs.declared.edit.Edit.{Edit}
 use Rattle.ixp_machine_edits.specs.declared.edit.Edit.TheVariants as edit
-use Rattle.ixp_machine_edits.specs.declared.edit.PublicList.TheVariants as public
+use Rattle.ixp_registry_change.specs.declared.change.PublicList.TheVariants as public
 use Rattle.ixp_api_json.specs.declared.pointer.CallFault.{CallFault}
 use Rattle.ixp_api_json.specs.declared.pointer.CallFault.TheVariants.{BadBody, NoMemory}
 use Rattle.ixp_api_json.specs.declared.pointer.Pointer.TheVariants.{Line, Lines}

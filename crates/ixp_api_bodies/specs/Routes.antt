@@ -13,7 +13,7 @@ use Rattle.ixp_api_json.specs.declared.pointer.CallFault.TheVariants.{BadBody}
 use Rattle.ixp_api_json.specs.declared.pointer.Pointer.TheVariants.{At, Item}
 use Rattle.ixp_api_bodies.specs.Answers.{must, ThenSays}
 use Rattle.ixp_api_bodies.specs.Each.{Each}
-use Rattle.ixp_api_bodies.specs.Values.{field as value_at, object_of, TextSays}
+use Rattle.ixp_api_bodies.specs.Values.{field as value_at, long_object_of, TextSays}
 
 -- the route whose text this is, or no route has this text
 abbrev pub SaysRouteText : List ℕ → Option Route → Type 0
@@ -22,7 +22,8 @@ SaysRouteText t None = (r : Route) → ¬ (RouteAnswer t (Ok r))
 
 -- a route of the list, as a text, at its place from 0
 abbrev pub RouteAt : ℕ → Data → Result Route CallFault → Type 0
-RouteAt place d r = (o : Option Route) × TextSays SaysRouteText (as_str d) o × (r ≡ must (Item field.Routes place) o)
+RouteAt place d r = (o : Option Route) × TextSays SaysRouteText (as_str d) o
+    × (r ≡ must (Item field.Routes place) o)
 
 abbrev pub RoutesBy : Option Items → Result (List Route) CallFault → Type 0
 RoutesBy None r = r ≡ Err (BadBody (At field.Routes))
@@ -34,7 +35,7 @@ RoutesIn d r = RoutesBy (option_and_then as_array (value_at field.Routes d)) r
 -- The routes that a body has, or what is wrong with it: the body as a whole, its list, or the first text that
 -- is no route's.
 abbrev pub SaysRoutes : List ℕ → Result (List Route) CallFault → Type 0
-SaysRoutes body r = ThenSays (object_of body) RoutesIn r
+SaysRoutes body r = ThenSays (long_object_of body) RoutesIn r
 
 -- numbers and lists are within their bounds, and net and next hop are of one family
 abbrev pub IsWellFormed : Route → Type 0

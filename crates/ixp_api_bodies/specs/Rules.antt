@@ -40,4 +40,5 @@ items_in (Some items) = items
 
 abbrev pub SetRules : Args → Data → Said → Type 0
 SetRules args d r =
-    (xs : Result (List NewRule) CallFault) × Rules (items_in (as_array d)) xs × (r ≡ read_then xs (λ rules. Ok (edit.SetRules args.row rules)))
+    (xs : Result (List NewRule) CallFault) × Rules (items_in (as_array d)) xs
+    × (r ≡ read_then xs (λ rules. Ok (edit.SetRules args.row rules)))

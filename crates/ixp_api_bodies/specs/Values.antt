@@ -1,5 +1,5 @@
 -- What a field of a body says.
-use Rattle.std.specs.Prelude.{◌≡◌, ℕ, ◌^◌, List, Bool, true, false, ◌==◌, nat_lt, Option, Some, None, Result, Ok, Err, option_map, option_and_then, if◌then◌else◌}
+use Rattle.std.specs.Prelude.{◌≡◌, ℕ, ◌^◌, List, Bool, true, false, ◌==◌, nat_lt, length, Option, Some, None, Result, Ok, Err, option_map, option_and_then, if◌then◌else◌}
 use Rattle.std.specs.Option.{is_some}
 use Rattle.std.specs.Str.{is_utf8}
 use Rattle.serde_json.specs.Data.{Data, Items, no_items, item}
@@ -22,6 +22,7 @@ use Rattle.ixp_api_json.specs.declared.pointer.Pointer.TheVariants.{Whole, At}
 use Rattle.ixp_api_json.specs.declared.words.OwnerKind.{OwnerKind}
 use Rattle.ixp_api_json.specs.Fields.{word_of}
 use Rattle.ixp_api_json.specs.Words.{status_of, way_of, action_of, owner_kind_of}
+use Rattle.ixp_api_bodies.specs.declared.json.TheConstants.{JSON_LIMIT}
 use Rattle.ixp_api_bodies.specs.Answers.{must, read_then}
 
 -- ---- bodies
@@ -33,8 +34,18 @@ whole = BadBody Whole
 abbrev pub value_of : List ℕ → Result Data CallFault
 value_of body = must Whole (if is_utf8 body then read body else None)
 
+-- The value that a body is which isn't too long. A longer one is at fault as a whole.
+abbrev pub value_within : List ℕ → Result Data CallFault
+value_within body = if nat_lt JSON_LIMIT (length body) then Err whole else value_of body
+
+abbrev pub only_object : Data → Result Data CallFault
+only_object d = if is_some (as_object d) then Ok d else Err whole
+
+abbrev pub long_object_of : List ℕ → Result Data CallFault
+long_object_of body = read_then (value_of body) only_object
+
 abbrev pub object_of : List ℕ → Result Data CallFault
-object_of body = read_then (value_of body) (λ d. if is_some (as_object d) then Ok d else Err whole)
+object_of body = read_then (value_within body) only_object
 
 abbrev pub all_objects : Items → Bool
 all_objects no_items = true
@@ -49,7 +60,7 @@ are_objects d = list_of_objects (as_array d)
 
 -- a list of objects
 abbrev pub objects_of : List ℕ → Result Data CallFault
-objects_of body = read_then (value_of body) (λ d. if are_objects d then Ok d else Err whole)
+objects_of body = read_then (value_within body) (λ d. if are_objects d then Ok d else Err whole)
 
 -- ---- fields
 

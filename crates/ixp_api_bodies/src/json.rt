@@ -8,6 +8,9 @@ use ixp_api_json::{CallFault, Pointer};
 use serde_json::Value;
 use std::alloc::Global;
 
+/// How many bytes a JSON body may have, but that of the routes of a looking glass.
+pub const JSON_LIMIT: usize = 1_048_576;
+
 /// The body isn't of its form as a whole.
 pub(crate) fn whole() -> CallFault
     ensures { result ≡ spec.whole }
@@ -33,11 +36,20 @@ fn value_of(alloc: Global, body: &[u8]) -> Result<Value, CallFault>
     }
 }
 
-/// The object that the body is.
-pub(crate) fn object_of(alloc: Global, body: &[u8]) -> Result<Value, CallFault>
-    ensures { Gives (λ r. r ≡ spec.object_of body.now) (result_view result) }
+/// The value that the body is, where that isn't too long. A longer one isn't parsed.
+fn value_within(alloc: Global, body: &[u8]) -> Result<Value, CallFault>
+    ensures { Gives (λ r. r ≡ spec.value_within body.now) (result_view result) }
 {
-    let value = value_of(alloc, body)?;
+    if body.len() > JSON_LIMIT {
+        return Err(whole());
+    }
+    value_of(alloc, body)
+}
+
+/// The value, which has to be an object.
+fn only_object(value: Value) -> Result<Value, CallFault>
+    ensures { result_view result ≡ spec.only_object (view value) }
+{
     if value.is_object() {
         Ok(value)
     } else {
@@ -45,11 +57,27 @@ pub(crate) fn object_of(alloc: Global, body: &[u8]) -> Result<Value, CallFault>
     }
 }
 
-/// The list of objects that the body is.
+/// The object that the body is, of any length.
+pub(crate) fn long_object_of(alloc: Global, body: &[u8]) -> Result<Value, CallFault>
+    ensures { Gives (λ r. r ≡ spec.long_object_of body.now) (result_view result) }
+{
+    let value = value_of(alloc, body)?;
+    only_object(value)
+}
+
+/// The object that the body is, where that isn't too long.
+pub(crate) fn object_of(alloc: Global, body: &[u8]) -> Result<Value, CallFault>
+    ensures { Gives (λ r. r ≡ spec.object_of body.now) (result_view result) }
+{
+    let value = value_within(alloc, body)?;
+    only_object(value)
+}
+
+/// The list of objects that the body is, where that isn't too long.
 pub(crate) fn objects_of(alloc: Global, body: &[u8]) -> Result<Value, CallFault>
     ensures { Gives (λ r. r ≡ spec.objects_of body.now) (result_view result) }
 {
-    let value = value_of(alloc, body)?;
+    let value = value_within(alloc, body)?;
     if are_objects(&value) {
         Ok(value)
     } else {

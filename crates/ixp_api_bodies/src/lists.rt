@@ -9,7 +9,8 @@ use ixp_api_paths::{Args, ListName};
 use ixp_irr::{
     ListFault, read_bogon_ranges, read_bogons, read_list, read_origins, read_transit_free,
 };
-use ixp_machine_edits::{Edit, PublicList};
+use ixp_machine_edits::Edit;
+use ixp_registry_change::PublicList;
 use ixp_roa::{RoaFault, RoaTable};
 use std::alloc::Global;
 

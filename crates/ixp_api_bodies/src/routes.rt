@@ -8,7 +8,7 @@ ghost use Rattle.ixp_api_bodies.specs.Each.{Each};
 ghost use Rattle.ixp_api_bodies.specs.Routes as spec;
 
 use crate::each::{ReadsItem, each_of};
-use crate::json::object_of;
+use crate::json::long_object_of;
 use crate::values::{fault_at, must};
 use ixp_api_json::{CallFault, Field, Pointer};
 use ixp_lang::{Route, RouteFault, read_route};
@@ -96,6 +96,6 @@ pub fn routes_of(alloc: Global, body: &[u8]) -> Result<Items<Route>, CallFault>
     ensures says { Gives (spec.SaysRoutes body.now) result }
     ensures well_formed { IfOk result (λ rs. All spec.IsWellFormed rs) }
 {
-    let value = object_of(alloc, body)?;
+    let value = long_object_of(alloc, body)?;
     routes_in(alloc, &value)
 }

@@ -344,98 +344,34 @@ found-none : (path : List ℕ) (i : ℕ) → found path ≡ None → i < length 
 unfolding found
 found-none path i q l = none-at TABLE path i q l
 
-abbrev edit_place : EditKind → ℕ
-edit_place edit.AddMember = 0
-edit_place edit.RenameMember = 2
-edit_place edit.MoveStatus = 3
-edit_place edit.SetMacro = 4
-edit_place edit.PutContact = 6
-edit_place edit.DropContact = 6
-edit_place edit.AddKey = 10
-edit_place edit.DropKey = 11
-edit_place edit.AddSwitch = 12
-edit_place edit.DropSwitch = 13
-edit_place edit.AddPort = 14
-edit_place edit.AssignPort = 16
-edit_place edit.FreePort = 16
-edit_place edit.DropPort = 15
-edit_place edit.AddVlan = 17
-edit_place edit.DropVlan = 18
-edit_place edit.AddInterface = 20
-edit_place edit.SetAddress = 22
-edit_place edit.DropInterface = 21
-edit_place edit.AddRouter = 23
-edit_place edit.SetRouter = 24
-edit_place edit.DropRouter = 24
-edit_place edit.PutIrr = 7
-edit_place edit.PutOrigins = 8
-edit_place edit.SetRules = 9
-edit_place edit.PutPublic = 28
+-- whether a row of the table has the path
+abbrev has_path : List ℕ → Entry → Bool
+has_path path e = same_segments (segments path) ([] ∷ segments_of e.parts)
 
-abbrev question_place : Question → ℕ
-question_place question.Member = 1
-question_place question.Contacts = 5
-question_place question.Rules = 9
-question_place question.Use = 19
-question_place question.Ixf = 27
-question_place question.Dump = 31
+-- how many rows stand before the one that has it
+abbrev rows_before : List ℕ → List Entry → ℕ
+rows_before path [] = 0
+rows_before path (e ∷ es) = if has_path path e then 0 else suc (rows_before path es)
 
+-- the place of a kind's row
 abbrev place_of : Kind → ℕ
-place_of (kind.Edit e) = edit_place e
-place_of (kind.Ask q) = question_place q
-place_of kind.Config = 25
-place_of kind.Explain = 26
-place_of kind.Hold = 29
-place_of kind.Glass = 29
-place_of kind.GlassPlace = 30
+place_of k = rows_before (address_of k).path TABLE
 
 abbrev Stands : Kind → Type 0
 Stands k = (ltb (place_of k) (length TABLE) ≡ true) × (kind_at (address_of k).method (get_or TABLE (place_of k) no_entry) ≡ Some k)
 
 edit-stands : (e : EditKind) → Stands (kind.Edit e)
 edit-stands edit.AddMember = (refl, refl)
-edit-stands edit.RenameMember = (refl, refl)
-edit-stands edit.MoveStatus = (refl, refl)
-edit-stands edit.SetMacro = (refl, refl)
-edit-stands edit.PutContact = (refl, refl)
-edit-stands edit.DropContact = (refl, refl)
-edit-stands edit.AddKey = (refl, refl)
-edit-stands edit.DropKey = (refl, refl)
-edit-stands edit.AddSwitch = (refl, refl)
-edit-stands edit.DropSwitch = (refl, refl)
-edit-stands edit.AddPort = (refl, refl)
-edit-stands edit.AssignPort = (refl, refl)
-edit-stands edit.FreePort = (refl, refl)
-edit-stands edit.DropPort = (refl, refl)
-edit-stands edit.AddVlan = (refl, refl)
-edit-stands edit.DropVlan = (refl, refl)
-edit-stands edit.AddInterface = (refl, refl)
-edit-stands edit.SetAddress = (refl, refl)
-edit-stands edit.DropInterface = (refl, refl)
-edit-stands edit.AddRouter = (refl, refl)
-edit-stands edit.SetRouter = (refl, refl)
-edit-stands edit.DropRouter = (refl, refl)
-edit-stands edit.PutIrr = (refl, refl)
-edit-stands edit.PutOrigins = (refl, refl)
-edit-stands edit.SetRules = (refl, refl)
-edit-stands edit.PutPublic = (refl, refl)
+edit-stands e = (refl, refl)
 
 question-stands : (q : Question) → Stands (kind.Ask q)
 question-stands question.Member = (refl, refl)
-question-stands question.Contacts = (refl, refl)
-question-stands question.Rules = (refl, refl)
-question-stands question.Use = (refl, refl)
-question-stands question.Ixf = (refl, refl)
-question-stands question.Dump = (refl, refl)
+question-stands q = (refl, refl)
 
 stands : (k : Kind) → Stands k
 stands (kind.Edit e) = edit-stands e
 stands (kind.Ask q) = question-stands q
-stands kind.Config = (refl, refl)
-stands kind.Explain = (refl, refl)
-stands kind.Hold = (refl, refl)
-stands kind.Glass = (refl, refl)
-stands kind.GlassPlace = (refl, refl)
+stands k = (refl, refl)
 
 -- the row of a kind
 abbrev Row : Kind → Type 0

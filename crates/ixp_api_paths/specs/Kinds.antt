@@ -12,7 +12,8 @@ use Rattle.ixp_api_paths.specs.declared.served.Found.TheVariants.{NoPath, Call}
 use Rattle.ixp_api_paths.specs.Paths.{same_bytes, with_row, with_place, with_family, with_list, with_router, no_args}
 use Rattle.ixp_api_paths.specs.Table.{look}
 
--- a method (RFC 9110 section 9), and a template of paths: what stands in braces is open (RFC 6570 section 1.2)
+-- a method (RFC 9110 section 9), and a template of paths: what stands in braces is open (RFC 6570 section
+-- 1.2)
 pub record Address : Type 0 where
   pub method : List ℕ
   pub path : List ℕ
@@ -98,7 +99,8 @@ abbrev pub read_segments : Args → List (List ℕ) → List (List ℕ) → Opti
 read_segments args [] [] = Some args
 read_segments args [] (t ∷ ts) = None
 read_segments args (s ∷ ss) [] = None
-read_segments args (s ∷ ss) (t ∷ ts) = option_and_then (λ more. read_segments more ss ts) (read_segment s args t)
+read_segments args (s ∷ ss) (t ∷ ts) =
+    option_and_then (λ more. read_segments more ss ts) (read_segment s args t)
 
 -- what stands in the open parts of a path, if it is one of this template
 abbrev pub read_by : List ℕ → List ℕ → Option Args
@@ -106,7 +108,8 @@ read_by template path = read_segments no_args (segments template) (segments path
 
 -- the method and the path are those of a kind of call, with this in the path's open parts
 abbrev pub IsCallOf : List ℕ → List ℕ → Kind → Args → Type 0
-IsCallOf method path kind args = (method ≡ (address_of kind).method) × (read_by (address_of kind).path path ≡ Some args)
+IsCallOf method path kind args =
+    (method ≡ (address_of kind).method) × (read_by (address_of kind).path path ≡ Some args)
 
 -- no kind of call has a path that this is
 abbrev pub IsNoPath : List ℕ → Type 0
@@ -114,9 +117,10 @@ IsNoPath path = (k : Kind) → read_by (address_of k).path path ≡ None
 
 -- Of a path of bytes a call is named exactly where the method and the path are those of its kind.
 abbrev pub CallsAreByKind : Type 0
-CallsAreByKind = (method path : List ℕ) (kind : Kind) (args : Args) → AreBytes path → (look method path ≡ Call kind args) ↔ IsCallOf method path kind args
+CallsAreByKind = (method path : List ℕ) (kind : Kind) (args : Args) → AreBytes path
+    → (look method path ≡ Call kind args) ↔ IsCallOf method path kind args
 
--- No path is named exactly where no kind has it. So no method is named exactly where some kind has the path, and none
--- that has it has the method.
+-- No path is named exactly where no kind has it. So no method is named exactly where some kind has the path,
+-- and none that has it has the method.
 abbrev pub PathsAreByKind : Type 0
 PathsAreByKind = (method path : List ℕ) → (look method path ≡ NoPath) ↔ IsNoPath path

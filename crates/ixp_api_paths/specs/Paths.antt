@@ -64,7 +64,8 @@ behind_root [] = None
 behind_root (b ∷ rest) = cond (b == 47) (Some rest) None
 
 abbrev pub family_of : List ℕ → Option Family
-family_of text = if same_bytes text (codes "4") then Some V4 else (if same_bytes text (codes "6") then Some V6 else None)
+family_of text = if same_bytes text (codes "4") then Some V4
+    else (if same_bytes text (codes "6") then Some V6 else None)
 
 abbrev pub list_of : List ℕ → Option ListName
 list_of text =
@@ -116,7 +117,8 @@ abbrev pub read : Args → List Part → Option (List ℕ) → Option Args
 read args [] None = Some args
 read args [] (Some text) = None
 read args (p ∷ ps) None = cond (is_end p) (read args ps None) None
-read args (p ∷ ps) (Some text) = option_and_then (λ more. read more ps (behind text)) (take_part p args (front text))
+read args (p ∷ ps) (Some text) =
+    option_and_then (λ more. read more ps (behind text)) (take_part p args (front text))
 
 abbrev pub on_read : Entry → Option Args → Option (Entry × Args) → Option (Entry × Args)
 on_read e None rest = rest

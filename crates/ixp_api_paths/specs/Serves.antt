@@ -64,7 +64,8 @@ parted (x ∷ t) (y ∷ u) = cond (x == y) (parted t u) (not (x == param_token |
 
 abbrev pub parted_from : Entry → List Entry → Bool
 parted_from e [] = true
-parted_from e (f ∷ fs) = (parted (pattern_of e.parts) (pattern_of f.parts) && parted (pattern_of f.parts) (pattern_of e.parts)) && parted_from e fs
+parted_from e (f ∷ fs) = (parted (pattern_of e.parts) (pattern_of f.parts)
+    && parted (pattern_of f.parts) (pattern_of e.parts)) && parted_from e fs
 
 abbrev pub all_parted : List Entry → Bool
 all_parted [] = true

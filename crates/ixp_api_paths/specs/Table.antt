@@ -21,7 +21,8 @@ no_entry = record { parts = []; get = None; post = None; put = None; delete = No
 
 -- what the entry at a place reads
 abbrev pub reads : List Entry → ℕ → List ℕ → Option (Entry × Args)
-reads table i path = on_read (get_or table i no_entry) (read no_args (get_or table i no_entry).parts (behind_root path)) None
+reads table i path = on_read (get_or table i no_entry)
+    (read no_args (get_or table i no_entry).parts (behind_root path)) None
 
 unfoldable pub read_entry : ℕ → List ℕ → Option (Entry × Args)
 read_entry i path = reads TABLE i path

@@ -22,7 +22,8 @@ plain body = record { status = 200; json = false; closes = false; body = body }
 
 -- `{"detail":<detail>,"rule":<rule>}`
 unfoldable pub refusal_json : List ℕ → List ℕ → List ℕ
-refusal_json rule detail = text_member (codes "{") (codes "detail") detail ++ (text_member (codes ",") (codes "rule") rule ++ codes "}")
+refusal_json rule detail = text_member (codes "{") (codes "detail") detail
+    ++ (text_member (codes ",") (codes "rule") rule ++ codes "}")
 
 abbrev pub refused : ℕ → List ℕ → List ℕ → HttpReply
 refused status rule detail = json status (refusal_json rule detail)

@@ -1,11 +1,11 @@
 -- What was ordered of a bundle may be installed after later edits.
-use Rattle.std.proofs.Common.{rules, ◌≡◌, ◌<◌, ◌≤◌, ℕ, None, Bool, true, false, not, ◌==◌, nat_lt, List, option_map, refl, sym, ap, ◌∙◌, subst, arith, if◌then◌else◌}
+use Rattle.std.proofs.Common.{rules, ◌≡◌, ◌<◌, ◌≤◌, ℕ, Bool, true, false, not, ◌==◌, nat_lt, List, option_map, refl, sym, ap, ◌∙◌, subst, arith, if◌then◌else◌}
 use Rattle.std.proofs.lemmas.Bool.{eqb-true}
 use Rattle.ixp_print.specs.Texts.{config_text}
 use Rattle.ixp_registry.specs.declared.registry.Registry.{Registry}
 use Rattle.ixp_registry.specs.Valid.{Valid}
-use Rattle.ixp_machine_edits.specs.declared.edit.Edit.{Edit}
-use Rattle.ixp_machine_edits.specs.Edits.{next, refusal, IsLawful}
+use Rattle.ixp_registry_change.specs.declared.change.RegistryChange.{RegistryChange}
+use Rattle.ixp_registry_change.specs.Changes.{with_change}
 use Rattle.ixp_compile.specs.Header.{header}
 use Rattle.ixp_compile.specs.Generated.{session_part}
 use Rattle.ixp_build_pending.specs.declared.pending.Pending.{Pending}
@@ -26,29 +26,29 @@ older : (b : Bool) (c n upto : ℕ) → upto < c → (if b then c else n) ≤ up
 older true c n upto more e = absurd (omega (arith, more, e))
 older false c n upto more e = (refl, e)
 
-module _ (r : Registry) (e : Edit) (valid : Valid r) (lawful : IsLawful e) (accepted : refusal r e ≡ None) where
+module _ (r : Registry) (c : RegistryChange) (valid : Valid r) where
   abbrev touched : Touch
-  touched = with_after (reached r e) (next r e)
+  touched = with_after (reached r c) (with_change r c)
 
-  head_stays : (h : List ℕ) → lists_header touched h ≡ false → head_wanted r h ≡ head_wanted (next r e) h
-  head_stays h un = ap (option_map (λ i. config_text (header i))) (headers_stay r e h valid lawful accepted (sym (headers_alike r e h) ∙ un))
+  head_stays : (h : List ℕ) → lists_header touched h ≡ false → head_wanted r h ≡ head_wanted (with_change r c) h
+  head_stays h un = ap (option_map (λ i. config_text (header i))) (headers_stay r c h (sym (headers_alike r c h) ∙ un))
 
-  part_stays : (h : List ℕ) (n : ℕ) → lists_session touched h n ≡ false → part_wanted r h n ≡ part_wanted (next r e) h n
-  part_stays h n un = ap (option_map (λ i. config_text (session_part i))) (parts_stay r e h n valid lawful accepted (sym (sessions_alike r e h n valid lawful accepted) ∙ un))
+  part_stays : (h : List ℕ) (n : ℕ) → lists_session touched h n ≡ false → part_wanted r h n ≡ part_wanted (with_change r c) h n
+  part_stays h n un = ap (option_map (λ i. config_text (session_part i))) (parts_stay r c h n valid (sym (sessions_alike r c h n valid) ∙ un))
 
-  roas_kept : touched.roas ≡ false → r.public.roas ≡ (next r e).public.roas
-  roas_kept un = roas_stay r e (sym (roas_alike r e) ∙ un)
+  roas_kept : touched.roas ≡ false → r.public.roas ≡ (with_change r c).public.roas
+  roas_kept un = roas_stay r c (sym (roas_alike r c) ∙ un)
 
-  pub alike_after : (upto : ℕ) (p q : Pending) (was : Registry) (c : ℕ) → upto < c → AlikeUpto upto p was r → IsNoted c (with_after (reached r e) (next r e)) p q → AlikeUpto upto q was (next r e)
-  alike_after upto p q was c more a noted = record {
+  pub alike_after : (upto : ℕ) (p q : Pending) (was : Registry) (k : ℕ) → upto < k → AlikeUpto upto p was r → IsNoted k (with_after (reached r c) (with_change r c)) p q → AlikeUpto upto q was (with_change r c)
+  alike_after upto p q was k more a noted = record {
     heads = λ h few.
-        let old = older (lists_header touched h) c (header_count p h) upto more (subst (λ n. n ≤ upto) (noted.headers h) few) in
+        let old = older (lists_header touched h) k (header_count p h) upto more (subst (λ n. n ≤ upto) (noted.headers h) few) in
         a.heads h old.1 ∙ head_stays h old.0;
     parts = λ h n few.
-        let old = older (lists_session touched h n) c (session_count p h n) upto more (subst (λ m. m ≤ upto) (noted.sessions h n) few) in
+        let old = older (lists_session touched h n) k (session_count p h n) upto more (subst (λ m. m ≤ upto) (noted.sessions h n) few) in
         a.parts h n old.1 ∙ part_stays h n old.0;
     roas = λ few.
-        let old = older touched.roas c p.roas upto more (subst (λ n. n ≤ upto) noted.roas few) in
+        let old = older touched.roas k p.roas upto more (subst (λ n. n ≤ upto) noted.roas few) in
         a.roas old.1 ∙ roas_kept old.0;
   }
 
@@ -57,7 +57,7 @@ alike_at_first upto p r = record { heads = λ h few. refl; parts = λ h n few. r
 
 -- What isn't listed was touched by no later edit.
 
-unlisted : (n : ℕ) (b : Bool) → b ≡ not (n == 0) → b ≡ false → n ≡ 0
+pub unlisted : (n : ℕ) (b : Bool) → b ≡ not (n == 0) → b ≡ false → n ≡ 0
 unlisted n b is un = by_test (n == 0) refl (sym is ∙ un)
   where
     by_test : (z : Bool) → (n == 0) ≡ z → not (n == 0) ≡ false → n ≡ 0

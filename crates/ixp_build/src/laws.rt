@@ -1,17 +1,16 @@
 //! What bundles are worth. The functions do nothing: they are called for what they ensure.
-ghost use Rattle.std.specs.Prelude.{◌≡◌, ◌<◌, ℕ, List, None};
+ghost use Rattle.std.specs.Prelude.{◌≡◌, ◌<◌, ℕ, List};
 ghost use Rattle.ixp_registry.specs.declared.registry.Registry.{Registry};
 ghost use Rattle.ixp_registry.specs.Valid.{Valid};
-ghost use Rattle.ixp_machine_edits.specs.declared.edit.Edit.{Edit};
-ghost use Rattle.ixp_machine_edits.specs.Edits.{next, refusal, IsLawful};
-ghost use Rattle.ixp_machine_steps.specs.Runs.{after_all};
+ghost use Rattle.ixp_registry_change.specs.declared.change.RegistryChange.{RegistryChange};
+ghost use Rattle.ixp_registry_change.specs.Changes.{with_change};
 ghost use Rattle.ixp_build_pending.specs.declared.touch.Touch.{Touch};
 ghost use Rattle.ixp_build_pending.specs.Pendings.{IsLater, IsListed, IsNoted};
 ghost use Rattle.ixp_build_touches.specs.Touched.{reached, touch, with_after};
 ghost use Rattle.ixp_build.specs.declared.bundle.Bundle.{Bundle};
 ghost use Rattle.ixp_build.specs.Bundles.{AgreesBut, IsOf, full_text, text_of, untouched};
 ghost use Rattle.ixp_build_pending.specs.declared.pending.Pending.{Pending};
-ghost use Rattle.ixp_build.specs.Laws.{AlikeUpto, AllAccepted, Covers, joined, pending};
+ghost use Rattle.ixp_build.specs.Laws.{after_changes, AlikeUpto, AllValid, Covers, joined, pending};
 ghost use Rattle.ixp_build.specs.Orders.{HasBounds, installed, made_from, order_of};
 
 /// The text of a bundle that is a registry's is that of full generation.
@@ -19,11 +18,10 @@ pub fn bundles_have_full_texts()
     ensures { (b : Bundle) (r : Registry) (h : List ℕ) → Valid r → IsOf b r → text_of b h ≡ full_text r h }
 {}
 
-/// After an accepted edit a bundle has what the registry wants but for what was pending and what the edit
-/// touches.
+/// After a change a bundle has what the registry wants but for what was pending and what the change touches.
 pub fn edits_are_pending()
-    ensures { (t : Touch) (b : Bundle) (r : Registry) (e : Edit) → Valid r → IsLawful e → refusal r e ≡ None
-        → AgreesBut t b r → AgreesBut (joined (touch r (next r e) e) t) b (next r e) }
+    ensures { (t : Touch) (b : Bundle) (r : Registry) (c : RegistryChange) → Valid r → AgreesBut t b r
+        → AgreesBut (joined (touch r (with_change r c) c) t) b (with_change r c) }
 {}
 
 /// What may be listed otherwise, so long as nothing is left out.
@@ -42,27 +40,28 @@ pub fn orders_have_bounds()
     ensures { (t : Touch) (from upto : ℕ) (r : Registry) → Valid r → HasBounds (order_of from upto r t) }
 {}
 
-/// After any accepted edits, with what they touched ordered of the registry that they made, made and
-/// installed, a bundle that was the registry's before them gives each router's text as full generation does
-/// after them.
+/// After any changes that leave valid registries, with what they touched ordered of the registry that they
+/// made, made and installed, a bundle that was the registry's before them gives each router's text as full
+/// generation does after them.
 pub fn incremental_builds_are_full()
-    ensures { (b : Bundle) (r : Registry) (es : List Edit) (upto : ℕ) (h : List ℕ) → Valid r
-        → AllAccepted r es → IsOf b r
+    ensures { (b : Bundle) (r : Registry) (cs : List RegistryChange) (upto : ℕ) (h : List ℕ) → Valid r
+        → AllValid r cs → IsOf b r
         → text_of (installed b
-        (made_from (order_of b.built upto (after_all r es) (pending untouched r es)))) h
-        ≡ full_text (after_all r es) h }
+        (made_from (order_of b.built upto (after_changes r cs) (pending untouched r cs)))) h
+        ≡ full_text (after_changes r cs) h }
 {}
 
-/// What no edit after a count touched is wanted as it was: at first, since the registry is the same, and then
-/// after each accepted edit with a greater count.
+/// What no change after a count touched is wanted as it was: at first, since the registry is the same, and
+/// then after each change with a greater count.
 pub fn wanted_texts_stay()
     ensures first { (upto : ℕ) (p : Pending) (r : Registry) → AlikeUpto upto p r r }
-    ensures next { (upto : ℕ) (p q : Pending) (was r : Registry) (e : Edit) (c : ℕ) → Valid r → IsLawful e
-        → refusal r e ≡ None → upto < c → AlikeUpto upto p was r
-        → IsNoted c (with_after (reached r e) (next r e)) p q → AlikeUpto upto q was (next r e) }
+    ensures next { (upto : ℕ) (p q : Pending) (was r : Registry) (c : RegistryChange) (k : ℕ) → Valid r
+        → upto < k → AlikeUpto upto p was r
+        → IsNoted k (with_after (reached r c) (with_change r c)) p q
+        → AlikeUpto upto q was (with_change r c) }
 {}
 
-/// An order of all that was pending of an earlier registry may be installed after later edits: but for what
+/// An order of all that was pending of an earlier registry may be installed after later changes: but for what
 /// these touched, which is left pending, the bundle has what the present registry wants.
 pub fn older_orders_may_be_installed()
     ensures { (b : Bundle) (p q : Pending) (was now : Registry) (t left : Touch) (upto : ℕ)

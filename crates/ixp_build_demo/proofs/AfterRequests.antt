@@ -7,8 +7,10 @@ use Rattle.ixp_registry.specs.declared.refusal.Refusal.{Refusal}
 use Rattle.ixp_registry.specs.declared.refusal.Refusal.TheVariants.{NoKey}
 use Rattle.ixp_registry.specs.declared.registry.Registry.{Registry}
 use Rattle.ixp_registry.specs.Valid.{Valid}
-use Rattle.ixp_machine_edits.specs.declared.edit.Edit.{Edit}
-use Rattle.ixp_machine_edits.specs.Edits.{next, refusal, IsLawful}
+use Rattle.ixp_registry_change.specs.declared.change.RegistryChange.{RegistryChange}
+use Rattle.ixp_registry_change.specs.Changes.{with_change}
+use Rattle.ixp_machine_edits.specs.Edits.{change}
+use Rattle.ixp_machine_edits.proofs.EditChanges.{change_is_next}
 use Rattle.ixp_machine_steps.specs.declared.state.Entry.{Entry}
 use Rattle.ixp_machine_steps.specs.declared.state.State.{State}
 use Rattle.ixp_machine_steps.specs.States.{ValidState}
@@ -32,44 +34,55 @@ use Rattle.ixp_build.specs.declared.orders.Order.{Order}
 use Rattle.ixp_build.specs.Laws.{joined}
 use Rattle.ixp_build.specs.Orders.{HasBounds, installed, made_from, order_of}
 use Rattle.ixp_build.proofs.AfterEdits.{edit_pends, install_settles, orders_bounded, otherwise}
-use Rattle.ixp_build.proofs.Steps.{steps}
-use Rattle.ixp_build_demo.specs.Builds.{demo_request, parts_made, parts_touched, requests_from, when_accepted}
+use Rattle.ixp_build_demo.proofs.Steps.{steps}
+use Rattle.ixp_build_demo.specs.Builds.{demo_request, parts_made, parts_touched, requests_from, touched_by, when_accepted}
 
--- what both steps list is all that an edit touches, so that with it regenerated nothing is pending
-pub agrees_but : (b : Bundle) (r : Registry) (e : Edit) → Valid r → IsLawful e → refusal r e ≡ None → IsOf b r → AgreesBut (with_after (reached r e) (next r e)) b (next r e)
-agrees_but b r e valid lawful accepted whole =
-    otherwise (joined (touch r (next r e) e) untouched) (with_after (reached r e) (next r e)) b (next r e)
+-- what both steps list is all that a change touches, so that with it regenerated nothing is pending
+pub agrees_but : (b : Bundle) (r : Registry) (c : RegistryChange) → Valid r → IsOf b r
+    → AgreesBut (with_after (reached r c) (with_change r c)) b (with_change r c)
+agrees_but b r c valid whole =
+    otherwise (joined (touch r (with_change r c) c) untouched) (with_after (reached r c) (with_change r c)) b (with_change r c)
     (record {
-      headers = λ h un. none_more (λ k. same k h) (touch r (next r e) e).headers (sym (headers_alike r e h) ∙ un);
-      sessions = λ h n un. none_more (is_key h n) (touch r (next r e) e).sessions (sym (sessions_alike r e h n valid lawful accepted) ∙ un);
-      roas = λ un. no_more (touch r (next r e) e).roas (sym (roas_alike r e) ∙ un);
+      headers = λ h un. none_more (λ k. same k h) (touch r (with_change r c) c).headers (sym (headers_alike r c h) ∙ un);
+      sessions = λ h n un. none_more (is_key h n) (touch r (with_change r c) c).sessions (sym (sessions_alike r c h n valid) ∙ un);
+      roas = λ un. no_more (touch r (with_change r c) c).roas (sym (roas_alike r c) ∙ un);
     })
-    (edit_pends untouched b r e valid lawful accepted whole) where
+    (edit_pends untouched b r c valid whole) where
       none_more : {X : Type 0} (t : X → Bool) (xs : List X) → list_any t xs ≡ false → list_any t (xs ++ []) ≡ false
       none_more t xs e = any_of_both t xs [] ∙ rw e refl
 
       no_more : (b : Bool) → b ≡ false → (b || false) ≡ false
       no_more b e = rw e refl
 
+-- a request's touch, by the change and the state after it
+touch_is : (s s' : State) (e : Entry) (c : RegistryChange) (x : Reached) (t : Touch) → verdict s e ≡ Accepted → s' ≡ step s e
+    → c ≡ change s.registry e.edit → x ≡ reached s.registry c → t ≡ with_after x s'.registry → t ≡ touched_by s e
+touch_is s s' e c x t said is makes foreseen touched =
+    touched
+    ∙ (ap (λ (y : Reached). with_after y s'.registry) (foreseen ∙ ap (reached s.registry) makes)
+    ∙ ap (with_after (reached s.registry (change s.registry e.edit))) (steps s s' e said is).next)
+
 -- what an accepted request touches is all that isn't whole after it
 pub pends :
-    (b : Bundle) (s s' : State) (e : Entry) (x : Reached) (t : Touch) → ValidState s → IsLawful e.edit → verdict s e ≡ Accepted → s' ≡ step s e → x ≡ reached s.registry e.edit
-    → t ≡ with_after x s'.registry → IsOf b s.registry → AgreesBut t b s'.registry
-pends b s s' e x t valid lawful said is foreseen touched whole =
-    let after = steps s s' e said is in
-    let made : t ≡ with_after (reached s.registry e.edit) (next s.registry e.edit) = touched ∙ (ap (λ (y : Reached). with_after y s'.registry) foreseen ∙ ap (with_after (reached s.registry e.edit)) after.next) in
-    subst (λ (r : Registry). AgreesBut t b r) (sym after.next)
-    (subst (λ (u : Touch). AgreesBut u b (next s.registry e.edit)) (sym made) (agrees_but b s.registry e.edit valid.registry lawful after.accepted whole))
+    (b : Bundle) (s s' : State) (e : Entry) (c : RegistryChange) (x : Reached) (t : Touch) → ValidState s → verdict s e ≡ Accepted
+    → s' ≡ step s e → c ≡ change s.registry e.edit → x ≡ reached s.registry c → t ≡ with_after x s'.registry → IsOf b s.registry
+    → AgreesBut t b s'.registry
+pends b s s' e c x t valid said is makes foreseen touched whole =
+    let d = change s.registry e.edit in
+    let after : s'.registry ≡ with_change s.registry d = (steps s s' e said is).next ∙ sym (change_is_next s.registry e.edit) in
+    let made : t ≡ with_after (reached s.registry d) (with_change s.registry d) =
+    touched ∙ (ap (λ (y : Reached). with_after y s'.registry) (foreseen ∙ ap (reached s.registry) makes) ∙ ap (with_after (reached s.registry d)) after) in
+    subst (λ (r : Registry). AgreesBut t b r) (sym after)
+    (subst (λ (u : Touch). AgreesBut u b (with_change s.registry d)) (sym made) (agrees_but b s.registry d valid.registry whole))
 
 pub counted :
-    (s s' : State) (e : Entry) (x : Reached) (t : Touch) (n : ℕ) → verdict s e ≡ Accepted → s' ≡ step s e → x ≡ reached s.registry e.edit → t ≡ with_after x s'.registry
-    → n ≡ length t.sessions → n ≡ parts_touched s e
-counted s s' e x t n said is foreseen touched count =
-    let after = steps s s' e said is in
-    let made : t ≡ with_after (reached s.registry e.edit) (next s.registry e.edit) = touched ∙ (ap (λ (y : Reached). with_after y s'.registry) foreseen ∙ ap (with_after (reached s.registry e.edit)) after.next) in
+    (s s' : State) (e : Entry) (c : RegistryChange) (x : Reached) (t : Touch) (n : ℕ) → verdict s e ≡ Accepted → s' ≡ step s e
+    → c ≡ change s.registry e.edit → x ≡ reached s.registry c → t ≡ with_after x s'.registry → n ≡ length t.sessions
+    → n ≡ parts_touched s e
+counted s s' e c x t n said is makes foreseen touched count =
     count
-    ∙ (ap (λ (u : Touch). length u.sessions) made
-    ∙ sym (ap (λ v. when_accepted v (length (with_after (reached s.registry e.edit) (next s.registry e.edit)).sessions)) said))
+    ∙ (ap (λ (u : Touch). length u.sessions) (touch_is s s' e c x t said is makes foreseen touched)
+    ∙ sym (ap (λ v. when_accepted v (length (touched_by s e).sessions)) said))
 
 -- Which requests are accepted.
 
@@ -93,7 +106,7 @@ rests_by n m (Reused kind subject) d says not = refl
 rests_by n m (Refused x) d says not = refl
 
 pub none_touched : (s : State) (e : Entry) (n : ℕ) (d : Decision) → Says n (verdict s e) d → (IsAccepted d → ⊥) → parts_touched s e ≡ 0
-none_touched s e n d says not = rests_by n (length (with_after (reached s.registry e.edit) (next s.registry e.edit)).sessions) (verdict s e) d says not
+none_touched s e n d says not = rests_by n (length (touched_by s e).sessions) (verdict s e) d says not
 
 pub same_state : (s : State) (e : Entry) (n : ℕ) (d : Decision) → Says n (verdict s e) d → (IsAccepted d → ⊥) → step s e ≡ s
 same_state s e n d says not = by_either (either s e) where

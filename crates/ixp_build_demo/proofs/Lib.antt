@@ -1,4 +1,6 @@
+pub mod Steps
 pub mod AfterRequests
+pub mod EditsBuilt
 pub mod Equals
 pub mod Parts
 pub mod SameRequests

@@ -7,13 +7,14 @@ use Rattle.ixp_registry.specs.declared.rules.Action.TheVariants.{AsIs}
 use Rattle.ixp_registry.specs.declared.rules.Way.TheVariants.{Advertise}
 use Rattle.ixp_machine_edits.specs.declared.edit.Edit.TheVariants.{SetRules}
 use Rattle.ixp_machine_edits.specs.declared.edit.NewRule.{NewRule}
-use Rattle.ixp_machine_edits.specs.Edits.{next}
+use Rattle.ixp_machine_edits.specs.Edits.{change, next}
 use Rattle.ixp_machine_steps.specs.declared.state.Entry.{Entry}
 use Rattle.ixp_machine_steps.specs.declared.state.State.{State}
 use Rattle.ixp_machine_steps.specs.Steps.{Verdict, Accepted, Repeated, Reused, Refused, step, verdict}
 use Rattle.ixp_machine_steps.specs.Openings.{first_state}
 use Rattle.ixp_registry_demo.specs.Demo.{demo}
 use Rattle.ixp_build_demo.specs.Counts.{line}
+use Rattle.ixp_build_pending.specs.declared.touch.Touch.{Touch}
 use Rattle.ixp_build_touches.specs.Touched.{reached, with_after}
 
 -- routes are advertised to everybody as they are
@@ -47,9 +48,13 @@ when_accepted Repeated n = 0
 when_accepted (Reused kind subject) n = 0
 when_accepted (Refused x) n = 0
 
+-- what a request touches, if it is accepted
+abbrev pub touched_by : State → Entry → Touch
+touched_by s e = with_after (reached s.registry (change s.registry e.edit)) (next s.registry e.edit)
+
 -- how many parts a request touches
 abbrev pub parts_touched : State → Entry → ℕ
-parts_touched s e = when_accepted (verdict s e) (length (with_after (reached s.registry e.edit) (next s.registry e.edit)).sessions)
+parts_touched s e = when_accepted (verdict s e) (length (touched_by s e).sessions)
 
 -- how many are regenerated, if those that it touches are after each request
 abbrev pub parts_made : State → List Entry → ℕ

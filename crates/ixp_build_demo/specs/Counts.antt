@@ -34,4 +34,5 @@ abbrev pub line : List ℕ → ℕ → List ℕ
 line word n = word ++ (decimal n ++ 10 ∷ [])
 
 abbrev pub counts_text : Counts → List ℕ
-counts_text c = line (codes "members ") c.members ++ (line (codes "sessions ") c.sessions ++ line (codes "patterns ") c.patterns)
+counts_text c = line (codes "members ") c.members
+    ++ (line (codes "sessions ") c.sessions ++ line (codes "patterns ") c.patterns)

@@ -14,12 +14,14 @@ use Rattle.ixp_compile.specs.Generated.{mode_of}
 
 -- the set of the nets that the prefixes cover, where the router has a next hop of routes to be dropped
 abbrev pub covered_size : Router → List Prefix → ℕ
-covered_size router prefixes = if is_none router.blackhole then 0 else length (blocks prefixes More (bits_of router.family))
+covered_size router prefixes =
+    if is_none router.blackhole then 0 else length (blocks prefixes More (bits_of router.family))
 
 -- both sets of a session whose address is held to its member's lists
 abbrev pub set_sizes : Router → Session → ℕ
 set_sizes router s =
-    if s.address.irr then length (blocks s.prefixes (mode_of s.address.more) router.high) + covered_size router s.prefixes else 0
+    if s.address.irr then length (blocks s.prefixes (mode_of s.address.more) router.high)
+    + covered_size router s.prefixes else 0
 
 abbrev pub sessions_at : Registry → Router → Interface → ℕ
 sessions_at r router i = if_there (session_at r router i) 0 (λ s. 1)

@@ -1,5 +1,5 @@
 //! Edits, one after the other, and the texts that follow them.
-ghost use Rattle.std.specs.Prelude.{◌≡◌, ◌≤◌, ◌<◌, ◌-◌, ◌^◌, true, length, IfOk, OnOk};
+ghost use Rattle.std.specs.Prelude.{◌≡◌, ◌≤◌, ◌<◌, ◌-◌, ◌^◌, true, length, IfOk, OnOk, Some};
 ghost use Rattle.ixp_build.specs.Bundles.{AgreesBut, IsOf};
 ghost use Rattle.ixp_registry_demo.specs.Demo.{demo};
 ghost use Rattle.ixp_build_demo.specs.Builds.{
@@ -11,16 +11,18 @@ ghost use Rattle.ixp_build_demo.specs.Builds.{
 };
 ghost use Rattle.ixp_registry.specs.Valid.{Valid};
 ghost use Rattle.ixp_machine_steps.specs.States.{ValidState};
-ghost use Rattle.ixp_machine_steps.specs.Steps.{step};
+ghost use Rattle.ixp_machine_edits.specs.Edits.{IsLawful};
+ghost use Rattle.ixp_machine_steps.specs.Steps.{Accepted, step, verdict};
+ghost use Rattle.ixp_members.specs.Owners.{owner_of};
 
 use crate::build_figures::Builds;
 use crate::comparing::is_equal;
 use crate::requests::request_of;
 use ixp_build::{Bundle, make};
 use ixp_build_touches::{Touch, reached_by};
-use ixp_machine::{Decision, read_edit, request};
+use ixp_machine::{Decision, apply_prepared, decide, prepare, read_edit};
 use ixp_machine_steps::{Entry, State, first_state};
-use ixp_registry::Registry;
+use ixp_registry::{Owner, Registry};
 use std::alloc::{AllocError, Global};
 
 /// The edits are at most so many.
@@ -38,13 +40,40 @@ fn rebuild(
     ensures parts { IfOk result (λ n. n ≡ length touch.now.sessions) }
     ensures whole { OnOk result (IsOf bundle.new state.now.registry) }
 {
-    let order = bundle.order(alloc, state, touch)?;
+    let order = bundle.order(alloc, &state.registry, state.accepted, touch)?;
     let parts = order.sessions.len() as u64;
     let made = make(alloc, order)?;
     match bundle.install(alloc, made) {
         Ok(()) => Ok(parts),
         Err(_) => Err(AllocError),
     }
+}
+
+/// Makes a request of the owner that is accepted, and after it the texts that it touches. It tells how many
+/// parts these are.
+fn follow_accepted(
+    alloc: Global,
+    state: &mut State,
+    bundle: &mut Bundle,
+    owner: Owner,
+    entry: Entry,
+) -> Result<u64, AllocError>
+    requires valid { ValidState state.old }
+    requires owner { owner_of state.old.registry entry.secret ≡ Some owner }
+    requires lawful { IsLawful entry.edit }
+    requires accepted { verdict state.old entry ≡ Accepted }
+    requires room { state.old.accepted < 2 ^ 64 - 1 }
+    requires whole { IsOf bundle.old state.old.registry }
+    ensures parts { IfOk result (λ n. n ≡ parts_touched state.old entry) }
+    ensures step { OnOk result (state.new ≡ step state.old entry) }
+    ensures valid { ValidState state.new }
+    ensures whole { OnOk result (IsOf bundle.new state.new.registry) }
+{
+    let prepared = prepare(alloc, state, owner, entry)?;
+    let reached = reached_by(alloc, &state.registry, &prepared.change)?;
+    apply_prepared(alloc, state, prepared)?;
+    let touch = reached.touch_after(alloc, &state.registry)?;
+    rebuild(alloc, state, bundle, &touch)
 }
 
 /// Makes a request, and after it the texts that it touches. It tells how many parts these are.
@@ -63,12 +92,8 @@ fn follow(
     ensures whole { OnOk result (IsOf bundle.new state.new.registry) }
 {
     read_edit(&entry.edit);
-    let reached = reached_by(alloc, &state.registry, &entry.edit)?;
-    match request(alloc, state, entry)? {
-        Decision::Accepted(_) => {
-            let touch = reached.touch_after(alloc, &state.registry)?;
-            rebuild(alloc, state, bundle, &touch)
-        }
+    match decide(alloc, state, &entry)? {
+        Decision::Accepted(owner) => follow_accepted(alloc, state, bundle, owner, entry),
         Decision::Repeated(_) => Ok(0),
         Decision::Refused(_) => Ok(0),
     }
@@ -110,7 +135,7 @@ pub fn builds(alloc: Global, registry: Registry, members: u32) -> Result<Builds,
     ensures equal { IfOk result (λ b. b.is_equal ≡ true) }
 {
     let mut state = first_state(alloc, registry);
-    let mut bundle = Bundle::open(alloc, &state)?;
+    let mut bundle = Bundle::open(alloc, &state.registry, state.accepted)?;
     let count = members.min(MOST_EDITS);
     let rebuilt = follow_all(alloc, &mut state, &mut bundle, count)?;
     let is_equal = is_equal(alloc, &bundle, &state.registry)?;

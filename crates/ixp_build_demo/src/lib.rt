@@ -6,8 +6,9 @@
 //!
 //! [`builds`] shows that a text follows edits. After all texts are made, the staff sets the rules of one
 //! member after the other, of a hundred at most. After each edit the parts that it touches are regenerated;
-//! `specs/Builds.antt` says how many these are. In the end the text is compared with that of full generation.
-//! [`put_builds`] writes both in two lines.
+//! `specs/Builds.antt` says how many these are. In the end the text is compared with that of full
+//! generation. [`put_builds`] writes both in two lines. That this is so after any accepted edits of any
+//! registry is the law [`accepted_edits_build_fully`].
 #![tactic(auto)]
 
 mod build_figures;
@@ -15,6 +16,7 @@ mod comparing;
 mod counting;
 mod figures;
 mod following;
+mod laws;
 mod requests;
 mod sessions;
 
@@ -22,3 +24,4 @@ pub use build_figures::{Builds, put_builds};
 pub use counting::counts;
 pub use figures::{Counts, put_counts};
 pub use following::builds;
+pub use laws::accepted_edits_build_fully;

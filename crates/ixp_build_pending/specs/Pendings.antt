@@ -22,7 +22,8 @@ lists_session t handle n = list_any (is_key handle n) t.sessions
 
 -- no header and no session is listed twice
 abbrev pub ListsOnce : Touch → Type 0
-ListsOnce t = Often 1 (λ h. h) t.headers × ((handle : List ℕ) (n : ℕ) → count (is_key handle n) t.sessions ≤ 1)
+ListsOnce t = Often 1 (λ h. h) t.headers
+    × ((handle : List ℕ) (n : ℕ) → count (is_key handle n) t.sessions ≤ 1)
 
 -- The counts.
 
@@ -46,7 +47,8 @@ pub record IsNothing (p : Pending) : Type 0 where
 -- after an edit each text that it touched has its count, and the others have theirs
 pub record IsNoted (c : ℕ) (t : Touch) (p q : Pending) : Type 0 where
   pub headers : (h : List ℕ) → header_count q h ≡ (if lists_header t h then c else header_count p h)
-  pub sessions : (h : List ℕ) (n : ℕ) → session_count q h n ≡ (if lists_session t h n then c else session_count p h n)
+  pub sessions : (h : List ℕ) (n : ℕ)
+      → session_count q h n ≡ (if lists_session t h n then c else session_count p h n)
   pub roas : q.roas ≡ (if t.roas then c else p.roas)
 
 -- what is listed is what has a count, each text once

@@ -1,4 +1,4 @@
--- Which texts an edit touches. A header is named by its router's handle, a session's part by that and the
+-- Which texts a change touches. A header is named by its router's handle, a session's part by that and the
 -- interface's number.
 use Rattle.std.specs.Prelude.{ℕ, ◌&&◌, not, Bool, false, List, [], ◌∷◌, ◌++◌, Option, Some, None, filter, filter_map, flat_map, if◌then◌else◌}
 use Rattle.std.specs.Option.{is_some}
@@ -8,7 +8,7 @@ use Rattle.ixp_registry.specs.declared.registry.Registry.{Registry}
 use Rattle.ixp_registry.specs.declared.router.Router.{Router}
 use Rattle.ixp_registry.specs.Keys.{interface_key, router_key}
 use Rattle.ixp_registry.specs.Sessions.{is_session}
-use Rattle.ixp_machine_edits.specs.declared.edit.Edit.{Edit}
+use Rattle.ixp_registry_change.specs.declared.change.RegistryChange.{RegistryChange}
 use Rattle.ixp_build_touches.specs.declared.reach.Reach.{Reach}
 use Rattle.ixp_build_touches.specs.declared.touch.Reached.{Reached}
 use Rattle.ixp_build_pending.specs.declared.touch.Touch.{Touch}
@@ -30,12 +30,14 @@ sessions_within x r = flat_map (λ i. filter_map (key_within x r i) r.routers) r
 -- the router with the handle has a session at the interface with the number
 abbrev pub has_session : Registry → SessionKey → Bool
 has_session r k =
-    if_there (find router_key k.0 r.routers) false (λ q. if_there (find interface_key (k.1 ∷ []) r.interfaces) false (is_session r q))
+    if_there (find router_key k.0 r.routers) false
+    (λ q. if_there (find interface_key (k.1 ∷ []) r.interfaces) false (is_session r q))
 
 -- the sessions reached that there were, and those that come
-abbrev pub touched_sessions : Registry → Registry → Edit → List SessionKey
-touched_sessions before after e =
-    sessions_within (reach before e) before ++ filter (λ k. not (has_session before k)) (sessions_within (reach before e) after)
+abbrev pub touched_sessions : Registry → Registry → RegistryChange → List SessionKey
+touched_sessions before after c =
+    sessions_within (reach before c) before
+    ++ filter (λ k. not (has_session before k)) (sessions_within (reach before c) after)
 
 -- Headers.
 
@@ -49,33 +51,38 @@ abbrev pub has_router : Registry → List ℕ → Bool
 has_router r handle = is_some (find router_key handle r.routers)
 
 -- the headers reached that there were, and those that come
-abbrev pub touched_headers : Registry → Registry → Edit → List (List ℕ)
-touched_headers before after e =
-    headers_within (header_reach e) before ++ filter (λ h. not (has_router before h)) (headers_within (header_reach e) after)
+abbrev pub touched_headers : Registry → Registry → RegistryChange → List (List ℕ)
+touched_headers before after c =
+    headers_within (header_reach c) before
+    ++ filter (λ h. not (has_router before h)) (headers_within (header_reach c) after)
 
 -- All together.
 
--- what an edit touches, of the registry before it and of the one after it
-abbrev pub touch : Registry → Registry → Edit → Touch
-touch before after e = record {
-  headers = touched_headers before after e;
-  sessions = touched_sessions before after e;
-  roas = touches_roas e;
+-- what a change touches, of the registry before it and of the one after it
+abbrev pub touch : Registry → Registry → RegistryChange → Touch
+touch before after c = record {
+  headers = touched_headers before after c;
+  sessions = touched_sessions before after c;
+  roas = touches_roas c;
 }
 
--- The same in two steps, for who makes the edit in place: what is reached before it, and then what there is
+-- The same in two steps, for who makes the change in place: what is reached before it, and then what there is
 -- after it.
 
--- what an edit reaches in the registry that it meets
-abbrev pub reached : Registry → Edit → Reached
-reached r e = record {
-  headers = header_reach e;
-  sessions = reach r e;
-  may_bring = may_bring e;
-  before = record { headers = headers_within (header_reach e) r; sessions = sessions_within (reach r e) r; roas = touches_roas e };
+-- what a change reaches in the registry that it meets
+abbrev pub reached : Registry → RegistryChange → Reached
+reached r c = record {
+  headers = header_reach c;
+  sessions = reach r c;
+  may_bring = may_bring c;
+  before = record {
+    headers = headers_within (header_reach c) r;
+    sessions = sessions_within (reach r c) r;
+    roas = touches_roas c;
+  };
 }
 
--- that, and what is reached in the registry after the edit. A text may be listed twice.
+-- that, and what is reached in the registry after the change. A text may be listed twice.
 abbrev pub with_after : Reached → Registry → Touch
 with_after x after = if x.may_bring
     then record {

@@ -16,9 +16,9 @@ use Rattle.ixp_cli_plain.specs.declared.end.End.{End}
 use Rattle.ixp_cli_plain.specs.Restores.{Store}
 use Rattle.ixp_cli_plain.specs.Runs.{CanBeLoaded, Flow, Outside, status_of}
 use Rattle.ixp_cli_plain.specs.Sessions.{Unloaded}
-use Rattle.ixp_cli_plain.proofs.Loadable.{of_store}
+use Rattle.ixp_cli_plain.proofs.Loadable.{of_store, one_status}
 use Rattle.ixp_cli.specs.Waits.{AllRuns, DoorAt, IsServerEnd, ServedAll, ServesAll, WaitRuns}
-use Rattle.ixp_cli.proofs.Statuses.{one_status, one_wait}
+use Rattle.ixp_cli.proofs.Statuses.{one_wait}
 
 no : false ≡ true → ⊥
 no e = cc

@@ -17,10 +17,10 @@ use Rattle.ixp_cli_plain.specs.declared.end.End.TheVariants.{Done, WriteFault, N
 use Rattle.ixp_cli_plain.specs.Restores.{Store}
 use Rattle.ixp_cli_plain.specs.Runs.{CanBeLoaded, Flow, Outside, Runs, status_of}
 use Rattle.ixp_cli_plain.specs.Sessions.{Unloaded}
-use Rattle.ixp_cli_plain.proofs.Loadable.{of_store}
+use Rattle.ixp_cli_plain.proofs.Loadable.{of_store, one_status}
 use Rattle.ixp_cli_plain.proofs.Loadable as plain
 use Rattle.ixp_cli.specs.Waits.{AllRuns, DoorAt, IsEndOf, IsServerEnd, WaitEnds, objects}
-use Rattle.ixp_cli.proofs.Statuses.{failed_status, fails, holds_at, one_status, served_status, serves}
+use Rattle.ixp_cli.proofs.Statuses.{failed_status, fails, holds_at, served_status, serves}
 
 no : false ≡ true → ⊥
 no e = cc

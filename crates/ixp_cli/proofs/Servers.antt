@@ -16,8 +16,9 @@ use Rattle.ixp_cli_plain.specs.declared.end.End.{End}
 use Rattle.ixp_cli_plain.specs.Restores.{Store}
 use Rattle.ixp_cli_plain.specs.Runs.{Flow, Outside, status_of}
 use Rattle.ixp_cli_plain.proofs.NoDoor.{never_door}
+use Rattle.ixp_cli_plain.proofs.Loadable.{one_status}
 use Rattle.ixp_cli.specs.Waits.{AllRuns, DoorAt, IsEndOf, IsServed, IsServerEnd, ServedAll, WaitEnds, WaitRuns, served_lines}
-use Rattle.ixp_cli.proofs.Statuses.{holds_at, one_status, one_wait, served_status, serves, unloaded_status, unloads}
+use Rattle.ixp_cli.proofs.Statuses.{holds_at, one_wait, served_status, serves, unloaded_status, unloads}
 
 no : false ≡ true → ⊥
 no e = cc

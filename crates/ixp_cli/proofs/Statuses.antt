@@ -55,9 +55,6 @@ pub served_status : (s : Served) (end : End) → end ≡ end_by s.end s.requests
 served_status s end is = by_end serves end _ is (served_by s.end s.requests)
 
 -- two facts of one status
-pub one_status : (n m : ℕ) → ◌≡◌ {A = Option ℕ} (Some n) (Some m) → n ≡ m
-one_status n m e = cc
-
 pub one_wait : (a b : Waiting) → ◌≡◌ {A = Option Command} (Some (Wait a)) (Some (Wait b)) → b ≡ a
 one_wait a b e = cc
 

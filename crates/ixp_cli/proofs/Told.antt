@@ -30,9 +30,9 @@ use Rattle.ixp_cli_plain.specs.Sessions.{Unloaded}
 use Rattle.ixp_cli_plain.specs.Upgraded.{Becomes, IsDamagedFor, IsWholeRaise}
 use Rattle.ixp_cli_plain.proofs.Dumping as plain
 use Rattle.ixp_cli_plain.proofs.Raising as raising
-use Rattle.ixp_cli_plain.proofs.Loadable.{is_damage, is_version}
+use Rattle.ixp_cli_plain.proofs.Loadable.{is_damage, is_version, one_status}
 use Rattle.ixp_cli.specs.Waits.{AllRuns, DoorAt, IsEndOf, IsServerEnd, WaitEnds, loads_store, objects}
-use Rattle.ixp_cli.proofs.Statuses.{holds_at, one_status, served_status, serves}
+use Rattle.ixp_cli.proofs.Statuses.{holds_at, served_status, serves}
 
 no : false ≡ true → ⊥
 no e = cc

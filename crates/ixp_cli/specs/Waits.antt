@@ -47,11 +47,13 @@ routers_text (Some n) = codes "rtr " ++ (decimal n ++ 10 ∷ [])
 abbrev pub served_lines : ℕ → Option ℕ → List ℕ
 served_lines n routers = served_text n ++ routers_text routers
 
--- the output took that so many links were served, and so many of routers, or a first part of it, and a write failed
+-- the output took that so many links were served, and so many of routers, or a first part of it, and a write
+-- failed
 abbrev pub IsServed : ℕ → Option ℕ → Flow → Flow → End → Type 0
 IsServed n routers output output' end =
     ((end ≡ Done) × Takes output.bytes output'.bytes (served_lines n routers))
-    ⊎ ((end ≡ WriteFault) × TakesPart output.bytes output'.bytes (served_lines n routers) × Rose output.faults output'.faults)
+    ⊎ ((end ≡ WriteFault) × TakesPart output.bytes output'.bytes (served_lines n routers)
+    × Rose output.faults output'.faults)
 
 -- how a run ends by how its server did, and what is written
 abbrev pub IsServerEnd : ℕ → Flow → Flow → ServerEnd → End → Type 0
@@ -60,7 +62,8 @@ IsServerEnd n output output' server.DoorFault end = (end ≡ DoorFault) × (outp
 IsServerEnd n output output' server.NoMemory end = (end ≡ NoMemory) × (output' ≡ output)
 IsServerEnd n output output' (server.Unopened fault) end = Unloaded fault end × (output' ≡ output)
 
--- A server of so many links was run, with a further door for routers or without one, and the run ends as it did.
+-- A server of so many links was run, with a further door for routers or without one, and the run ends as it
+-- did.
 abbrev pub ServeRuns : Bool → ℕ → Flow → Flow → Store → Store → DoorAt → DoorAt → End → Type 0
 ServeRuns further n output output' store store' door door' end =
     (e : ServerEnd) × ServerEnds further store.rows store'.rows store.faults store'.faults door.given door'.given door.faults door'.faults n e
@@ -79,14 +82,17 @@ objects input output store given = record {
 }
 
 -- How a command ends that waits. A session doesn't touch the door, and a server doesn't read.
-abbrev pub WaitEnds : Waiting → Flow → Flow → Flow → Flow → Store → Store → Option ℕ → Option ℕ → DoorAt → DoorAt → End → Type 0
+abbrev pub WaitEnds : Waiting → Flow → Flow → Flow → Flow → Store → Store → Option ℕ → Option ℕ → DoorAt
+    → DoorAt → End → Type 0
 WaitEnds Session input input' output output' store store' given given' door door' end =
     SessionRuns (objects input output store given) (objects input' output' store' given') end × (door' ≡ door)
 WaitEnds (Serve port workers links routers) input input' output output' store store' given given' door door' end =
     ServeRuns (is_some routers) links output output' store store' door door' end × (input' ≡ input)
 
--- A run of a command that waits: it ends in one way, which its status says, and of which a line on the errors tells.
-pub record WaitRuns (waiting : Waiting) (before after : Outside) (door door' : DoorAt) (status : ℕ) : Type 0 where
+-- A run of a command that waits: it ends in one way, which its status says, and of which a line on the errors
+-- tells.
+pub record WaitRuns (waiting : Waiting) (before after : Outside) (door door' : DoorAt)
+    (status : ℕ) : Type 0 where
   pub end : End
   pub ends : WaitEnds waiting before.input after.input before.output after.output before.store after.store before.second after.second door door' end
   pub told : IsTold end before.errors after.errors (Some status)
@@ -95,13 +101,15 @@ pub record WaitRuns (waiting : Waiting) (before after : Outside) (door door' : D
 abbrev pub AllRuns : Option Command → Outside → Outside → DoorAt → DoorAt → ℕ → Type 0
 AllRuns command before after door door' status =
     (PlainRuns command before after (Some status) × (door' ≡ door))
-    ⊎ ((waiting : Waiting) × (command ≡ Some (Wait waiting)) × WaitRuns waiting before after door door' status)
+    ⊎ ((waiting : Waiting) × (command ≡ Some (Wait waiting))
+    × WaitRuns waiting before after door door' status)
 
--- The door gave as many links as were asked for, which is written. How many a further door gave is written exactly
--- where there was one.
+-- The door gave as many links as were asked for, which is written. How many a further door gave is written
+-- exactly where there was one.
 abbrev pub ServedAll : Bool → ℕ → Flow → Flow → DoorAt → DoorAt → Type 0
 ServedAll further n output output' door door' =
-    Gave door.given door'.given n × ((routers : Option ℕ) × (is_some routers ≡ further) × Takes output.bytes output'.bytes (served_lines n routers))
+    Gave door.given door'.given n × ((routers : Option ℕ) × (is_some routers ≡ further)
+    × Takes output.bytes output'.bytes (served_lines n routers))
 
 -- All was served, or memory ran out.
 abbrev pub ServesAll : Bool → ℕ → Outside → Outside → DoorAt → DoorAt → ℕ → Type 0

@@ -21,8 +21,9 @@ ghost use Rattle.ixp_cli.specs.Waits.{
   loads_store,
 };
 
-/// A server that ends with status 0 was given as many links as were asked for, where its door tells that, and
-/// has written so; and it has written how many links a further door gave exactly where routers were to be served.
+/// A server that ends with status 0 was given as many links as were asked for, where its door tells that,
+/// and has written so; and it has written how many links a further door gave exactly where routers were to
+/// be served.
 #[tactic(auto, using(crate::proofs::Servers::all_served))]
 pub fn servers_serve_all_links()
     ensures { (port workers n : ℕ) (routers : Option RtrPort) (before after : Outside) (door door' : DoorAt)
@@ -30,9 +31,9 @@ pub fn servers_serve_all_links()
         → ServedAll (is_some routers) n before.output after.output door door' }
 {}
 
-/// A server over a store that can be loaded ends with status 0, was given as many links as were asked for, and has
-/// written so, unless a call of the store, the output or the door fails, or memory runs out. What the links were
-/// answered isn't said.
+/// A server over a store that can be loaded ends with status 0, was given as many links as were asked for,
+/// and has written so, unless a call of the store, the output or the door fails, or memory runs out. What
+/// the links were answered isn't said.
 pub fn servers_are_complete()
     ensures { (port workers n status : ℕ) (routers : Option RtrPort) (before after : Outside)
         (door door' : DoorAt) → CanBeLoaded before.store → ¬ (Rose before.store.faults after.store.faults)
@@ -72,9 +73,9 @@ pub fn dumps_and_demos_are_complete()
         → AllRuns (Some (Demo n)) before after door door' status → IsWhole (demo_text n) before after status }
 {}
 
-/// A store of the first version of a state becomes today's store of it, and one that has the rows of a state
-/// that requests lead to, or none, stays as it is; `upgrade` writes how many routers have new rows: with status
-/// 0, unless a call of the store or the output fails or memory runs out.
+/// A store of the first version of a state becomes today's store of it, and one that has the rows of a
+/// state that requests lead to, or none, stays as it is; `upgrade` writes how many routers have new rows:
+/// with status 0, unless a call of the store or the output fails or memory runs out.
 pub fn upgrades_are_complete()
     ensures { (now : Table) (n status : ℕ) (before after : Outside) (door door' : DoorAt)
         → Becomes before.store now n → ¬ (Rose before.store.faults after.store.faults)
@@ -85,8 +86,8 @@ pub fn upgrades_are_complete()
 /// Damage is told only of a store that has rows, but those of no state that requests lead to, and isn't
 /// older; and the commands that load a store tell it of each such store, but that the keeper may fail or
 /// memory run out. `upgrade` tells it of stores whose rows are those of a state in neither version, and of
-/// each such. An older version is told only where the row of the version says so, and the commands that load a
-/// store tell it there.
+/// each such. An older version is told only where the row of the version says so, and the commands that
+/// load a store tell it there.
 pub fn damaged_and_old_stores_are_told()
     ensures damaged { (command : Option Command) (before after : Outside) (door door' : DoorAt)
         → AllRuns command before after door door' 6 → WhereTold before.store.rows (IsDamagedFor command) }

@@ -57,11 +57,12 @@ where
     }
 }
 
-/// Runs the command that the words are: `session` over the input and the output as one link, `serve` over the
-/// links of the door, and of a further one for routers, and all others as [`run_plain`](crate::run_plain) does. With `session` the status is 0 where
-/// the link closed, 2 where its input held what is no request or ended inside one, or the link had all the requests
-/// that it may have. With `serve` it is 0 where as many links were served as the words say, and 7 where the door
-/// failed or the further one couldn't be opened. While it serves, `gate` is passed by the thread that makes texts.
+/// Runs the command that the words are: `session` over the input and the output as one link, `serve` over
+/// the links of the door, and of a further one for routers, and all others as
+/// [`run_plain`](crate::run_plain) does. With `session` the status is 0 where the link closed, 2 where its
+/// input held what is no request or ended inside one, or the link had all the requests that it may have.
+/// With `serve` it is 0 where as many links were served as the words say, and 7 where the door failed or
+/// the further one couldn't be opened. While it serves, `gate` is passed by the thread that makes texts.
 pub fn run<
     R: Threads + Wait + Sync,
     S: Source,

@@ -13,7 +13,7 @@ use std::thread::Threads;
 
 /// Writes how many links of routers were served, where there was a door for them.
 #[tactic(auto, using(crate::proofs::Lines::lines))]
-fn write_routers<K: Sink>(output: &mut K, routers: Option<u32>) -> Result<(), Failed>
+fn write_routers<K: Sink>(output: &mut K, routers: Option<u64>) -> Result<(), Failed>
     ensures ok { OnOk result (Takes (K.written output.old) (K.written output.new) (routers_text routers)) }
     ensures err { OnErr result
         (TakesPart (K.written output.old) (K.written output.new) (routers_text routers)) }
@@ -21,27 +21,27 @@ fn write_routers<K: Sink>(output: &mut K, routers: Option<u32>) -> Result<(), Fa
     ensures cause { OnErr result (Rose (K.write_faults output.old) (K.write_faults output.new)) }
 {
     match routers {
-        Some(links) => write_counted(output, b"rtr ", u64::from(links)),
+        Some(links) => write_counted(output, b"rtr ", links),
         None => Ok(()),
     }
 }
 
 /// Writes how many links were served, and how many of routers.
 #[tactic(auto, using(crate::proofs::Lines::lines))]
-fn write_served<K: Sink>(output: &mut K, links: u32, routers: Option<u32>) -> Result<(), Failed>
+fn write_served<K: Sink>(output: &mut K, links: u64, routers: Option<u64>) -> Result<(), Failed>
     ensures ok { OnOk result
         (Takes (K.written output.old) (K.written output.new) (served_lines links routers)) }
     ensures err { OnErr result
         (TakesPart (K.written output.old) (K.written output.new) (served_lines links routers)) }
     ensures cause { OnErr result (Rose (K.write_faults output.old) (K.write_faults output.new)) }
 {
-    write_counted(output, b"served ", u64::from(links))?;
+    write_counted(output, b"served ", links)?;
     write_routers(output, routers)?;
     Ok(())
 }
 
 /// The same, and how the run ends.
-fn written<K: Sink>(output: &mut K, links: u32, routers: Option<u32>) -> End
+fn written<K: Sink>(output: &mut K, links: u64, routers: Option<u64>) -> End
     ensures { IsServed links routers
         (record { bytes = K.written output.old; faults = K.write_faults output.old })
         (record { bytes = K.written output.new; faults = K.write_faults output.new }) result }
@@ -62,8 +62,8 @@ fn door_for(routers: Option<RtrPort>) -> Option<RtrDoor>
     }
 }
 
-/// Loads the store's state, serves so many links of the door at the port by so many workers, and those of routers at
-/// another port, and writes how many were served.
+/// Loads the store's state, serves so many links of the door at the port by so many workers, and those of
+/// routers at another port, and writes how many were served.
 pub(crate) fn run_server<
     R: Threads + Wait + Sync,
     K: Sink,
@@ -81,13 +81,17 @@ pub(crate) fn run_server<
     gate: &G,
     port: u16,
     workers: u32,
-    links: u32,
+    links: u64,
     routers: Option<RtrPort>,
 ) -> End
 where
     D::Link: Drop + Send,
     requires few { workers ≤ 62 }
-    ensures { ServeRuns (is_some routers) links (record { bytes = K.written output.old; faults = K.write_faults output.old })
+    ensures { ServeRuns (is_some routers) links (record {
+      bytes = K.written output.old;
+      faults =
+          K.write_faults output.old;
+    })
         (record { bytes = K.written output.new; faults = K.write_faults output.new })
         (record { rows = P.table keeper.old; faults = P.faults keeper.old })
         (record { rows = P.table keeper.new; faults = P.faults keeper.new })

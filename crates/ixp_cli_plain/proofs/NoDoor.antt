@@ -2,6 +2,7 @@
 use Rattle.std.proofs.Common.{◌≡◌, inl, inr, ℕ, Option, Some, None, subst, ap, sym, ◌∙◌, arith, refl}
 use Rattle.ixp_store_words.specs.declared.fault.LoadFault.{LoadFault}
 use Rattle.ixp_store_words.specs.declared.fault.LoadFault.TheVariants as load
+use Rattle.ixp_cli_plain.proofs.Loadable.{one_status}
 use Rattle.ixp_cli_plain.specs.declared.command.Command.{Command}
 use Rattle.ixp_cli_plain.specs.declared.command.Command.TheVariants.{Ask, Ixf, Restore, Dump, Upgrade, Demo, Wait}
 use Rattle.ixp_cli_plain.specs.declared.end.End.{End}
@@ -42,9 +43,6 @@ is_door (Damaged what) e = let bad : 6 ≡ 7 = e in absurd (omega (arith, bad))
 is_door (OldVersion found) e = let bad : 10 ≡ 7 = e in absurd (omega (arith, bad))
 is_door DoorFault e = refl
 is_door (BadLink code requests) e = let bad : 2 ≡ 7 = e in absurd (omega (arith, bad))
-
-one_status : (n m : ℕ) → ◌≡◌ {A = Option ℕ} (Some n) (Some m) → n ≡ m
-one_status n m e = cc
 
 pub never_door : (command : Option Command) (before after : Outside) → Runs command before after (Some 7) → ⊥
 never_door command before after r =

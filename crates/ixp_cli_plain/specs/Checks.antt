@@ -24,4 +24,5 @@ IsDump t = (registry : Registry) × RegistryAnswer (version_in t) t (Ok registry
 
 -- why the text is the dump of none
 abbrev pub IsNoDump : List ℕ → Cause → Type 0
-IsNoDump t cause = (fault : DumpFault) × (cause_of fault ≡ Some cause) × RegistryAnswer (version_in t) t (Err fault)
+IsNoDump t cause = (fault : DumpFault) × (cause_of fault ≡ Some cause)
+    × RegistryAnswer (version_in t) t (Err fault)

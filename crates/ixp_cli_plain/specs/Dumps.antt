@@ -20,11 +20,12 @@ use Rattle.ixp_cli_plain.specs.declared.end.End.TheVariants.{Done, WriteFault, K
 use Rattle.ixp_cli_plain.specs.Restores.{Store}
 use Rattle.ixp_cli_plain.specs.Runs.{Outside}
 
--- the store has the rows of this state, to which requests lead; or it has none, and this is the first state of the
--- registry without rows
+-- the store has the rows of this state, to which requests lead; or it has none, and this is the first state
+-- of the registry without rows
 abbrev pub IsStoredAs : Store → State → Type 0
 IsStoredAs store s =
-    (ValidState s × IsStorable s × (store.rows ≡ Some (tables s))) ⊎ ((store.rows ≡ Some empty) × (s ≡ first_state empty_registry))
+    (ValidState s × IsStorable s × (store.rows ≡ Some (tables s)))
+    ⊎ ((store.rows ≡ Some empty) × (s ≡ first_state empty_registry))
 
 -- the row of the version says 1
 abbrev pub IsOld : Table → Type 0
@@ -38,8 +39,8 @@ IsDamaged rows = (rows ≢ empty) × FitsNoState rows × ¬ (IsOld rows)
 abbrev pub dump_of : State → List ℕ
 dump_of s = dump_text Two (rows_of s.registry)
 
--- how `dump` ends with the store of this state: the output took the dump of its registry, or memory ran out, or a
--- write or the keeper failed
+-- how `dump` ends with the store of this state: the output took the dump of its registry, or memory ran out,
+-- or a write or the keeper failed
 abbrev pub IsDumped : State → Outside → Outside → End → Type 0
 IsDumped s before after Done = Takes before.output.bytes after.output.bytes (dump_of s)
 IsDumped s before after WriteFault = Rose before.output.faults after.output.faults
@@ -49,8 +50,10 @@ IsDumped s before after end = ⊥
 
 -- the status is this one, or that memory ran out, or that the keeper failed
 abbrev pub IsStatusOr : ℕ → Store → Store → Option ℕ → Type 0
-IsStatusOr n before after status = (status ≡ Some n) ⊎ ((status ≡ Some 8) ⊎ ((status ≡ Some 5) × Rose before.faults after.faults))
+IsStatusOr n before after status =
+    (status ≡ Some n) ⊎ ((status ≡ Some 8) ⊎ ((status ≡ Some 5) × Rose before.faults after.faults))
 
 -- the status is 0 and the output took all of this text, or memory ran out
 abbrev pub IsWhole : List ℕ → Outside → Outside → ℕ → Type 0
-IsWhole text before after status = (status ≡ 8) ⊎ ((status ≡ 0) × Takes before.output.bytes after.output.bytes text)
+IsWhole text before after status =
+    (status ≡ 8) ⊎ ((status ≡ 0) × Takes before.output.bytes after.output.bytes text)

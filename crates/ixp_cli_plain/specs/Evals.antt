@@ -22,11 +22,13 @@ use Rattle.ixp_eval_trial.specs.Trials.{TrialAnswer}
 
 -- the filter text in the input spells this configuration
 abbrev pub IsConfiguration : List ℕ → List ItemTree → Type 0
-IsConfiguration input configuration = (text : List ℕ) × IsFilterText input text × SpellsText text configuration
+IsConfiguration input configuration =
+    (text : List ℕ) × IsFilterText input text × SpellsText text configuration
 
 -- the route's session has a channel of another family; a session that isn't there has none
 abbrev pub IsOfOtherFamily : List ItemTree → Trial → Type 0
-IsOfOtherFamily configuration t = (b : Bgp) × (session_named (bgp_sessions configuration) t.session ≡ Some b) × (b.family ≢ t.route.net.family)
+IsOfOtherFamily configuration t = (b : Bgp) × (session_named (bgp_sessions configuration) t.session ≡ Some b)
+    × (b.family ≢ t.route.net.family)
 
 -- the configuration can take the trial's route, and nothing is behind that
 abbrev pub IsTaken : List ItemTree → Trial → Type 0
@@ -47,7 +49,8 @@ outcome_text (Err (no_filter name)) = codes "fault V4\n"
 -- what the walk gives by these items, with tables of the trial's ROAs
 abbrev pub IsOutcome : List ItemTree → Trial → List ℕ → Type 0
 IsOutcome configuration t output =
-    (tables : List (List ℕ × List Roa)) × AreTables t.roas tables × (output ≡ outcome_text (walk configuration tables t.session t.route))
+    (tables : List (List ℕ × List Roa)) × AreTables t.roas tables
+    × (output ≡ outcome_text (walk configuration tables t.session t.route))
 
 -- what is written for an input
 pub record Evaluates (input output : List ℕ) : Type 0 where
@@ -62,20 +65,24 @@ pub record Evaluates (input output : List ℕ) : Type 0 where
 abbrev pub IsRefused : List ItemTree → Trial → TrialFault → Type 0
 IsRefused configuration t fault =
     (IsOfOtherFamily configuration t × (fault ≡ trial_fault.BadRoute t.line code.Family))
-    ⊎ (¬ (IsOfOtherFamily configuration t) × (line : ℕ) × (t.more ≡ Some line) × (fault ≡ trial_fault.BadLine line))
+    ⊎ (¬ (IsOfOtherFamily configuration t) × (line : ℕ) × (t.more ≡ Some line)
+    × (fault ≡ trial_fault.BadLine line))
 
 -- why the filter text in the input spells no configuration
 abbrev pub IsNoText : List ℕ → Cause → Type 0
-IsNoText input cause = (fault : ReadFault) × (text.cause_of fault ≡ Some cause) × (t : List ℕ) × IsFilterText input t × ConfigAnswer t (Err fault)
+IsNoText input cause = (fault : ReadFault) × (text.cause_of fault ≡ Some cause) × (t : List ℕ)
+    × IsFilterText input t × ConfigAnswer t (Err fault)
 
 -- why what is behind the filter text is no trial of the configuration: it is no trial, or one that the
 -- configuration can't take
 abbrev pub IsNoTrial : List ItemTree → List ℕ → Cause → Type 0
 IsNoTrial configuration input cause =
     (fault : TrialFault) × (trial.cause_of fault ≡ Some cause)
-    × (TrialAnswer input (Err fault) ⊎ ((t : Trial) × TrialAnswer input (Ok t) × IsRefused configuration t fault))
+    × (TrialAnswer input (Err fault)
+    ⊎ ((t : Trial) × TrialAnswer input (Ok t) × IsRefused configuration t fault))
 
 -- why an input is refused: for its filter text, or else for what is behind that
 abbrev pub IsNoEval : List ℕ → Cause → Type 0
 IsNoEval input cause =
-    IsNoText input cause ⊎ ((configuration : List ItemTree) × IsConfiguration input configuration × IsNoTrial configuration input cause)
+    IsNoText input cause ⊎ ((configuration : List ItemTree) × IsConfiguration input configuration
+    × IsNoTrial configuration input cause)

@@ -28,7 +28,8 @@ HasRegistry input registry = RegistryAnswer (version_in (dump_part input)) (dump
 
 -- what the lines after the dump say; they are numbered as lines of the input
 abbrev pub HasRoute : List ℕ → Result SessionRoute TrialFault → Type 0
-HasRoute input = SessionRouteAnswer (lines (drop (length (dump_part input)) input)) (length (lines (dump_part input)) + 1)
+HasRoute input = SessionRouteAnswer (lines (drop (length (dump_part input)) input))
+    (length (lines (dump_part input)) + 1)
 
 -- this session of the router brings the route, which is of the router's family
 pub record IsOfSession (registry : Registry) (router : Router) (route : SessionRoute) : Type 0 where
@@ -39,7 +40,8 @@ pub record IsOfSession (registry : Registry) (router : Router) (route : SessionR
 -- the fate that the rules give the route
 abbrev pub HasFate : Registry → Router → SessionRoute → Fate → Type 0
 HasFate registry router route fate =
-    (sender : Session) → session registry router route.interface ≡ Some sender → fate ≡ fate_of registry router route.route sender
+    (sender : Session) → session registry router route.interface ≡ Some sender
+    → fate ≡ fate_of registry router route.route sender
 
 -- The output is the text of the router that is asked for, which does what the rules say, and the text of the
 -- fate that they give the route.
@@ -47,7 +49,8 @@ pub record IsFate (registry : Registry) (route : SessionRoute) (output : List �
   pub router : Router
   pub is_there : find router_key route.router registry.routers ≡ Some router
   pub is_sent : IsOfSession registry router route
-  pub is_text : output ≡ Gen registry router ++ fate_text (fate_of registry router route.route is_sent.sender) (Some router.asn)
+  pub is_text : output ≡ Gen registry router
+      ++ fate_text (fate_of registry router route.route is_sent.sender) (Some router.asn)
   pub is_right : Right (Gen registry router) registry router
 
 -- The input is the dump of a valid registry, followed by the line of a route that a session of one of its
@@ -63,17 +66,21 @@ pub record Fates (input output : List ℕ) : Type 0 where
 -- family
 abbrev pub IsStray : Registry → Router → SessionRoute → Cause → Type 0
 IsStray registry router route cause =
-    ((session registry router route.interface ≡ None) × (cause ≡ record { code = E5; place = Line route.line }))
-    ⊎ ((sender : Session) × (session registry router route.interface ≡ Some sender) × (route.route.net.family ≢ router.family)
+    ((session registry router route.interface ≡ None)
+    × (cause ≡ record { code = E5; place = Line route.line }))
+    ⊎ ((sender : Session) × (session registry router route.interface ≡ Some sender)
+    × (route.route.net.family ≢ router.family)
     × (cause ≡ record { code = E2; place = Line route.line }))
 
 -- why the router that is asked for has none
 abbrev pub IsAstray : Registry → SessionRoute → Cause → Type 0
-IsAstray registry route cause = (router : Router) × (find router_key route.router registry.routers ≡ Some router) × IsStray registry router route cause
+IsAstray registry route cause = (router : Router)
+    × (find router_key route.router registry.routers ≡ Some router) × IsStray registry router route cause
 
 -- why the lines after the dump say no route
 abbrev pub IsNoRoute : List ℕ → Cause → Type 0
-IsNoRoute input cause = (fault : TrialFault) × (trial.cause_of fault ≡ Some cause) × HasRoute input (Err fault)
+IsNoRoute input cause = (fault : TrialFault) × (trial.cause_of fault ≡ Some cause)
+    × HasRoute input (Err fault)
 
 -- why an input is refused: for its dump, or else for what follows that, or else since the router has no fate
 -- for the route
@@ -81,7 +88,8 @@ abbrev pub IsNoFate : List ℕ → Cause → Type 0
 IsNoFate input cause =
     IsNoDump (dump_part input) cause
     ⊎ ((registry : Registry) × HasRegistry input registry × IsNoRoute input cause)
-    ⊎ ((registry : Registry) × HasRegistry input registry × (route : SessionRoute) × HasRoute input (Ok route) × IsAstray registry route cause)
+    ⊎ ((registry : Registry) × HasRegistry input registry × (route : SessionRoute) × HasRoute input (Ok route)
+    × IsAstray registry route cause)
 
 -- no router of the registry has the handle in the route's line
 abbrev pub HasNoRouter : List ℕ → List ℕ → Type 0

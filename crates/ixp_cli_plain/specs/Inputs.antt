@@ -14,7 +14,8 @@ first_line t = line_part (position (λ c. c == 10) t) t
 -- all up to the first line that begins with `end` and a blank, and that line with it
 abbrev pub dump_from : Bool → List ℕ → List ℕ
 dump_from at_start [] = []
-dump_from at_start (c ∷ cs) = if at_start && same (codes "end ") (take 4 (c ∷ cs)) then first_line (c ∷ cs) else c ∷ dump_from (c == 10) cs
+dump_from at_start (c ∷ cs) = if at_start && same (codes "end ") (take 4 (c ∷ cs)) then first_line (c ∷ cs)
+    else c ∷ dump_from (c == 10) cs
 
 abbrev pub dump_part : List ℕ → List ℕ
 dump_part t = dump_from true t

@@ -50,9 +50,12 @@ use Rattle.ixp_cli_plain.specs.Sessions.{code_word, Unloaded}
 -- the command that a word is
 abbrev pub command_by : List ℕ → Option Command
 command_by word =
-    if same word (codes "check") then Some (Ask Check) else if same word (codes "eval") then Some (Ask Eval) else if same word (codes "fate") then Some (Ask Fate)
-    else if same word (codes "ixf") then Some Ixf else if same word (codes "restore") then Some Restore else if same word (codes "dump") then Some Dump
-    else if same word (codes "upgrade") then Some Upgrade else if same word (codes "session") then Some (Wait Session) else None
+    if same word (codes "check") then Some (Ask Check) else if same word (codes "eval") then Some (Ask Eval)
+    else if same word (codes "fate") then Some (Ask Fate)
+    else if same word (codes "ixf") then Some Ixf else if same word (codes "restore") then Some Restore
+    else if same word (codes "dump") then Some Dump
+    else if same word (codes "upgrade") then Some Upgrade
+    else if same word (codes "session") then Some (Wait Session) else None
 
 -- the command that a word and a handle are, or a word and a number of members
 abbrev pub command_with : List ℕ → List ℕ → Option Command
@@ -66,11 +69,12 @@ IsSized (Some (Demo members)) = members ≤ 4000
 IsSized (Some (Wait (Serve port workers links routers))) = workers ≤ 62
 IsSized command = Unit {0}
 
--- the command that a word, a set name, a family and a listing are, or a word, a port, a number of workers and one of
--- links
+-- the command that a word, a set name, a family and a listing are, or a word, a port, a number of workers and
+-- one of links
 abbrev pub command_of : List ℕ → List ℕ → List ℕ → List ℕ → Option Command
 command_of word set family listing =
-    if same word (codes "expand") then option_map Ask (expand_with set family listing) else serve_by word set family listing
+    if same word (codes "expand") then option_map Ask (expand_with set family listing)
+    else serve_by word set family listing
 
 -- the command that words are
 abbrev pub command_in : List (List ℕ) → Option Command
@@ -81,7 +85,8 @@ command_in (word ∷ other ∷ third ∷ []) = None
 command_in (word ∷ other ∷ third ∷ fourth ∷ []) = command_of word other third fourth
 command_in (word ∷ other ∷ third ∷ fourth ∷ fifth ∷ []) = None
 command_in (word ∷ other ∷ third ∷ fourth ∷ fifth ∷ sixth ∷ []) = None
-command_in (word ∷ other ∷ third ∷ fourth ∷ fifth ∷ sixth ∷ seventh ∷ []) = serve_rtr_by word other third fourth fifth sixth seventh
+command_in (word ∷ other ∷ third ∷ fourth ∷ fifth ∷ sixth ∷ seventh ∷ []) =
+    serve_rtr_by word other third fourth fifth sixth seventh
 command_in (word ∷ other ∷ third ∷ fourth ∷ fifth ∷ sixth ∷ seventh ∷ eighth ∷ words) = None
 
 -- the command asks a question
@@ -180,7 +185,8 @@ error_text NotEmpty = codes "ixpm: store not empty\n"
 error_text (Damaged what) = codes "ixpm: damaged " ++ (what ++ 10 ∷ [])
 error_text (OldVersion found) = codes "ixpm: old store " ++ (decimal found ++ 10 ∷ [])
 error_text DoorFault = codes "ixpm: door fault\n"
-error_text (BadLink code requests) = codes "ixpm: bad input " ++ (code_word code ++ (32 ∷ (decimal requests ++ 10 ∷ [])))
+error_text (BadLink code requests) =
+    codes "ixpm: bad input " ++ (code_word code ++ (32 ∷ (decimal requests ++ 10 ∷ [])))
 
 -- what a source or a sink tells at a moment: the bytes that are left, or those that were written, and how
 -- many calls failed
@@ -203,7 +209,8 @@ input_limit = 268435456
 
 -- All of the input was read: it is this text, which is no longer than the limit.
 abbrev pub ReadsAll : Flow → Flow → List ℕ → Type 0
-ReadsAll before after text = Moves before.bytes after.bytes text × IsDone after.bytes × (length text ≤ input_limit)
+ReadsAll before after text =
+    Moves before.bytes after.bytes text × IsDone after.bytes × (length text ≤ input_limit)
 
 -- some first bytes of the input were read, at most one more than the limit
 abbrev pub ReadsSome : Flow → Flow → Type 0
@@ -215,7 +222,8 @@ too_long = record { code = U5; place = Byte input_limit }
 
 -- more bytes were left than the limit, of which one more than the limit was read at most
 abbrev pub IsTooLong : Flow → Flow → Type 0
-IsTooLong before after = Told before.bytes after.bytes (λ left rest. input_limit < length left) × ReadsSome before after
+IsTooLong before after = Told before.bytes after.bytes (λ left rest. input_limit < length left)
+    × ReadsSome before after
 
 -- the input was read, and is the dump of this registry
 abbrev pub ReadsDump : Flow → Flow → Registry → Type 0
@@ -224,22 +232,26 @@ ReadsDump before after r = (read : List ℕ) × ReadsAll before after read × Is
 -- Why an input is refused: it is too long, or else it is refused for what it is.
 abbrev pub IsRefused : (List ℕ → Cause → Type 0) → Flow → Flow → Cause → Type 0
 IsRefused refuses before after cause =
-    ((cause ≡ too_long) × IsTooLong before after) ⊎ ((input : List ℕ) × ReadsAll before after input × refuses input cause)
+    ((cause ≡ too_long) × IsTooLong before after)
+    ⊎ ((input : List ℕ) × ReadsAll before after input × refuses input cause)
 
 -- How a question ends. It reads all of its input, and then writes all that it has to say. Where it doesn't
 -- come to writing, the output is as it was; where a write fails, the output took a first part of what the
 -- question says.
 abbrev pub QuestionEnds : Question → Flow → Flow → Flow → Flow → End → Type 0
 QuestionEnds question input input' output output' Done =
-    (read written : List ℕ) × ReadsAll input input' read × Answers question read (Ok written) × Takes output.bytes output'.bytes written
+    (read written : List ℕ) × ReadsAll input input' read × Answers question read (Ok written)
+    × Takes output.bytes output'.bytes written
 QuestionEnds question input input' output output' Usage = ⊥
 QuestionEnds question input input' output output' (BadInput cause) =
     IsRefused (λ read why. Answers question read (Err why)) input input' cause × (output' ≡ output)
 QuestionEnds question input input' output output' (BadObjects cause) =
     (read : List ℕ) × ReadsAll input input' read × HasBadObjects question read cause × (output' ≡ output)
-QuestionEnds question input input' output output' ReadFault = Rose input.faults input'.faults × ReadsSome input input' × (output' ≡ output)
+QuestionEnds question input input' output output' ReadFault =
+    Rose input.faults input'.faults × ReadsSome input input' × (output' ≡ output)
 QuestionEnds question input input' output output' WriteFault =
-    (read written : List ℕ) × ReadsAll input input' read × Answers question read (Ok written) × TakesPart output.bytes output'.bytes written
+    (read written : List ℕ) × ReadsAll input input' read × Answers question read (Ok written)
+    × TakesPart output.bytes output'.bytes written
     × Rose output.faults output'.faults
 QuestionEnds question input input' output output' KeeperFault = ⊥
 QuestionEnds question input input' output output' NoMemory = ReadsSome input input' × (output' ≡ output)
@@ -262,7 +274,8 @@ NotRead before after no.NoMemory = ReadsSome before after
 -- keeper and output are as they were.
 abbrev pub RestoreEnds : Flow → Flow → Flow → Flow → Store → Store → End → Type 0
 RestoreEnds input input' output output' store store' Done =
-    (r : Registry) × ReadsDump input input' r × Fills r store store' × Takes output.bytes output'.bytes (Restores r)
+    (r : Registry) × ReadsDump input input' r × Fills r store store'
+    × Takes output.bytes output'.bytes (Restores r)
 RestoreEnds input input' output output' store store' Usage = ⊥
 RestoreEnds input input' output output' store store' (BadInput cause) =
     IsRefused IsNoDump input input' cause × (output' ≡ output) × (store' ≡ store)
@@ -270,14 +283,18 @@ RestoreEnds input input' output output' store store' (BadObjects cause) = ⊥
 RestoreEnds input input' output output' store store' ReadFault =
     Rose input.faults input'.faults × ReadsSome input input' × (output' ≡ output) × (store' ≡ store)
 RestoreEnds input input' output output' store store' WriteFault =
-    (r : Registry) × ReadsDump input input' r × Fills r store store' × TakesPart output.bytes output'.bytes (Restores r)
+    (r : Registry) × ReadsDump input input' r × Fills r store store'
+    × TakesPart output.bytes output'.bytes (Restores r)
     × Rose output.faults output'.faults
 RestoreEnds input input' output output' store store' KeeperFault =
-    (r : Registry) × ReadsDump input input' r × Rose store.faults store'.faults × (output' ≡ output) × (store'.rows ≡ store.rows)
-RestoreEnds input input' output output' store store' NoMemory = ReadsSome input input' × (output' ≡ output) × (store'.rows ≡ store.rows)
+    (r : Registry) × ReadsDump input input' r × Rose store.faults store'.faults × (output' ≡ output)
+    × (store'.rows ≡ store.rows)
+RestoreEnds input input' output output' store store' NoMemory =
+    ReadsSome input input' × (output' ≡ output) × (store'.rows ≡ store.rows)
 RestoreEnds input input' output output' store store' (UnknownRouter router) = ⊥
 RestoreEnds input input' output output' store store' NotEmpty =
-    (r : Registry) × ReadsDump input input' r × IsFilled store × (output' ≡ output) × (store'.rows ≡ store.rows)
+    (r : Registry) × ReadsDump input input' r × IsFilled store × (output' ≡ output)
+    × (store'.rows ≡ store.rows)
 RestoreEnds input input' output output' store store' (Damaged what) = ⊥
 RestoreEnds input input' output output' store store' (OldVersion found) = ⊥
 RestoreEnds input input' output output' store store' DoorFault = ⊥
@@ -290,15 +307,17 @@ RestoreEnds input input' output output' store store' (BadLink code requests) = �
 abbrev pub NotLoaded : Flow → Flow → Flow → Flow → Store → Store → End → Type 0
 NotLoaded input input' output output' store store' end =
     (input' ≡ input) × (output' ≡ output) × (store'.rows ≡ store.rows)
-    × ((fault : LoadFault) × Unloaded fault end × (fault ≡ StoreFault → Rose store.faults store'.faults) × WhereTold store.rows (TellsVersion (Err fault))
+    × ((fault : LoadFault) × Unloaded fault end × (fault ≡ StoreFault → Rose store.faults store'.faults)
+    × WhereTold store.rows (TellsVersion (Err fault))
     × LoadsAll store.rows (Err fault) × WhereTold store.rows (TellsRow (Err fault)))
 
 -- the store has the rows of a state that requests lead to, or none
 abbrev pub CanBeLoaded : Store → Type 0
-CanBeLoaded store = (store.rows ≡ Some empty) ⊎ ((s : State) × ValidState s × IsStorable s × (store.rows ≡ Some (tables s)))
+CanBeLoaded store = (store.rows ≡ Some empty)
+    ⊎ ((s : State) × ValidState s × IsStorable s × (store.rows ≡ Some (tables s)))
 
--- The store has the rows of this valid state, and is loaded as it: what it could be loaded as is this state, and its
--- version isn't older.
+-- The store has the rows of this valid state, and is loaded as it: what it could be loaded as is this state,
+-- and its version isn't older.
 pub record Holds (store : Store) (s : State) : Type 0 where
   pub valid : ValidState s
   pub storable : IsStorable s
@@ -309,60 +328,75 @@ pub record Holds (store : Store) (s : State) : Type 0 where
 -- How `dump` ends: it writes the dump of the store's registry, and reads nothing.
 abbrev pub DumpEnds : Flow → Flow → Flow → Flow → Store → Store → End → Type 0
 DumpEnds input input' output output' store store' Done =
-    (s : State) × Holds store s × (input' ≡ input) × (store'.rows ≡ store.rows) × Takes output.bytes output'.bytes (dump_text Two (rows_of s.registry))
+    (s : State) × Holds store s × (input' ≡ input) × (store'.rows ≡ store.rows)
+    × Takes output.bytes output'.bytes (dump_text Two (rows_of s.registry))
 DumpEnds input input' output output' store store' WriteFault =
     (s : State) × Holds store s × (input' ≡ input) × (store'.rows ≡ store.rows)
-    × TakesPart output.bytes output'.bytes (dump_text Two (rows_of s.registry)) × Rose output.faults output'.faults
-DumpEnds input input' output output' store store' NoMemory = (input' ≡ input) × (output' ≡ output) × (store'.rows ≡ store.rows)
+    × TakesPart output.bytes output'.bytes (dump_text Two (rows_of s.registry))
+    × Rose output.faults output'.faults
+DumpEnds input input' output output' store store' NoMemory =
+    (input' ≡ input) × (output' ≡ output) × (store'.rows ≡ store.rows)
 DumpEnds input input' output output' store store' end = NotLoaded input input' output output' store store' end
 
 -- what `upgrade` writes: `upgraded` and the number of routers whose rows it set
 abbrev pub upgraded_text : ℕ → List ℕ
 upgraded_text n = codes "upgraded " ++ (decimal n ++ 10 ∷ [])
 
--- The store couldn't be upgraded: nothing was read or written, and its rows are as they were. A fault of the store came
--- in this run; damage is told where the rows are those of a state in neither version, and an older version nowhere.
+-- The store couldn't be upgraded: nothing was read or written, and its rows are as they were. A fault of the
+-- store came in this run; damage is told where the rows are those of a state in neither version, and an older
+-- version nowhere.
 abbrev pub NotUpgraded : Flow → Flow → Flow → Flow → Store → Store → End → Type 0
 NotUpgraded input input' output output' store store' end =
     (input' ≡ input) × (output' ≡ output) × (store'.rows ≡ store.rows)
-    × ((fault : LoadFault) × Unloaded fault end × (fault ≡ StoreFault → Rose store.faults store'.faults) × ((found : ℕ) → fault ≢ OlderStore found)
+    × ((fault : LoadFault) × Unloaded fault end × (fault ≡ StoreFault → Rose store.faults store'.faults)
+    × ((found : ℕ) → fault ≢ OlderStore found)
     × UpgradesAll store.rows (Err fault) × WhereTold store.rows (TellsDamaged (Err fault)))
 
--- How `upgrade` ends: it makes a store of the first version today's, leaves one of today's as it is, writes how many
--- routers have new rows, and reads nothing.
+-- How `upgrade` ends: it makes a store of the first version today's, leaves one of today's as it is, writes
+-- how many routers have new rows, and reads nothing.
 abbrev pub UpgradeEnds : Flow → Flow → Flow → Flow → Store → Store → End → Type 0
 UpgradeEnds input input' output output' store store' Done =
-    (n : ℕ) × Told store.rows store'.rows (Upgrades n) × UpgradesAll store.rows (Ok n) × (input' ≡ input) × Takes output.bytes output'.bytes (upgraded_text n)
+    (n : ℕ) × Told store.rows store'.rows (Upgrades n) × UpgradesAll store.rows (Ok n) × (input' ≡ input)
+    × Takes output.bytes output'.bytes (upgraded_text n)
 UpgradeEnds input input' output output' store store' WriteFault =
     (n : ℕ) × Told store.rows store'.rows (Upgrades n) × UpgradesAll store.rows (Ok n) × (input' ≡ input)
     × TakesPart output.bytes output'.bytes (upgraded_text n) × Rose output.faults output'.faults
-UpgradeEnds input input' output output' store store' NoMemory = (input' ≡ input) × (output' ≡ output) × (store'.rows ≡ store.rows)
-UpgradeEnds input input' output output' store store' end = NotUpgraded input input' output output' store store' end
+UpgradeEnds input input' output output' store store' NoMemory =
+    (input' ≡ input) × (output' ≡ output) × (store'.rows ≡ store.rows)
+UpgradeEnds input input' output output' store store' end =
+    NotUpgraded input input' output output' store store' end
 
 -- How `demo` ends: it writes how large the demo exchange with so many members is.
 abbrev pub DemoEnds : ℕ → Flow → Flow → End → Type 0
 DemoEnds members output output' Done = Takes output.bytes output'.bytes (demo_text members)
-DemoEnds members output output' WriteFault = TakesPart output.bytes output'.bytes (demo_text members) × Rose output.faults output'.faults
+DemoEnds members output output' WriteFault =
+    TakesPart output.bytes output'.bytes (demo_text members) × Rose output.faults output'.faults
 DemoEnds members output output' NoMemory = output' ≡ output
 DemoEnds members output output' end = ⊥
 
 -- How `ixf` ends: it asks the clock, and then the question for the export at the second that the clock gave.
 abbrev pub ExportEnds : Flow → Flow → Flow → Flow → Option ℕ → Option ℕ → End → Type 0
 ExportEnds input input' output output' given given' end =
-    (second : ℕ) × Told given given' (λ before last. last ≡ second) × QuestionEnds (Export second) input input' output output' end
+    (second : ℕ) × Told given given' (λ before last. last ≡ second)
+    × QuestionEnds (Export second) input input' output output' end
 
 -- How a run ends. Words that are no command end as usage, with nothing read or written. A question leaves the
--- keeper alone. `ixf` alone asks the clock, of which it is said what it gave last. A command that waits doesn't run
--- here.
-abbrev pub Ends : Option Command → Flow → Flow → Flow → Flow → Store → Store → Option ℕ → Option ℕ → End → Type 0
+-- keeper alone. `ixf` alone asks the clock, of which it is said what it gave last. A command that waits
+-- doesn't run here.
+abbrev pub Ends : Option Command → Flow → Flow → Flow → Flow → Store → Store → Option ℕ → Option ℕ → End
+    → Type 0
 Ends None input input' output output' store store' given given' end =
     (end ≡ Usage) × (input' ≡ input) × (output' ≡ output) × (store' ≡ store) × (given' ≡ given)
 Ends (Some (Ask question)) input input' output output' store store' given given' end =
     QuestionEnds question input input' output output' end × (store' ≡ store) × (given' ≡ given)
-Ends (Some Ixf) input input' output output' store store' given given' end = ExportEnds input input' output output' given given' end × (store' ≡ store)
-Ends (Some Restore) input input' output output' store store' given given' end = RestoreEnds input input' output output' store store' end × (given' ≡ given)
-Ends (Some Dump) input input' output output' store store' given given' end = DumpEnds input input' output output' store store' end × (given' ≡ given)
-Ends (Some Upgrade) input input' output output' store store' given given' end = UpgradeEnds input input' output output' store store' end × (given' ≡ given)
+Ends (Some Ixf) input input' output output' store store' given given' end =
+    ExportEnds input input' output output' given given' end × (store' ≡ store)
+Ends (Some Restore) input input' output output' store store' given given' end =
+    RestoreEnds input input' output output' store store' end × (given' ≡ given)
+Ends (Some Dump) input input' output output' store store' given given' end =
+    DumpEnds input input' output output' store store' end × (given' ≡ given)
+Ends (Some Upgrade) input input' output output' store store' given given' end =
+    UpgradeEnds input input' output output' store store' end × (given' ≡ given)
 Ends (Some (Demo members)) input input' output output' store store' given given' end =
     DemoEnds members output output' end × (input' ≡ input) × (store' ≡ store) × (given' ≡ given)
 Ends (Some (Wait waiting)) input input' output output' store store' given given' end = ⊥
@@ -379,15 +413,18 @@ waits (Some Ixf) = false
 waits None = false
 
 -- How a run ends of a command that doesn't wait; of one that does nothing is done, and it comes back.
-abbrev pub PlainEnds : Option Command → Flow → Flow → Flow → Flow → Store → Store → Option ℕ → Option ℕ → Result End Waiting → Type 0
+abbrev pub PlainEnds : Option Command → Flow → Flow → Flow → Flow → Store → Store → Option ℕ → Option ℕ
+    → Result End Waiting → Type 0
 PlainEnds command input input' output output' store store' given given' (Err waiting) =
-    (command ≡ Some (Wait waiting)) × (input' ≡ input) × (output' ≡ output) × (store' ≡ store) × (given' ≡ given)
+    (command ≡ Some (Wait waiting)) × (input' ≡ input) × (output' ≡ output) × (store' ≡ store)
+    × (given' ≡ given)
 PlainEnds command input input' output output' store store' given given' (Ok end) =
     (waits command ≡ false) × Ends command input input' output output' store store' given given' end
 
 -- the errors took the line, or a first part of it, and a write failed
 abbrev pub Tells : Flow → Flow → List ℕ → Type 0
-Tells before after line = Takes before.bytes after.bytes line ⊎ (TakesPart before.bytes after.bytes line × Rose before.faults after.faults)
+Tells before after line = Takes before.bytes after.bytes line
+    ⊎ (TakesPart before.bytes after.bytes line × Rose before.faults after.faults)
 
 -- what is told of an end: the status, and a line on the errors
 abbrev pub IsTold : End → Flow → Flow → Option ℕ → Type 0
@@ -402,17 +439,20 @@ pub record Runs (command : Option Command) (before after : Outside) (status : Op
 -- A run of a command that doesn't wait has a status. Of one that does nothing is done here.
 abbrev pub PlainRuns : Option Command → Outside → Outside → Option ℕ → Type 0
 PlainRuns command before after None = (waits command ≡ true) × (after ≡ before)
-PlainRuns command before after (Some status) = (waits command ≡ false) × Runs command before after (Some status)
+PlainRuns command before after (Some status) =
+    (waits command ≡ false) × Runs command before after (Some status)
 
 -- The same, where a command that waits comes back.
 abbrev pub CommandRuns : Option Command → Outside → Outside → Result ℕ Waiting → Type 0
 CommandRuns command before after (Err waiting) = (command ≡ Some (Wait waiting)) × (after ≡ before)
-CommandRuns command before after (Ok status) = (waits command ≡ false) × Runs command before after (Some status)
+CommandRuns command before after (Ok status) =
+    (waits command ≡ false) × Runs command before after (Some status)
 
 -- the statuses that a run may have
 abbrev pub IsStatus : Option ℕ → Type 0
 IsStatus None = ⊥
-IsStatus (Some n) = IsTrue (n == 0 || n == 1 || n == 2 || n == 3 || n == 4 || n == 5 || n == 6 || n == 7 || n == 8 || n == 9 || n == 10 || n == 11)
+IsStatus (Some n) = IsTrue (n == 0 || n == 1 || n == 2 || n == 3 || n == 4 || n == 5 || n == 6 || n == 7
+    || n == 8 || n == 9 || n == 10 || n == 11)
 
 -- the command reads its input to its end before it answers
 abbrev pub reads_whole : Command → Bool
@@ -444,7 +484,8 @@ IsAnswered answer input input' output output' end = ⊥
 -- how `restore` ends with the dump of this registry and an empty keeper: that has the registry's rows, or
 -- memory ran out, or a read, a write or the keeper failed
 abbrev pub IsRestored : Registry → Outside → Outside → End → Type 0
-IsRestored r before after Done = Fills r before.store after.store × Takes before.output.bytes after.output.bytes (Restores r)
+IsRestored r before after Done =
+    Fills r before.store after.store × Takes before.output.bytes after.output.bytes (Restores r)
 IsRestored r before after ReadFault = Rose before.input.faults after.input.faults
 IsRestored r before after WriteFault = Rose before.output.faults after.output.faults
 IsRestored r before after KeeperFault = Rose before.store.faults after.store.faults

@@ -15,18 +15,21 @@ use Rattle.ixp_cli_plain.specs.Dumps.{IsDamaged}
 use Rattle.ixp_cli_plain.specs.Restores.{Store}
 use Rattle.ixp_cli_plain.specs.Runs.{CanBeLoaded, Outside, upgraded_text}
 
--- A store of the first version of a state becomes today's, and the number is that of its routers; one of today's, or
--- without rows, stays as it is, and the number is 0.
+-- A store of the first version of a state becomes today's, and the number is that of its routers; one of
+-- today's, or without rows, stays as it is, and the number is 0.
 abbrev pub Becomes : Store → Table → ℕ → Type 0
 Becomes store now n =
-    ((s : State) × IsFirst s × (store.rows ≡ Some (tables_1 s)) × (now ≡ tables s) × (n ≡ length s.registry.routers))
+    ((s : State) × IsFirst s × (store.rows ≡ Some (tables_1 s)) × (now ≡ tables s)
+    × (n ≡ length s.registry.routers))
     ⊎ (CanBeLoaded store × (store.rows ≡ Some now) × (n ≡ 0))
 
--- how `upgrade` ends with such a store: it has these rows, and the output took the number; or memory ran out, or a
--- write or the keeper failed
+-- how `upgrade` ends with such a store: it has these rows, and the output took the number; or memory ran out,
+-- or a write or the keeper failed
 abbrev pub IsRaised : Table → ℕ → Outside → Outside → End → Type 0
-IsRaised now n before after Done = (after.store.rows ≡ Some now) × Takes before.output.bytes after.output.bytes (upgraded_text n)
-IsRaised now n before after WriteFault = (after.store.rows ≡ Some now) × Rose before.output.faults after.output.faults
+IsRaised now n before after Done =
+    (after.store.rows ≡ Some now) × Takes before.output.bytes after.output.bytes (upgraded_text n)
+IsRaised now n before after WriteFault =
+    (after.store.rows ≡ Some now) × Rose before.output.faults after.output.faults
 IsRaised now n before after KeeperFault = Rose before.store.faults after.store.faults
 IsRaised now n before after NoMemory = Unit {0}
 IsRaised now n before after end = ⊥
@@ -34,7 +37,8 @@ IsRaised now n before after end = ⊥
 -- the status is 0, the store has these rows, and the output took the number; or memory ran out
 abbrev pub IsWholeRaise : Table → ℕ → Outside → Outside → ℕ → Type 0
 IsWholeRaise now n before after status =
-    (status ≡ 8) ⊎ ((status ≡ 0) × (after.store.rows ≡ Some now) × Takes before.output.bytes after.output.bytes (upgraded_text n))
+    (status ≡ 8) ⊎ ((status ≡ 0) × (after.store.rows ≡ Some now)
+    × Takes before.output.bytes after.output.bytes (upgraded_text n))
 
 -- what a command tells to be damaged: `upgrade` rows that are those of a state in neither version
 abbrev pub IsDamagedFor : Option Command → Table → Type 0

@@ -22,6 +22,7 @@ ghost use Rattle.ixp_cli_plain.specs.declared.command.Command.TheVariants.{Ask, 
 ghost use Rattle.ixp_cli_plain.specs.declared.command.Question.TheVariants.{Generate as AskFor};
 ghost use Rattle.ixp_cli_plain.specs.Demos.{members_in};
 ghost use Rattle.ixp_cli_plain.specs.Serving.{
+  links_in,
   number_in,
   rtr_port,
   serve_both,
@@ -82,7 +83,7 @@ const LAST_PORT: u64 = 65_535;
 /// The most workers of a server. With the one that makes texts they are within the 64 seats of a desk.
 const MOST_WORKERS: u64 = 62;
 
-/// The most links that a server serves.
+/// The most links that a server serves, where a number says it.
 const MOST_LINKS: u64 = 1_000_000;
 
 /// A command that reads all of its input, and writes what there is to say of it.
@@ -111,7 +112,7 @@ pub enum Question {
 #[derive(Clone, Copy, Debug, PartialEq, Eq, Drop)]
 pub struct RtrPort {
     pub port: u16,
-    pub links: u32,
+    pub links: u64,
 }
 
 /// A command that waits for others.
@@ -123,7 +124,7 @@ pub enum Waiting {
     Serve {
         port: u16,
         workers: u32,
-        links: u32,
+        links: u64,
         routers: Option<RtrPort>,
     },
 }
@@ -285,6 +286,17 @@ fn number_in(greatest: u64, word: &[u8]) -> Option<u64>
     }
 }
 
+/// The number of links that a word says: a number, or `always`, which is the last one of 64 bits.
+fn links_in(word: &[u8]) -> Option<u64>
+    ensures { result ≡ links_in word.now }
+{
+    if word == b"always".as_slice() {
+        Some(u64::MAX)
+    } else {
+        number_in(MOST_LINKS, word)
+    }
+}
+
 /// `serve` with a port, a number of workers and a number of links, and what there is for routers.
 fn serve_with(
     port: &[u8],
@@ -297,11 +309,11 @@ fn serve_with(
 {
     let port = number_in(LAST_PORT, port)?;
     let workers = number_in(MOST_WORKERS, workers)?;
-    let links = number_in(MOST_LINKS, links)?;
+    let links = links_in(links)?;
     let waiting = Waiting::Serve {
         port: port as u16,
         workers: workers as u32,
-        links: links as u32,
+        links,
         routers,
     };
     Some(Command::Wait { waiting })
@@ -312,14 +324,15 @@ fn rtr_port(port: &[u8], links: &[u8]) -> Option<RtrPort>
     ensures { result ≡ rtr_port port.now links.now }
 {
     let port = number_in(LAST_PORT, port)?;
-    let links = number_in(MOST_LINKS, links)?;
+    let links = links_in(links)?;
     Some(RtrPort {
         port: port as u16,
-        links: links as u32,
+        links,
     })
 }
 
-/// `serve` with a port, a number of workers and a number of links, and a port and a number of links for routers.
+/// `serve` with a port, a number of workers and a number of links, and a port and a number of links for
+/// routers.
 fn serve_both(
     port: &[u8],
     workers: &[u8],
@@ -349,8 +362,8 @@ fn serve_by(word: &[u8], port: &[u8], workers: &[u8], links: &[u8]) -> Option<Co
     }
 }
 
-/// The command that a word is with a port, a number of workers and a number of links, and then with the word `rtr`,
-/// a port and a number of links.
+/// The command that a word is with a port, a number of workers and a number of links, and then with the
+/// word `rtr`, a port and a number of links.
 #[tactic(auto, unfolding(crate::specs::Serving::serve_rtr_by))]
 fn serve_rtr_by(
     word: &[u8],
@@ -372,8 +385,8 @@ fn serve_rtr_by(
     }
 }
 
-/// The command that a word, a set name, a family and a listing are, or a word, a port, a number of workers and a
-/// number of links.
+/// The command that a word, a set name, a family and a listing are, or a word, a port, a number of workers
+/// and a number of links.
 #[tactic(auto, using(crate::proofs::Expanding::asked))]
 fn command_of(
     alloc: Global,
@@ -522,13 +535,13 @@ fn run_words<S: Source, K: Sink, P: Keeper, C: Clock>(
     }
 }
 
-/// Runs the command that the words are, and gives its exit status: 0 where the work is done, 1 where the words
-/// are no command, 2 where the input isn't of the command's form or is longer than 268,435,456 bytes, or where
-/// whois data have no object of the set's name or more items than a list may have, 3 and 4 where a read or a
-/// write failed, 5 where the keeper failed, 6 where the store's rows are no registry's, 8 where memory ran out,
-/// 9 where no router has the handle, 10 where the store has the form of an older version, 11 where the store
-/// that is to be filled has a row. A status other than 0 has a line on `errors`, as far as that takes it. A
-/// command that waits comes back as it is; nothing is read or written then.
+/// Runs the command that the words are, and gives its exit status: 0 where the work is done, 1 where the
+/// words are no command, 2 where the input isn't of the command's form or is longer than 268,435,456 bytes,
+/// or where whois data have no object of the set's name or more items than a list may have, 3 and 4 where a
+/// read or a write failed, 5 where the keeper failed, 6 where the store's rows are no registry's, 8 where
+/// memory ran out, 9 where no router has the handle, 10 where the store has the form of an older version,
+/// 11 where the store that is to be filled has a row. A status other than 0 has a line on `errors`, as far
+/// as that takes it. A command that waits comes back as it is; nothing is read or written then.
 pub fn run_command<S: Source, K: Sink, E: Sink, P: Keeper, C: Clock>(
     alloc: Global,
     words: &[&str],

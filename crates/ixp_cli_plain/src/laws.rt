@@ -114,8 +114,8 @@ pub fn demos_are_written()
 
 /// Damage is told only of a store that has rows, but those of no state that requests lead to, and isn't
 /// older; and `dump` tells it of each such store, but that the keeper may fail or memory run out. `upgrade`
-/// tells it of stores whose rows are those of a state in neither version, and of each such. An older version is
-/// told only where the row of the version says so, and `dump` tells it there.
+/// tells it of stores whose rows are those of a state in neither version, and of each such. An older
+/// version is told only where the row of the version says so, and `dump` tells it there.
 pub fn damaged_and_old_stores_are_told()
     ensures damaged { (command : Option Command) (before after : Outside)
         → Runs command before after (Some 6) → WhereTold before.store.rows (IsDamagedFor command) }

@@ -33,11 +33,13 @@ second_addr = record { family = V4; value = 167837705; fits = lit< tt }
 
 -- 10.0.0.0/8
 abbrev pub private_net : Prefix
-private_net = record { family = V4; value = 167772160; len = 8; short = lit≤ tt; fits = lit< tt; no_host_bits = refl }
+private_net =
+    record { family = V4; value = 167772160; len = 8; short = lit≤ tt; fits = lit< tt; no_host_bits = refl }
 
 -- 203.0.113.0/24
 abbrev pub member_net : Prefix
-member_net = record { family = V4; value = 3405803776; len = 24; short = lit≤ tt; fits = lit< tt; no_host_bits = refl }
+member_net =
+    record { family = V4; value = 3405803776; len = 24; short = lit≤ tt; fits = lit< tt; no_host_bits = refl }
 
 abbrev pub asn : ℕ → Asn
 asn n = record { 0 = n }
@@ -67,14 +69,29 @@ example_header = record {
 }
 
 abbrev pub example_address : IfAddr
-example_address = record { addr = first_addr; max_prefix = 100; rs = true; irr = true; more = false; secret = codes "s1" }
+example_address =
+    record { addr = first_addr; max_prefix = 100; rs = true; irr = true; more = false; secret = codes "s1" }
 
 -- to 65002 two times more; of the prefix nothing to anybody; from 65003 nothing of the prefix; else all
 abbrev pub example_rules : List MemberRule
 example_rules =
-    record { member = 1; place = 1; way = Advertise; peer = Some (asn 65002); prefix = None; action = Prepend 2 }
+    record {
+      member = 1;
+      place = 1;
+      way = Advertise;
+      peer = Some (asn 65002);
+      prefix = None;
+      action = Prepend 2;
+    }
     ∷ record { member = 1; place = 2; way = Advertise; peer = None; prefix = Some member_net; action = Stop }
-    ∷ record { member = 1; place = 3; way = Receive; peer = Some (asn 65003); prefix = Some member_net; action = Stop }
+    ∷ record {
+      member = 1;
+      place = 3;
+      way = Receive;
+      peer = Some (asn 65003);
+      prefix = Some member_net;
+      action = Stop;
+    }
     ∷ record { member = 1; place = 4; way = Receive; peer = None; prefix = None; action = AsIs }
     ∷ []
 

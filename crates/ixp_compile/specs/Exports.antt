@@ -25,4 +25,5 @@ passed_on (Some times) route = accepts (padded times route)
 -- how often, if it is: the receiver's rules let it in, and its communities send it
 abbrev pub times_down : Router → Session → Route → Option ℕ
 times_down router receiver route =
-    if receives receiver.rules route.net (first_of route.path) then steered router.asn.0 route receiver.member.asn.0 else None
+    if receives receiver.rules route.net (first_of route.path)
+    then steered router.asn.0 route receiver.member.asn.0 else None

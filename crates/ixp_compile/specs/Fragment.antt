@@ -89,7 +89,8 @@ transit_test i = if i.transit_free then [] else run (codes "ixp_transit") ∷ []
 -- the origin is one that the member has registered
 abbrev pub registered_origin : Inputs → List Asn → List StmtTree
 registered_origin i [] = tell i.rs.0 FINDING 1002 ∷ drop_with 10 ∷ []
-registered_origin i (a ∷ asns) = when (compared op.NotIn attr.Last (named (origins_name i.interface))) (drop_with 10 ∷ []) ∷ []
+registered_origin i (a ∷ asns) =
+    when (compared op.NotIn attr.Last (named (origins_name i.interface))) (drop_with 10 ∷ []) ∷ []
 
 abbrev pub origin_test : Inputs → List StmtTree
 origin_test i = if i.address.irr then registered_origin i i.origins else tell i.rs.0 FINDING 2 ∷ []
@@ -121,7 +122,8 @@ blackhole_test i blackholes (Some a) =
 -- the state of the route's origin (RFC 6811)
 abbrev pub state_is : Family → Validity → ExprTree
 state_is family state =
-    comparison op.Eq (roa_check (roas family) (attribute attr.Net) (attribute attr.Last)) (literal (value.Roa state))
+    comparison op.Eq (roa_check (roas family) (attribute attr.Net) (attribute attr.Last))
+    (literal (value.Roa state))
 
 -- a Valid route needs no registered prefix
 abbrev pub state_test : Inputs → List StmtTree

@@ -83,4 +83,5 @@ generated r router =
 
 -- a session's own text: the head, its part and the foot
 abbrev pub own_part : Registry → Router → Session → List ItemTree
-own_part r router s = in_turn (header (header_inputs r router) ∷ session_part (inputs r router s) ∷ footer ∷ [])
+own_part r router s = in_turn (header (header_inputs r router) ∷ session_part (inputs r router s) ∷ footer
+    ∷ [])

@@ -32,7 +32,8 @@ bogons_of h = filter (λ t. same_family t.prefix.family h.router.family) h.bogon
 abbrev pub joined_to : ℕ → ℕ → List (Asn × Asn) → List (ℕ × ℕ)
 joined_to first last [] = (first, last) ∷ []
 joined_to first last (r ∷ rs) =
-    if nat_le r.0.0 last then joined_to first (max last r.1.0) rs else (first, last) ∷ joined_to r.0.0 r.1.0 rs
+    if nat_le r.0.0 last then joined_to first (max last r.1.0) rs
+    else (first, last) ∷ joined_to r.0.0 r.1.0 rs
 
 -- Ranges of AS numbers, which ascend by their first numbers, without overlaps: a set of numbers is held as a
 -- tree of ranges, in which one that overlaps another may not be found.
@@ -51,7 +52,8 @@ abbrev pub blackhole_body : Family → List StmtTree
 blackhole_body family =
     when
     (conjunction
-    (exprs (compared op.Eq attr.NetLen (int (bits_of family)) ∷ comparison op.In (literal (value.Pair BLACKHOLE.0 BLACKHOLE.1)) (attribute attr.Pairs) ∷ [])))
+    (exprs (compared op.Eq attr.NetLen (int (bits_of family))
+    ∷ comparison op.In (literal (value.Pair BLACKHOLE.0 BLACKHOLE.1)) (attribute attr.Pairs) ∷ [])))
     (return_value (truth_value true) ∷ [])
     ∷ return_value (truth_value false)
     ∷ []
@@ -64,7 +66,8 @@ blackhole_function family (Some a) = function_item (codes "ixp_bh") [] (stmts (b
 abbrev pub is_too_long : Option Addr → ℕ → ExprTree
 is_too_long None high = compared op.Gt attr.NetLen (int high)
 is_too_long (Some a) high =
-    conjunction (exprs (compared op.Gt attr.NetLen (int high) ∷ negation (call (codes "ixp_bh") (exprs [])) ∷ []))
+    conjunction (exprs (compared op.Gt attr.NetLen (int high) ∷ negation (call (codes "ixp_bh") (exprs []))
+    ∷ []))
 
 -- the tests of how many communities of each kind there are; 0 is no bound
 abbrev pub community_tests : ℕ → List StmtTree
@@ -79,7 +82,8 @@ abbrev pub net_body : HeaderInputs → List StmtTree
 net_body h =
     when (is_too_long h.router.blackhole h.router.high) (drop_with 1 ∷ [])
     ∷ when (compared op.Lt attr.NetLen (int h.router.low)) (drop_with 2 ∷ [])
-    ∷ where_any (bogons_of h) (when (compared op.In attr.Net (named (codes "ixp_bogons"))) (drop_with 3 ∷ []) ∷ [])
+    ∷ where_any (bogons_of h) (when (compared op.In attr.Net (named (codes "ixp_bogons"))) (drop_with 3 ∷ [])
+    ∷ [])
     ++ when (compared op.Eq attr.Len (int 0)) (drop_with 6 ∷ [])
     ∷ when (compared op.Gt attr.Len (int 64)) (drop_with 5 ∷ [])
     ∷ community_tests h.router.max_comms
@@ -87,15 +91,18 @@ net_body h =
 -- numbers that may stand in no path
 abbrev pub bogon_as_body : HeaderInputs → List StmtTree
 bogon_as_body h =
-    where_any (joined_ranges h.bogon_as) (when (compared op.In attr.Path (named (codes "ixp_bogon_as"))) (drop_with 4 ∷ []) ∷ [])
+    where_any (joined_ranges h.bogon_as)
+    (when (compared op.In attr.Path (named (codes "ixp_bogon_as"))) (drop_with 4 ∷ []) ∷ [])
 
 -- networks that buy no transit
 abbrev pub transit_body : HeaderInputs → List StmtTree
-transit_body h = where_any h.transit (when (compared op.In attr.Path (named (codes "ixp_transit_as"))) (drop_with 14 ∷ []) ∷ [])
+transit_body h = where_any h.transit (when (compared op.In attr.Path (named (codes "ixp_transit_as")))
+    (drop_with 14 ∷ []) ∷ [])
 
 -- `(rs, action, p) ~ bgp_large_community`, for the function's parameter `p`
 abbrev pub asks_peer : ℕ → ℕ → ExprTree
-asks_peer rs action = comparison op.In (triple (int rs) (int action) (named (codes "p"))) (attribute attr.Triples)
+asks_peer rs action = comparison op.In (triple (int rs) (int action) (named (codes "p")))
+    (attribute attr.Triples)
 
 -- the same for every peer, whose number is 0
 abbrev pub asks_all : ℕ → ℕ → ExprTree
@@ -119,7 +126,8 @@ abbrev pub pair_answers : ℕ → List StmtTree
 pair_answers rs =
     if nat_le rs 65535 then
     when (comparison op.Le (named (codes "p")) (int 65535))
-    (answers (pairs_peer 0) false ∷ answers (pairs_peer rs) true ∷ answers (pairs_server 0 rs) false ∷ answers (pairs_server rs rs) true
+    (answers (pairs_peer 0) false ∷ answers (pairs_peer rs) true ∷ answers (pairs_server 0 rs) false
+    ∷ answers (pairs_server rs rs) true
     ∷ [])
     ∷ []
     else []
@@ -158,16 +166,19 @@ pad_body = pads 1 ∷ pads 2 ∷ pads 3 ∷ []
 -- what no receiver gets: the communities that are for the server, and its own
 abbrev pub blackhole_hop : Option Addr → List StmtTree
 blackhole_hop None = []
-blackhole_hop (Some a) = when (call (codes "ixp_bh") (exprs [])) (set_next_hop (literal (value.Ip a)) ∷ []) ∷ []
+blackhole_hop (Some a) = when (call (codes "ixp_bh") (exprs [])) (set_next_hop (literal (value.Ip a)) ∷ [])
+    ∷ []
 
 abbrev pub pairs_taken_away : ℕ → List StmtTree
-pairs_taken_away rs = if nat_le rs 65535 then delete_pairs (set_literal (set.Pairs ((0, None) ∷ (rs, None) ∷ []))) ∷ [] else []
+pairs_taken_away rs = if nat_le rs 65535
+    then delete_pairs (set_literal (set.Pairs ((0, None) ∷ (rs, None) ∷ []))) ∷ [] else []
 
 abbrev pub out_body : ℕ → Option Addr → List StmtTree
 out_body rs blackhole =
     in_turn
     (blackhole_hop blackhole
-    ∷ (delete_triples (all_large rs (KEEP_FROM ∷ SEND_TO ∷ PREPEND_ONCE ∷ PREPEND_TWICE ∷ PREPEND_THRICE ∷ ORIGIN_STATE ∷ FINDING ∷ REFUSED ∷ [])) ∷ [])
+    ∷ (delete_triples (all_large rs (KEEP_FROM ∷ SEND_TO ∷ PREPEND_ONCE ∷ PREPEND_TWICE ∷ PREPEND_THRICE
+    ∷ ORIGIN_STATE ∷ FINDING ∷ REFUSED ∷ [])) ∷ [])
     ∷ pairs_taken_away rs
     ∷ (accept ∷ [])
     ∷ [])

@@ -23,7 +23,8 @@ pub record Sees (r : Registry) (router : Router) (s : Session) (env : Environmen
 -- The sets of nets match what the member's prefixes allow: `irr` the nets that the router takes, `blackholes`
 -- single addresses.
 pub record Allows (router : Router) (s : Session) (irr blackholes : List Pattern) : Type 0 where
-  pub registered : (route : Route) → route.net.family ≡ router.family → nat_le route.net.len router.high ≡ true
+  pub registered : (route : Route) → route.net.family ≡ router.family
+      → nat_le route.net.len router.high ≡ true
       → is_in_set irr route.net ≡ is_registered s route
   pub covered : (route : Route) → route.net.family ≡ router.family → is_host_net route.net ≡ true
       → is_in_set blackholes route.net ≡ is_covered_by route.net s.prefixes
@@ -32,4 +33,5 @@ pub record Allows (router : Router) (s : Session) (irr blackholes : List Pattern
 pub record Names (router : Router) (s : Session) (irr blackholes : List Pattern) (k : Known) : Type 0 where
   pub registered : s.address.irr ≡ true → IsNamed k (irr_name s.interface.number) set.Prefixes irr
   pub origins : s.address.irr ≡ true → IsNamed k (origins_name s.interface.number) numbers s.origins
-  pub covered : s.address.irr ≡ true → is_some router.blackhole ≡ true → IsNamed k (blackhole_name s.interface.number) set.Prefixes blackholes
+  pub covered : s.address.irr ≡ true → is_some router.blackhole ≡ true
+      → IsNamed k (blackhole_name s.interface.number) set.Prefixes blackholes

@@ -98,7 +98,9 @@ receive_test None (Some p) = net_within p
 receive_test (Some peer) (Some p) = conjunction (exprs (sender_is peer ∷ net_within p ∷ []))
 
 abbrev pub receive_rule : MemberRule → StmtTree
-receive_rule rule = when (receive_test rule.peer rule.prefix) (return_value (truth_value (not (is_stop rule.action))) ∷ [])
+receive_rule rule = when (receive_test rule.peer rule.prefix)
+    (return_value (truth_value (not (is_stop rule.action))) ∷ [])
 
 abbrev pub receive_body : Family → List MemberRule → List StmtTree
-receive_body family rules = map receive_rule (filter (is_receive family) rules) ++ return_value (truth_value true) ∷ []
+receive_body family rules = map receive_rule (filter (is_receive family) rules)
+    ++ return_value (truth_value true) ∷ []

@@ -39,16 +39,35 @@ plain_router = record {
 -- the one bogon is of the other family
 abbrev pub plain_header : HeaderInputs
 plain_header =
-    record { router = plain_router; bogons = record { prefix = private_net; low = 8; high = 32 } ∷ []; bogon_as = []; transit = [] }
+    record {
+      router = plain_router;
+      bogons = record { prefix = private_net; low = 8; high = 32 } ∷ [];
+      bogon_as = [];
+      transit = [];
+    }
 
 -- about the router's own AS, and about a prefix of the other family: neither is written
 abbrev pub plain_rules : List MemberRule
 plain_rules =
-    record { member = 1; place = 1; way = Advertise; peer = Some (asn 4200000001); prefix = None; action = Stop }
+    record {
+      member = 1;
+      place = 1;
+      way = Advertise;
+      peer = Some (asn 4200000001);
+      prefix = None;
+      action = Stop;
+    }
     ∷ record { member = 1; place = 2; way = Advertise; peer = None; prefix = Some member_net; action = Stop }
     ∷ record { member = 1; place = 3; way = Advertise; peer = Some (asn 65002); prefix = None; action = AsIs }
     ∷ record { member = 1; place = 4; way = Receive; peer = None; prefix = Some member_net; action = Stop }
-    ∷ record { member = 1; place = 5; way = Receive; peer = Some (asn 4200000001); prefix = None; action = Stop }
+    ∷ record {
+      member = 1;
+      place = 5;
+      way = Receive;
+      peer = Some (asn 4200000001);
+      prefix = None;
+      action = Stop;
+    }
     ∷ []
 
 abbrev pub plain_inputs : Inputs

@@ -15,15 +15,18 @@ use Rattle.ixp_compile.specs.MemberRules.{any_number, number_or_0, steering_acti
 
 -- an advertise rule about the net, whose peer isn't the server itself
 abbrev pub applies : ℕ → MemberRule → Prefix → Bool
-applies rs rule net = is_advertise rule.way && if_there rule.peer true (λ p. not (p.0 == rs)) && is_about rule net
+applies rs rule net = is_advertise rule.way && if_there rule.peer true (λ p. not (p.0 == rs))
+    && is_about rule net
 
 -- the communities that steer to the peer, or to any
 abbrev pub steers_triple : ℕ → Option Asn → ℕ × ℕ × ℕ → Bool
-steers_triple rs peer t = t.0 == rs && list_any (λ a. a == t.1) steering_actions && fits_part t.2 (any_number peer)
+steers_triple rs peer t = t.0 == rs && list_any (λ a. a == t.1) steering_actions
+    && fits_part t.2 (any_number peer)
 
 abbrev pub steers_pair : ℕ → Option Asn → ℕ × ℕ → Bool
 steers_pair rs peer p =
-    (nat_le rs 65535 && nat_le (number_or_0 peer) 65535) && ((p.0 == 0 || p.0 == rs) && fits_part p.1 (any_number peer))
+    (nat_le rs 65535 && nat_le (number_or_0 peer) 65535)
+    && ((p.0 == 0 || p.0 == rs) && fits_part p.1 (any_number peer))
 
 -- the large community at the end, where it isn't there
 abbrev pub with_one : ℕ → ℕ → ℕ → List (ℕ × ℕ × ℕ) → List (ℕ × ℕ × ℕ)
@@ -47,7 +50,8 @@ rewritten_triples rs net (rule ∷ rules) ts =
 abbrev pub rewritten_pairs : ℕ → Prefix → List MemberRule → List (ℕ × ℕ) → List (ℕ × ℕ)
 rewritten_pairs rs net [] ps = ps
 rewritten_pairs rs net (rule ∷ rules) ps =
-    if applies rs rule net then filter (λ p. not (steers_pair rs rule.peer p)) (rewritten_pairs rs net rules ps) else rewritten_pairs rs net rules ps
+    if applies rs rule net then filter (λ p. not (steers_pair rs rule.peer p))
+    (rewritten_pairs rs net rules ps) else rewritten_pairs rs net rules ps
 
 abbrev pub rewritten : ℕ → List MemberRule → Route → Route
 rewritten rs rules route =

@@ -60,7 +60,11 @@ HasNoReports rs route = brought_triples rs route ≡ route.triples
 
 -- the path's first number `times` times more in front of it
 abbrev pub padded : ℕ → Route → Route
-padded times route = record route { path = replicate times (record { 0 = first_of route.path }) ++ route.path }
+padded times route = record route {
+  path = replicate times (record {
+    0 = first_of route.path;
+  }) ++ route.path;
+}
 
 -- what a receiver gets of a route that goes out
 abbrev pub cleaned : Router → Route → Route
@@ -75,7 +79,8 @@ cleaned router route = record route {
 -- a defined set of a list's items has its value; there is none where the list is empty
 abbrev pub IsNamed : {A : Type 0} → Known → List ℕ → (List A → SetLit) → List A → Type 0
 IsNamed k name made [] = Unit {0}
-IsNamed k name made (x ∷ xs) = (route : Route) → k.value name route ≡ returns (value.Set (made (x ∷ xs))) route
+IsNamed k name made (x ∷ xs) =
+    (route : Route) → k.value name route ≡ returns (value.Set (made (x ∷ xs))) route
 
 -- Ranges of AS numbers ascend by their first numbers.
 abbrev pub FirstsAscend : List (Asn × Asn) → Type 0
@@ -89,7 +94,8 @@ pub record HeadStands (r : Registry) (router : Router) : Type 0 where
 
 -- `ixp_drop` refuses a route with a number
 abbrev pub Drops : ℕ → Known → Type 0
-Drops rs k = (n : ℕ) (route : Route) → k.call (codes "ixp_drop") (value.Int n ∷ []) route ≡ refused_with rs n route
+Drops rs k = (n : ℕ) (route : Route)
+    → k.call (codes "ixp_drop") (value.Int n ∷ []) route ≡ refused_with rs n route
 
 -- `ixp_bh`, where the router has an address for blackhole routes, knows them
 abbrev pub TellsBlackholes : Router → Known → Type 0
@@ -103,10 +109,15 @@ pub record Shared (r : Registry) (router : Router) (k : Known) : Type 0 where
   pub blackhole : TellsBlackholes router k
   pub net : (route : Route) → route.net.family ≡ router.family → HasNoReports router.asn.0 route
       → k.call (codes "ixp_net") [] route ≡ stops router.asn.0 (net_refusal r router route) route
-  pub bogon_as : (route : Route) → k.call (codes "ixp_as") [] route ≡ stops router.asn.0 (bogon_as_refusal r route) route
-  pub transit : (route : Route) → k.call (codes "ixp_transit") [] route ≡ stops router.asn.0 (transit_refusal r route) route
+  pub bogon_as : (route : Route)
+      → k.call (codes "ixp_as") [] route ≡ stops router.asn.0 (bogon_as_refusal r route) route
+  pub transit : (route : Route)
+      → k.call (codes "ixp_transit") [] route ≡ stops router.asn.0 (transit_refusal r route) route
   pub sends : (p : ℕ) (route : Route)
-      → k.call (codes "ixp_sends") (value.Int p ∷ []) route ≡ returns (value.Bool (sends router.asn.0 route p)) route
+      → k.call (codes "ixp_sends") (value.Int p ∷ []) route
+      ≡ returns (value.Bool (sends router.asn.0 route p)) route
   pub counts : (p : ℕ) (route : Route)
-      → k.call (codes "ixp_count") (value.Int p ∷ []) route ≡ returns (value.Int (prepends router.asn.0 route p)) route
-  pub pads : (n : ℕ) (route : Route) → n ≤ 3 → k.call (codes "ixp_pad") (value.Int n ∷ []) route ≡ falls (padded n route)
+      → k.call (codes "ixp_count") (value.Int p ∷ []) route
+      ≡ returns (value.Int (prepends router.asn.0 route p)) route
+  pub pads : (n : ℕ) (route : Route) → n ≤ 3
+      → k.call (codes "ixp_pad") (value.Int n ∷ []) route ≡ falls (padded n route)

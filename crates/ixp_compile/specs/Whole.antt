@@ -10,4 +10,5 @@ use Rattle.ixp_policy.specs.Tags.{tagged}
 
 -- what a session's own text does with a route: it has no other session
 abbrev pub own_fate : Registry → Router → Session → Route → Fate
-own_fate r router s route = record { table = Some (tagged r router s route); passed = passes r router s route; sent = [] }
+own_fate r router s route =
+    record { table = Some (tagged r router s route); passed = passes r router s route; sent = [] }

@@ -17,7 +17,9 @@ ghost use Rattle.ixp_compile.specs.Shared.{Shared};
 pub fn import_tags()
     ensures { (env : Environment) (k : Known) (r : Registry) (router : Router) (s : Session)
         (irr blackholes : List Pattern) (route : Route) →
-        Shared r router k → Sees r router s env → Allows router s irr blackholes → Names router s irr blackholes k →
+        Shared r router k → Sees r router s env → Allows router s irr blackholes →
+        Names router s irr blackholes k →
         route.net.family ≡ router.family →
-        body_of env k [] (stmts (in_body (inputs r router s) irr blackholes)) route ≡ accepts (tagged r router s route) }
+        body_of env k [] (stmts (in_body (inputs r router s) irr blackholes)) route
+        ≡ accepts (tagged r router s route) }
 {}

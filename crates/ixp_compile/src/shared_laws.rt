@@ -52,16 +52,19 @@ pub fn drop_refuses()
 pub fn blackhole_is_blackhole()
     ensures { (env : Environment) (k : Known) (router : Router) (route : Route)
         → is_some router.blackhole ≡ true → route.net.family ≡ router.family →
-        body_of env k [] (stmts (blackhole_body router.family)) route ≡ returns (Bool (is_blackhole router route)) route }
+        body_of env k [] (stmts (blackhole_body router.family)) route
+        ≡ returns (Bool (is_blackhole router route)) route }
 {}
 
 /// `ixp_net` refuses by the first of the lines on the net and on lengths.
 pub fn net_refuses()
     ensures { (env : Environment) (k : Known) (r : Registry) (router : Router) (route : Route)
         → HeadStands r router →
-        Drops router.asn.0 k → TellsBlackholes router k → IsNamed k (codes "ixp_bogons") Prefixes (bogons_of (header_inputs r router)) →
+        Drops router.asn.0 k → TellsBlackholes router k →
+        IsNamed k (codes "ixp_bogons") Prefixes (bogons_of (header_inputs r router)) →
         route.net.family ≡ router.family → HasNoReports router.asn.0 route →
-        body_of env k [] (stmts (net_body (header_inputs r router))) route ≡ stops router.asn.0 (net_refusal r router route) route }
+        body_of env k [] (stmts (net_body (header_inputs r router))) route
+        ≡ stops router.asn.0 (net_refusal r router route) route }
 {}
 
 /// `ixp_as` refuses a path with a number that may stand in none.
@@ -77,19 +80,22 @@ pub fn bogon_as_refuses()
 pub fn transit_refuses()
     ensures { (env : Environment) (k : Known) (r : Registry) (router : Router) (route : Route) →
         Drops router.asn.0 k → IsNamed k (codes "ixp_transit_as") numbers r.public.transit →
-        body_of env k [] (stmts (transit_body (header_inputs r router))) route ≡ stops router.asn.0 (transit_refusal r route) route }
+        body_of env k [] (stmts (transit_body (header_inputs r router))) route
+        ≡ stops router.asn.0 (transit_refusal r route) route }
 {}
 
 /// `ixp_sends` is whether the route's communities send it to the peer.
 pub fn sends_is_sends()
     ensures { (env : Environment) (k : Known) (rs p : ℕ) (route : Route) →
-        body_of env k ((codes "p", Int p) ∷ []) (stmts (sends_body rs)) route ≡ returns (Bool (sends rs route p)) route }
+        body_of env k ((codes "p", Int p) ∷ []) (stmts (sends_body rs)) route
+        ≡ returns (Bool (sends rs route p)) route }
 {}
 
 /// `ixp_count` is how often the route's communities put the sender's number in front for the peer.
 pub fn count_is_prepends()
     ensures { (env : Environment) (k : Known) (rs p : ℕ) (route : Route) →
-        body_of env k ((codes "p", Int p) ∷ []) (stmts (count_body rs)) route ≡ returns (Int (prepends rs route p)) route }
+        body_of env k ((codes "p", Int p) ∷ []) (stmts (count_body rs)) route
+        ≡ returns (Int (prepends rs route p)) route }
 {}
 
 /// `ixp_pad` puts the path's first number in front up to three times.
@@ -102,7 +108,8 @@ pub fn pad_pads()
 pub fn out_cleans()
     ensures { (env : Environment) (k : Known) (router : Router) (route : Route) → TellsBlackholes router k
         → route.net.family ≡ router.family →
-        body_of env k [] (stmts (out_body router.asn.0 router.blackhole)) route ≡ accepts (cleaned router route) }
+        body_of env k [] (stmts (out_body router.asn.0 router.blackhole)) route
+        ≡ accepts (cleaned router route) }
 {}
 
 /// The head of a text gives its functions these meanings.

@@ -53,6 +53,7 @@ pub fn own_part_tells()
         (env : Environment) (t : Route) (to times : ℕ) →
         Valid r → find router_key handle r.routers ≡ Some router → session r router n ≡ Some s →
         wish router s t to ≡ Some times →
-        function_end env (reverse (own_part r router s)) (codes "ixp_count") to (rewritten router.asn.0 s.rules t)
+        function_end env (reverse (own_part r router s)) (codes "ixp_count") to
+        (rewritten router.asn.0 s.rules t)
         ≡ Ok (Int times) }
 {}

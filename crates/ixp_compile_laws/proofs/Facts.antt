@@ -20,7 +20,7 @@ abbrev pub apart : List ℕ → Facts → Bool
 apart name [] = true
 apart name (f ∷ fs) = not (same_word name f.0) && apart name fs
 
-past : (b : Bool) (x y : Option Declared) → not b ≡ true → (if b then x else y) ≡ y
+pub past : (b : Bool) (x y : Option Declared) → not b ≡ true → (if b then x else y) ≡ y
 past true x y e = absurd cc
 past false x y e = refl
 

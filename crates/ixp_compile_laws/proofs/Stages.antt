@@ -15,7 +15,7 @@ use Rattle.ixp_compile.specs.Pieces.{defined}
 use Rattle.ixp_lang_laws.specs.Sound.{set_type, set_fits}
 use Rattle.ixp_lang_laws.specs.SoundItems.{item_fits, names_behind, items_fit}
 use Rattle.ixp_lang_laws.specs.SoundStatements.{stmts_fit, returned_in}
-use Rattle.ixp_compile_laws.proofs.Facts.{Facts, Known, apart, known_behind, names_after}
+use Rattle.ixp_compile_laws.proofs.Facts.{Facts, Known, apart, known_behind, names_after, past}
 use Rattle.ixp_compile_laws.proofs.Session.{if_any}
 use Rattle.ixp_compile_laws.proofs.FreeNames.{Free, free_later}
 
@@ -48,10 +48,6 @@ stays P number names p = (refl, p)
 -- a name that is neither parameter's
 abbrev pub is_plain : List ℕ → Bool
 is_plain w = not (same_word w (codes "n")) && not (same_word w (codes "p"))
-
-past : (b : Bool) (x y : Option Declared) → not b ≡ true → (if b then x else y) ≡ y
-past true x y e = absurd cc
-past false x y e = refl
 
 pub kept_free : (number : ℕ) (names : Names) (w p : List ℕ) (d : Declared) → not (same_word w p) ≡ true → Free number names p → Free (suc number) (standing names w d) p
 kept_free number names w p d e free m h = subst (λ x. is_free_in x m ≡ true) (sym (past (same_word w p) (Some d) (names p) e)) (free_later number names p free m h)

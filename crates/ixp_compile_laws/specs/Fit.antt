@@ -8,9 +8,11 @@ use Rattle.ixp_lang_tokens.specs.Pieces.{same_word}
 use Rattle.ixp_compile.specs.declared.inputs.Inputs.{Inputs}
 use Rattle.ixp_lang_laws.specs.Sound.{some_of, is_lawful}
 
-module _ (f : Family) (b : Option Addr) (sets : Inputs → List Pattern) (blackholes : Inputs → List Pattern) where
+module _ (f : Family) (b : Option Addr) (sets : Inputs → List Pattern) (blackholes : Inputs
+    → List Pattern) where
   abbrev pub IsFit : Inputs → Type 0
-  IsFit i = (i.family ≡ f) × (i.blackhole ≡ b) × (list_all is_lawful (sets i) ≡ true) × (list_all is_lawful (blackholes i) ≡ true) × (some_of i.addresses ≡ true)
+  IsFit i = (i.family ≡ f) × (i.blackhole ≡ b) × (list_all is_lawful (sets i) ≡ true)
+      × (list_all is_lawful (blackholes i) ≡ true) × (some_of i.addresses ≡ true)
 
   abbrev pub IsOther : Inputs → List Inputs → Type 0
   IsOther i [] = Unit {0}

@@ -43,8 +43,10 @@ pub record Right (text : List ℕ) (r : Registry) (router : Router) : Type 0 whe
 abbrev pub SendsAsWished : List ItemTree → Route → (ℕ → Option ℕ) → Type 0
 SendsAsWished configuration route wished =
     (env : Environment) (to : ℕ)
-    → (function_end env (reverse configuration) (codes "ixp_sends") to route ≡ Ok (Bool (is_some (wished to))))
-    × ((times : ℕ) → wished to ≡ Some times → function_end env (reverse configuration) (codes "ixp_count") to route ≡ Ok (Int times))
+    → (function_end env (reverse configuration) (codes "ixp_sends") to route
+    ≡ Ok (Bool (is_some (wished to))))
+    × ((times : ℕ) → wished to ≡ Some times
+    → function_end env (reverse configuration) (codes "ixp_count") to route ≡ Ok (Int times))
 
 -- The text spells a configuration. Every route of the session's family has by it, from that session, the
 -- table and the verdict that the rules say. Where it passes, the filter up accepts what the table holds as a
@@ -53,9 +55,11 @@ pub record RightOwn (text : List ℕ) (r : Registry) (router : Router) (n : ℕ)
   pub configuration : List ItemTree
   pub is_spelt : SpellsText text configuration
   pub is_fate :
-      (route : Route) → route.net.family ≡ router.family → walk configuration (roa_tables r) (bgp_name n) route ≡ Ok (own_fate r router s route)
+      (route : Route) → route.net.family ≡ router.family
+      → walk configuration (roa_tables r) (bgp_name n) route ≡ Ok (own_fate r router s route)
   pub up :
       (route : Route) → route.net.family ≡ router.family → passes r router s route ≡ true
       → (sent : Route)
-      × ((env : Environment) → filter_end env (reverse configuration) (up_name n) (tagged r router s route) ≡ Ok (Accept sent))
+      × ((env : Environment)
+      → filter_end env (reverse configuration) (up_name n) (tagged r router s route) ≡ Ok (Accept sent))
       × SendsAsWished configuration sent (wish router s (tagged r router s route))

@@ -26,15 +26,18 @@ older_sent_route router s route times = record {
 -- what the receiver gets of the sender's route, if anything
 abbrev pub older_received : Router → Session → Route → Session → Option Route
 older_received router s route receiver =
-    if lets_in receiver s route then option_map (older_sent_route router s route) (wish router s route receiver.member.asn.0) else None
+    if lets_in receiver s route then option_map (older_sent_route router s route)
+    (wish router s route receiver.member.asn.0) else None
 
 -- what the session of an interface gets of the sender's route
 abbrev pub older_sent_at : Registry → Router → Session → Route → Interface → List ℕ × Option Route
-older_sent_at r router s route i = (session_name i.number, if_there (session_at r router i) None (older_received router s route))
+older_sent_at r router s route i =
+    (session_name i.number, if_there (session_at r router i) None (older_received router s route))
 
 -- what each other session gets, another one of the same member included
 abbrev pub older_sent_to_others : Registry → Router → Session → Route → List (List ℕ × Option Route)
-older_sent_to_others r router s route = map (older_sent_at r router s route) (filter (is_other s) (sessions_of r router))
+older_sent_to_others r router s route =
+    map (older_sent_at r router s route) (filter (is_other s) (sessions_of r router))
 
 -- the route passes where no line of the import table holds
 abbrev pub older_passes : Registry → Router → Session → Route → Bool
@@ -45,7 +48,8 @@ abbrev pub older_fate_of : Registry → Router → Route → Session → Fate
 older_fate_of r router route s = record {
   table = Some (older_tagged r router s route);
   passed = older_passes r router s route;
-  sent = if older_passes r router s route then older_sent_to_others r router s (older_tagged r router s route) else [];
+  sent = if older_passes r router s route then older_sent_to_others r router s (older_tagged r router s route)
+      else [];
 }
 
 -- by the router's handle and the interface's number, None where there is no such session
@@ -54,8 +58,10 @@ older_fate r handle n route = at_session r handle n (λ router s. older_fate_of 
 
 -- the number with which the route is refused there, if it is
 abbrev pub older_number : Registry → List ℕ → ℕ → Route → Option (Option ℕ)
-older_number r handle n route = at_session r handle n (λ router s. refusal_number (older_refusal r router s route))
+older_number r handle n route =
+    at_session r handle n (λ router s. refusal_number (older_refusal r router s route))
 
 -- the wish for a receiver's number there
 abbrev pub older_ask : Registry → List ℕ → ℕ → Route → ℕ → Option (Option ℕ)
-older_ask r handle n route to = at_session r handle n (λ router s. wish router s (older_tagged r router s route) to)
+older_ask r handle n route to =
+    at_session r handle n (λ router s. wish router s (older_tagged r router s route) to)

@@ -44,8 +44,8 @@ older_refusal r router s route = first_that_holds (older_table r router s route)
 -- Tags.
 
 -- What is told, where it holds. rs:1001:1200 the next hop is another router of the member; rs:1001:2 its
--- registered origins aren't asked for; rs:1001:1002 there are none; rs:1000:3, rs:1000:1, rs:1000:2 the router
--- tests no origins, Valid, Unknown (RFC 6811); rs:1001:1 the net is of a registered prefix.
+-- registered origins aren't asked for; rs:1001:1002 there are none; rs:1000:3, rs:1000:1, rs:1000:2 the
+-- router tests no origins, Valid, Unknown (RFC 6811); rs:1001:1 the net is of a registered prefix.
 unfoldable pub older_findings : Registry → Router → Session → Route → List Line → List (Bool × (ℕ × ℕ × ℕ))
 older_findings r router s route lines =
     (is_got_past NextHopNotPeer lines && not (is_own_hop s route), (router.asn.0, FINDING, 1200))
@@ -65,4 +65,7 @@ older_tags r router s route lines =
 -- the route as the server holds it: with its own tags in the place of those that the route brought
 abbrev pub older_tagged : Registry → Router → Session → Route → Route
 older_tagged r router s route =
-    record route { triples = brought_triples router.asn.0 route ++ older_tags r router s route (older_table r router s route) }
+    record route {
+      triples = brought_triples router.asn.0 route
+          ++ older_tags r router s route (older_table r router s route);
+    }

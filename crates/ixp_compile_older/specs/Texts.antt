@@ -27,7 +27,8 @@ abbrev pub older_net_body : HeaderInputs → List StmtTree
 older_net_body h =
     when (compared op.Gt attr.NetLen (int h.router.high)) (drop_with 1 ∷ [])
     ∷ when (compared op.Lt attr.NetLen (int h.router.low)) (drop_with 2 ∷ [])
-    ∷ where_any (bogons_of h) (when (compared op.In attr.Net (named (codes "ixp_bogons"))) (drop_with 3 ∷ []) ∷ [])
+    ∷ where_any (bogons_of h) (when (compared op.In attr.Net (named (codes "ixp_bogons"))) (drop_with 3 ∷ [])
+    ∷ [])
     ++ when (compared op.Eq attr.Len (int 0)) (drop_with 6 ∷ [])
     ∷ when (compared op.Gt attr.Len (int 64)) (drop_with 5 ∷ [])
     ∷ []
@@ -56,7 +57,8 @@ older_header h = in_turn (tables h.router ∷ public_sets h ∷ older_functions 
 abbrev pub older_sets : Inputs → List Pattern → List ItemTree
 older_sets i irr =
     if_held i
-    (in_turn (defined (irr_name i.interface) set.Prefixes irr ∷ defined (origins_name i.interface) numbers i.origins ∷ []))
+    (in_turn (defined (irr_name i.interface) set.Prefixes irr
+    ∷ defined (origins_name i.interface) numbers i.origins ∷ []))
 
 abbrev pub older_in_body : Inputs → List Pattern → List StmtTree
 older_in_body i irr =
@@ -100,4 +102,5 @@ older_generated r router =
 
 -- a session's own text: the head, its part and the foot
 abbrev pub older_own_part : Registry → Router → Session → List ItemTree
-older_own_part r router s = in_turn (older_header (header_inputs r router) ∷ older_part (inputs r router s) ∷ footer ∷ [])
+older_own_part r router s = in_turn (older_header (header_inputs r router) ∷ older_part (inputs r router s)
+    ∷ footer ∷ [])

@@ -16,7 +16,8 @@ use Rattle.ixp_compile_text.specs.declared.addresses.MemberAddresses.{MemberAddr
 -- a member's addresses of a family in a VLAN, by number of interface
 abbrev pub own_addresses : Family → ℕ → ℕ → List Interface → List Addr
 own_addresses family vlan member interfaces =
-    flat_map (λ i. listed_address (address_of family i)) (filter (λ i. i.member == member && i.vlan == vlan) interfaces)
+    flat_map (λ i. listed_address (address_of family i))
+    (filter (λ i. i.member == member && i.vlan == vlan) interfaces)
 
 -- the addresses put in before those that are there
 abbrev pub onto : List Addr → List Addr → List Addr
@@ -40,4 +41,5 @@ addresses_of a member = map (λ l. l.addr) (listed_of a member)
 
 -- the addresses are those of the router's family in its VLAN, each member's in order
 abbrev pub AreInVlan : Registry → Router → MemberAddresses → Type 0
-AreInVlan r router a = (m : ℕ) → addresses_of a m ≡ ascending (own_addresses router.family router.vlan m r.interfaces)
+AreInVlan r router a = (m : ℕ)
+    → addresses_of a m ≡ ascending (own_addresses router.family router.vlan m r.interfaces)

@@ -36,9 +36,11 @@ generated_at r handle = if_there (router_at r handle) (Err NoRouter) (λ q. Ok (
 
 abbrev pub part_at : Registry → List ℕ → ℕ → Result (List ItemTree) GenFault
 part_at r handle n =
-    if_there (router_at r handle) (Err NoRouter) (λ q. if_there (session r q n) (Err NoSession) (λ s. Ok (own_part r q s)))
+    if_there (router_at r handle) (Err NoRouter)
+    (λ q. if_there (session r q n) (Err NoSession) (λ s. Ok (own_part r q s)))
 
--- A call answers with the text of its tree, or for running out of memory; where there is no tree, it answers why.
+-- A call answers with the text of its tree, or for running out of memory; where there is no tree, it answers
+-- why.
 abbrev pub Prints : Result (List ItemTree) GenFault → Result (Vec ℕ Global) GenFault → Type 0
 Prints (Err fault) answer = answer ≡ Err fault
 Prints (Ok items) (Ok text) = text.items ≡ config_text items

@@ -10,7 +10,8 @@ use Rattle.ixp_compile_text.specs.declared.parts.SessionText.{SessionText}
 
 -- the text of the part of the interface's session, where it has one
 abbrev pub session_text_of : Registry → Router → Interface → Option Session → Option SessionText
-session_text_of r router i = option_map (λ s. record { interface = i.number; text = config_text (session_part (inputs r router s)) })
+session_text_of r router i =
+    option_map (λ s. record { interface = i.number; text = config_text (session_part (inputs r router s)) })
 
 abbrev pub session_text_at : Registry → Router → Interface → Option SessionText
 session_text_at r router i = session_text_of r router i (session_at r router i)

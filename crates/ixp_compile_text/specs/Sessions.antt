@@ -10,7 +10,8 @@ use Rattle.ixp_compile.specs.Generated.{inputs, session_part}
 
 -- the part of the interface's session with the router, where it has one
 unfoldable pub part_text : Registry → Router → Interface → List ℕ
-part_text r router i = if_there (session_at r router i) [] (λ s. config_text (session_part (inputs r router s)))
+part_text r router i = if_there (session_at r router i) []
+    (λ s. config_text (session_part (inputs r router s)))
 
 -- the parts of the sessions at these interfaces
 unfoldable pub sessions_text : Registry → Router → List Interface → List ℕ

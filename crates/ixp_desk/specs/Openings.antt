@@ -29,10 +29,12 @@ module _ {D P : Type 0} (history : D → Log) (rows : P → Option Table) (fault
   -- The history begins with the state that was loaded and the store's count of faults, and has no turn. Where
   -- there is no desk the store comes back with its rows as they were; its count rose where it failed.
   abbrev pub Comes : Result State LoadFault → Result D (LoadFault × P) → Type 0
-  Comes (Ok s) (Ok d) = (first : First) × (history d ≡ entries first []) × (first.state ≡ s) × (first.faults ≡ faults keeper)
+  Comes (Ok s) (Ok d) = (first : First) × (history d ≡ entries first []) × (first.state ≡ s)
+      × (first.faults ≡ faults keeper)
   Comes (Ok s) (Err e) = (e.0 ≡ load.NoMemory) × (rows e.1 ≡ rows keeper)
   Comes (Err x) (Ok d) = ⊥
-  Comes (Err x) (Err e) = (e.0 ≡ x) × (rows e.1 ≡ rows keeper) × (x ≡ load.KeeperFault → Rose (faults keeper) (faults e.1))
+  Comes (Err x) (Err e) = (e.0 ≡ x) × (rows e.1 ≡ rows keeper)
+      × (x ≡ load.KeeperFault → Rose (faults keeper) (faults e.1))
 
   -- what opening a desk over the store ends in
   pub record Opens (r : Result D (LoadFault × P)) : Type 0 where

@@ -30,8 +30,8 @@ use Rattle.ixp_desk_lock.specs.Sights.{Sight}
 -- The text is the full generation from one version of the history `now`, which the reader has seen at the
 -- return. That version contains every edit of the history `before`, which the reader had seen at the call's
 -- start. For every session of the router and every route the text does what that version's rules say: it
--- accepts or rejects the route, tags it, and exports it to each other member with the attributes. The ROAs are
--- those of that version.
+-- accepts or rejects the route, tags it, and exports it to each other member with the attributes. The ROAs
+-- are those of that version.
 pub record IsPublished (before now : Log) (handle : List ℕ) (text : Text) : Type 0 where
   pub first : First
   pub turns : List Turn
@@ -54,7 +54,8 @@ reader_of (Some (Member m)) = Err (Denied right.Staff)
 
 -- who has the secret may read configurations or not, after this history
 abbrev pub IsReader : Log → List ℕ → Result Owner Refusal → Type 0
-IsReader log secret x = (f : First) (ts : List Turn) → log ≡ entries f ts → reader_of (owner_of (registry_of f ts) secret) ≡ x
+IsReader log secret x = (f : First) (ts : List Turn) → log ≡ entries f ts
+    → reader_of (owner_of (registry_of f ts) secret) ≡ x
 
 -- A call looked: this is the history that it saw then, by which this owner may read.
 pub record LookedFor (secret : List ℕ) (owner : Owner) (s t : Sight) : Type 0 where
@@ -63,8 +64,8 @@ pub record LookedFor (secret : List ℕ) (owner : Owner) (s t : Sight) : Type 0 
   pub begins : IsPrefix looked t.2
   pub reader : IsReader looked secret (Ok owner)
 
--- The look alone answers: no edit is named, no turn is made, and what is shown has all accepted edits that the
--- reader had seen.
+-- The look alone answers: no edit is named, no turn is made, and what is shown has all accepted edits that
+-- the reader had seen.
 abbrev pub ShowsText : ℕ → Option ℕ → List ℕ → Option Text → Sight → Sight → Type 0
 ShowsText must seen handle o s t = (seen ≡ None) × (t.1 ≡ s.1) × ReadsAt t.2 must handle o
 
@@ -83,7 +84,8 @@ Answers secret handle seen (Ok text) s t = HandsOut secret handle seen (Some tex
 Answers secret handle seen (Err pub_fault.NoRouter) s t = HandsOut secret handle seen None s t
 Answers secret handle seen (Err (pub_fault.Refused x)) s t = (t.1 ≡ s.1) × IsReader t.2 secret (Err x)
 Answers secret handle seen (Err (pub_fault.SeenUnknown n)) s t =
-    (owner : Owner) × LookedFor secret owner s t × (seen ≡ Some n) × Own (One (IsQuestion (Seen owner n) (Place None))) s t
+    (owner : Owner) × LookedFor secret owner s t × (seen ≡ Some n)
+    × Own (One (IsQuestion (Seen owner n) (Place None))) s t
 Answers secret handle seen (Err (pub_fault.SeatCount a b)) s t = OtherCount a b s t
 Answers secret handle seen (Err (pub_fault.Ended n)) s t = SeatEnded n s t
 Answers secret handle seen (Err pub_fault.NoMemory) s t = AtMostOne s t

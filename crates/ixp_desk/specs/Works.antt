@@ -16,16 +16,18 @@ HasAll log n = (k : ℕ) → HasAccepted log k → k ≤ n
 abbrev pub WasBuilt : Log → Log → ℕ → Type 0
 WasBuilt before now n = (at : Log) × IsPrefix before at × IsPrefix at now × HasBuilt at n
 
--- Built: one turn installs a later version than the one that was shown just before it, with no fewer edits than
--- the seat had seen. Nothing: one turn installs the present version, which was shown. Late: no turn; other
--- texts are shown than when the order was taken.
+-- Built: one turn installs a later version than the one that was shown just before it, with no fewer edits
+-- than the seat had seen. Nothing: one turn installs the present version, which was shown. Late: no turn;
+-- other texts are shown than when the order was taken.
 abbrev pub Works : WorkTurn → Sight → Sight → Type 0
 Works (Built upto) s t = (from : ℕ) × (from < upto) × InstallsOver from upto s t × HasAll s.2 upto
 Works (Nothing built) s t = InstallsOver built built s t × HasAccepted t.2 built
-Works (Late current asked) s t = MakesNone s t × (current ≢ asked) × HasBuilt t.2 current × WasBuilt s.2 t.2 asked
+Works (Late current asked) s t =
+    MakesNone s t × (current ≢ asked) × HasBuilt t.2 current × WasBuilt s.2 t.2 asked
 
 -- the part of it after texts were made
 abbrev pub Finishes : Made → WorkTurn → Sight → Sight → Type 0
 Finishes m (Built upto) s t = (upto ≡ m.upto) × InstallsOver m.from upto s t
 Finishes m (Nothing built) s t = ⊥
-Finishes m (Late current asked) s t = MakesNone s t × (asked ≡ m.from) × (current ≢ asked) × HasBuilt t.2 current
+Finishes m (Late current asked) s t =
+    MakesNone s t × (asked ≡ m.from) × (current ≢ asked) × HasBuilt t.2 current

@@ -42,7 +42,8 @@ impl<P: Keeper + Drop> Model for Desk<P> {
 
     ghost view = { λ d. (d.opened.0, d.opened.1, d.seats) };
 
-    ghost invariant = { λ d. Stored (P.table d.keeper) d.state × BeginsAt d.state (P.faults d.keeper) d.opened.1
+    ghost invariant = { λ d. Stored (P.table d.keeper) d.state
+        × BeginsAt d.state (P.faults d.keeper) d.opened.1
         × (0 < d.seats) };
 }
 
@@ -52,7 +53,7 @@ fn first_views(alloc: Global, state: &State) -> Result<(View, View), AllocError>
     ensures shows { IfOk result (λ v. ShowsFirst state.now v.0) }
     ensures same { IfOk result (λ v. v.1 ≡ v.0) }
 {
-    let bundle = Bundle::open(alloc, state)?;
+    let bundle = Bundle::open(alloc, &state.registry, state.accepted)?;
     let keys = state.registry.keys.copied(alloc)?;
     let shown = Shown {
         accepted: state.accepted,
@@ -104,8 +105,8 @@ fn begun<P: Keeper + Drop>(
 }
 
 impl<P: Keeper + Drop> Desk<P> {
-    /// A desk over a store that was loaded as this state, with 1 to 64 seats: all texts of the state are made.
-    /// Where memory runs out the store comes back.
+    /// A desk over a store that was loaded as this state, with 1 to 64 seats: all texts of the state are
+    /// made. Where memory runs out the store comes back.
     pub fn over(alloc: Global, state: State, keeper: P, seats: u32) -> Result<Desk<P>, P>
         requires valid { ValidState state }
         requires stored { Stored (P.table keeper) state }

@@ -48,15 +48,19 @@ abbrev pub OrNoMemory : Outcome → Outcome → Type 0
 OrNoMemory says o = (o ≡ says) ⊎ (o ≡ outcome.NoMemory)
 
 -- by a configuration: the route's fate, as the rules over the rows of its version say it
-abbrev pub staff_says : {before now : Log} {text : Text} → (call : ExplainCall) → IsPublished before now call.router text → Outcome
+abbrev pub staff_says : {before now : Log} {text : Text} → (call : ExplainCall)
+    → IsPublished before now call.router text → Outcome
 staff_says call p = explanation_outcome
-    (told_by (λ s. fate_text (fate_of p.registry p.router call.asked.route s) (Some p.router.asn)) p.router call.asked.route
+    (told_by (λ s. fate_text (fate_of p.registry p.router call.asked.route s)
+    (Some p.router.asn)) p.router call.asked.route
     (session p.registry p.router call.interface))
 
 -- by a session's own text of this state: what the rules over its rows say of the member's own route
-abbrev pub member_says : {st : State} {text : Text} → (call : ExplainCall) → IsOwnText st call.router call.interface text → Outcome
+abbrev pub member_says : {st : State} {text : Text} → (call : ExplainCall)
+    → IsOwnText st call.router call.interface text → Outcome
 member_says {st} call x = explanation_outcome
-    (told_by (λ s. own_text (own_report_by_rows st.registry x.router s call.asked.route call.asked.peers)) x.router call.asked.route
+    (told_by (λ s. own_text
+    (own_report_by_rows st.registry x.router s call.asked.route call.asked.peers)) x.router call.asked.route
     (Some x.sender))
 
 abbrev pub own_fault : AskFault → Outcome
@@ -76,11 +80,13 @@ pub record OwnTextIn (log : Log) (handle : List ℕ) (n : ℕ) (text : Text) : T
 
 -- a member's session's own text is asked for, and by it the member is told
 abbrev pub OwnTold : ExplainCall → Result Text AskFault → Outcome → Log → Type 0
-OwnTold call (Ok text) o log = (x : OwnTextIn log call.router call.interface text) × OrNoMemory (member_says call x.own) o
+OwnTold call (Ok text) o log =
+    (x : OwnTextIn log call.router call.interface text) × OrNoMemory (member_says call x.own) o
 OwnTold call (Err fault) o log = o ≡ own_fault fault
 
 abbrev pub OwnTurn : ExplainCall → Outcome → Sight → Sight → Type 0
-OwnTurn call o s t = (r : Result Text AskFault) × OwnTexts call.secret call.router call.interface r s t × OwnTold call r o t.2
+OwnTurn call o s t = (r : Result Text AskFault) × OwnTexts call.secret call.router call.interface r s t
+    × OwnTold call r o t.2
 
 -- X1: who asks is a member
 abbrev pub is_denied : PubFault → Bool
@@ -93,10 +99,12 @@ ExplainsElse false call x o u t = (t ≡ u) × (o ≡ fault_outcome x)
 
 -- What is told once a configuration was asked for: to the staff by it, to a member by its session's own text.
 abbrev pub Explains : ExplainCall → Result Text PubFault → Outcome → Sight → Sight → Sight → Type 0
-Explains call (Ok text) o s u t = (t ≡ u) × ((p : IsPublished s.2 u.2 call.router text) × OrNoMemory (staff_says call p) o)
+Explains call (Ok text) o s u t =
+    (t ≡ u) × ((p : IsPublished s.2 u.2 call.router text) × OrNoMemory (staff_says call p) o)
 Explains call (Err x) o s u t = ExplainsElse (is_denied x) call x o u t
 
 -- `u` is what the seat has seen once a configuration was asked for
 abbrev pub ExplainTurn : ExplainCall → Outcome → Sight → Sight → Type 0
 ExplainTurn call o s t =
-    (u : Sight) × Grows s u × Grows u t × ((r : Result Text PubFault) × Answers call.secret call.router call.seen r s u × Explains call r o s u t)
+    (u : Sight) × Grows s u × Grows u t × ((r : Result Text PubFault)
+    × Answers call.secret call.router call.seen r s u × Explains call r o s u t)

@@ -184,8 +184,8 @@ fn told_session<R: Wait, N: BoardName, M: BoardName, D: Desks<N>>(
     }
 }
 
-/// The whole fate of that one of the routes that the router's session at the interface holds which stands at the
-/// place, counted from 1; for the staff, by the configuration that is handed out.
+/// The whole fate of that one of the routes that the router's session at the interface holds which stands
+/// at the place, counted from 1; for the staff, by the configuration that is handed out.
 pub fn fate_shown<R: Wait, N: BoardName, M: BoardName, D: Desks<N>, V: Publish<Note<HoldStory, M>>>(
     rt: &R,
     alloc: Global,

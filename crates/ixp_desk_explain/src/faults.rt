@@ -44,8 +44,8 @@ fn is_unknown(fault: &AskFault) -> bool
     }
 }
 
-/// How a request of the staff ends where the interface has no session with the router, or it isn't known whether it
-/// has.
+/// How a request of the staff ends where the interface has no session with the router, or it isn't known
+/// whether it has.
 pub(crate) fn session_fault(fault: AskFault) -> Outcome
     ensures { result ≡ session_fault fault }
 {

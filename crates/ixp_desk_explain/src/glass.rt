@@ -6,8 +6,8 @@ use ixp_glass::{Glass, SharedReports};
 use ixp_glass_holds::{GlassDesk, GlassSeat, HoldStory};
 use std::alloc::Global;
 
-/// The routes that sessions are known to announce, the reports that were made of them last, and the configurations
-/// that were read last. Threads share it: there is a lock round each.
+/// The routes that sessions are known to announce, the reports that were made of them last, and the
+/// configurations that were read last. Threads share it: there is a lock round each.
 pub struct LookingGlass<M: BoardName, V: Publish<Note<HoldStory, M>>> {
     pub(crate) holds: GlassDesk<M, V>,
     pub(crate) reports: SharedReports,
@@ -29,8 +29,8 @@ impl<M: BoardName, V: Publish<Note<HoldStory, M>>> Drop for LookingGlass<M, V> {
 pub type LinkSeats<N, M> = (DeskSeat<N>, GlassSeat<M>);
 
 impl<M: BoardName, V: Publish<Note<HoldStory, M>>> LookingGlass<M, V> {
-    /// A looking glass over these holds, of which no report was made and no configuration was read yet. It does
-    /// not allocate.
+    /// A looking glass over these holds, of which no report was made and no configuration was read yet. It
+    /// does not allocate.
     pub fn new(alloc: Global, holds: GlassDesk<M, V>) -> LookingGlass<M, V> {
         LookingGlass {
             holds,

@@ -44,8 +44,8 @@ fn family_told(told: Result<Explanation, AllocError>, route: &Route) -> Result<F
     }
 }
 
-/// The family of the session's router, by what the session's own text says of the first of the routes. Where there
-/// are none, any family does.
+/// The family of the session's router, by what the session's own text says of the first of the routes.
+/// Where there are none, any family does.
 fn family_for(
     alloc: Global,
     text: &Text,
@@ -130,8 +130,8 @@ fn hold_session<R: Wait, N: BoardName, M: BoardName, D: Desks<N>, V: Publish<Not
     }
 }
 
-/// The router's session at the interface is to hold these routes from now on, and no others; without routes it
-/// holds nothing. This is the staff's to say.
+/// The router's session at the interface is to hold these routes from now on, and no others; without routes
+/// it holds nothing. This is the staff's to say.
 pub fn hold<R: Wait, N: BoardName, M: BoardName, D: Desks<N>, V: Publish<Note<HoldStory, M>>>(
     rt: &R,
     alloc: Global,

@@ -59,8 +59,8 @@ impl Kept {
         }
     }
 
-    /// Keeps a configuration in the place of its route server, or in that of another one where all are taken. What
-    /// went for it is given back.
+    /// Keeps a configuration in the place of its route server, or in that of another one where all are
+    /// taken. What went for it is given back.
     fn keep(&mut self, row: LastRead) -> Result<Option<LastRead>, AllocError> {
         let mut at = self.place(&row.router);
         if at == self.rows.len() {
@@ -78,8 +78,8 @@ impl Kept {
     }
 }
 
-/// The configurations of up to four route servers, as they were read last, which threads share. The lock is held
-/// while one is looked up or kept, not while texts are compared or read.
+/// The configurations of up to four route servers, as they were read last, which threads share. The lock is
+/// held while one is looked up or kept, not while texts are compared or read.
 #[derive(Drop)]
 pub(crate) struct Readings {
     lock: Mutex<Kept>,
@@ -110,8 +110,8 @@ impl Readings {
         Ok(())
     }
 
-    /// The configuration of the route server, as it was read before where that was this text, or else it is read
-    /// now and kept.
+    /// The configuration of the route server, as it was read before where that was this text, or else it is
+    /// read now and kept.
     pub(crate) fn of<R: Wait>(
         &self,
         rt: &R,

@@ -89,8 +89,8 @@ fn told_held<R: Wait, M: BoardName>(
     }
 }
 
-/// What becomes of each route that the router's session at the interface holds, for the staff and the interface's
-/// member: by the session's own text of the present version.
+/// What becomes of each route that the router's session at the interface holds, for the staff and the
+/// interface's member: by the session's own text of the present version.
 pub fn shown<R: Wait, N: BoardName, M: BoardName, D: Desks<N>, V: Publish<Note<HoldStory, M>>>(
     rt: &R,
     alloc: Global,
@@ -104,7 +104,10 @@ pub fn shown<R: Wait, N: BoardName, M: BoardName, D: Desks<N>, V: Publish<Note<H
 ) -> Outcome
     ensures grows { Grows seat.old seat.new }
     ensures begins { IsPrefix holds.old holds.new }
-    ensures turn { GlassTurn secret.now router.now interface result (seat.old, holds.old) (seat.new, holds.new) }
+    ensures turn { GlassTurn secret.now router.now interface result (seat.old, holds.old) (
+      seat.new,
+      holds.new,
+    ) }
 {
     match desk.own_text(rt, seat, secret, router, interface) {
         Ok(text) => told_held(rt, alloc, &glass.reports, holds, &text, router, interface),

@@ -29,19 +29,19 @@ use Rattle.ixp_desk_history.proofs.Steady.{Frames, last_both, steady}
 use Rattle.ixp_desk_history.proofs.ShownRight.{shown_right}
 use Rattle.ixp_desk_history.proofs.Versions.{entries_both, goes_parts, lawful_after, legal_before, one_version, present, state_both, state_valid, version_stays}
 
--- What an edit doesn't touch is wanted as before.
+-- What a change doesn't touch is wanted as before.
 
 header_frame : (h : List ℕ) → Frames (header h) (λ r. head_wanted r h)
-header_frame h r e valid lawful accepted un = ap (option_map (λ i. config_text (header_text i))) (headers_stay r e h valid lawful accepted un)
+header_frame h r c valid un = ap (option_map (λ i. config_text (header_text i))) (headers_stay r c h un)
 
 part_frame : (h : List ℕ) (n : ℕ) → Frames (part h n) (λ r. part_wanted r h n)
-part_frame h n r e valid lawful accepted un = ap (option_map (λ i. config_text (session_part i))) (parts_stay r e h n valid lawful accepted un)
+part_frame h n r c valid un = ap (option_map (λ i. config_text (session_part i))) (parts_stay r c h n valid un)
 
 abbrev roas_wanted : Registry → List Roa
 roas_wanted r = r.public.roas
 
 roas_frame : Frames roas roas_wanted
-roas_frame r e valid lawful accepted un = roas_stay r e un
+roas_frame r c valid un = roas_stay r c un
 
 module _ {W : Type 0} (p : Touch → Bool) (wanted : Registry → W) (frame : Frames p wanted) where
   steady_both : (f : First) (before rest : List Turn) → Legal f (before ++ rest) → last_touch f (before ++ rest) p ≤ (state_of f before).accepted

@@ -1,20 +1,22 @@
 -- What no later edit touched is wanted as before.
-use Rattle.std.proofs.Common.{◌≡◌, ℕ, ◌+◌, ◌≤◌, ◌<◌, ◌⊎◌, inl, inr, None, Bool, true, false, List, [], ◌∷◌, ◌++◌, refl, ap, sym, ◌∙◌, subst, arith, if◌then◌else◌}
+use Rattle.std.proofs.Common.{◌≡◌, ℕ, ◌+◌, ◌≤◌, ◌<◌, ◌⊎◌, inl, inr, Bool, true, false, List, [], ◌∷◌, ◌++◌, refl, ap, sym, ◌∙◌, subst, arith, if◌then◌else◌}
 use Rattle.std.specs.List.{AllByRecursion}
 use Rattle.ixp_registry.specs.declared.registry.Registry.{Registry}
 use Rattle.ixp_registry.specs.Valid.{Valid}
 use Rattle.ixp_machine_edits.specs.declared.edit.Edit.{Edit}
-use Rattle.ixp_machine_edits.specs.Edits.{IsLawful, next, refusal}
+use Rattle.ixp_machine_edits.specs.Edits.{IsLawful, change, next}
+use Rattle.ixp_machine_edits.proofs.EditChanges.{change_is_next}
 use Rattle.ixp_machine_steps.specs.declared.state.Entry.{Entry}
 use Rattle.ixp_machine_steps.specs.declared.state.State.{State}
-use Rattle.ixp_machine_steps.specs.Kept.{kept_of}
 use Rattle.ixp_machine_steps.specs.Runs.{run, if_accepted}
 use Rattle.ixp_machine_steps.specs.States.{ValidState}
 use Rattle.ixp_machine_steps.specs.Steps.{Verdict, Accepted, Repeated, Reused, Refused, verdict, step}
-use Rattle.ixp_machine_steps.proofs.Accepting.{Acts, Rests, accepted_parts, either}
+use Rattle.ixp_machine_steps.proofs.Accepting.{Acts, Rests, either}
 use Rattle.ixp_machine_steps.proofs.Staying.{still_a_state}
 use Rattle.ixp_build_pending.specs.declared.touch.Touch.{Touch}
 use Rattle.ixp_build_touches.specs.Touched.{touch}
+use Rattle.ixp_registry_change.specs.declared.change.RegistryChange.{RegistryChange}
+use Rattle.ixp_registry_change.specs.Changes.{with_change}
 use Rattle.ixp_desk_history.specs.Touches.{if_accepted_else, last_from, touched_by}
 
 abbrev pub AllLawful : List Entry → Type 0
@@ -34,13 +36,12 @@ unsaid (Refused x) e new old is = refl
 
 -- what an edit touches in a state
 abbrev pub touch_in : State → Entry → Touch
-touch_in s e = touch s.registry (next s.registry e.edit) e.edit
+touch_in s e = touch s.registry (next s.registry e.edit) (change s.registry e.edit)
 
 -- what a request does: it makes the next version, or nothing
 pub record Makes (s : State) (e : Entry) : Type 0 where
   pub count : (step s e).accepted ≡ s.accepted + 1
   pub registry : (step s e).registry ≡ next s.registry e.edit
-  pub lawful : refusal s.registry e.edit ≡ None
   pub touched : (p : Touch → Bool) (n : ℕ) → touched_by p s e n ≡ (if p (touch_in s e) then s.accepted + 1 else n)
 
 pub record Leaves (s : State) (e : Entry) : Type 0 where
@@ -51,7 +52,6 @@ made_by : (s : State) (e : Entry) → Acts s e → Makes s e
 made_by s e a = record {
   count = ap (λ (t : State). t.accepted) a.3;
   registry = ap (λ (t : State). t.registry) a.3;
-  lawful = (accepted_parts s.registry (kept_of s.kept a.0) a.0 e.number e.edit a.2).lawful;
   touched = λ p n. said (verdict s e) e.edit (if p (touch_in s e) then s.accepted + 1 else n) n a.5;
 }
 
@@ -118,27 +118,30 @@ module _ (p : Touch → Bool) where
   last_or_later s n [] = inl refl
   last_or_later s n (e ∷ es) = later_of s e n (last_from p s n (e ∷ es)) (makes_or_leaves s e) (last_or_later (step s e) (touched_by p s e n) es)
 
--- What a registry wants of a text is the same after an edit that doesn't touch it.
+-- What a registry wants of a text is the same after a change that doesn't touch it.
 abbrev pub Frames : {W : Type 0} → (Touch → Bool) → (Registry → W) → Type 0
-Frames p wanted = (r : Registry) (e : Edit) → Valid r → IsLawful e → refusal r e ≡ None → p (touch r (next r e) e) ≡ false → wanted r ≡ wanted (next r e)
+Frames p wanted = (r : Registry) (c : RegistryChange) → Valid r → p (touch r (with_change r c) c) ≡ false → wanted r ≡ wanted (with_change r c)
 
 module _ {W : Type 0} (p : Touch → Bool) (wanted : Registry → W) (frame : Frames p wanted) where
+  edit_frame : (r : Registry) (e : Edit) → Valid r → p (touch r (next r e) (change r e)) ≡ false → wanted r ≡ wanted (next r e)
+  edit_frame r e valid = subst (λ (s : Registry). p (touch r s (change r e)) ≡ false → wanted r ≡ wanted s) (change_is_next r e) (frame r (change r e) valid)
+
   -- a request with which the last count isn't later leaves what is wanted
-  text_left : (s : State) (e : Entry) (n last : ℕ) → ValidState s → IsLawful e.edit → Makes s e ⊎ Leaves s e → (last ≡ touched_by p s e n) ⊎ ((step s e).accepted < last)
+  text_left : (s : State) (e : Entry) (n last : ℕ) → ValidState s → Makes s e ⊎ Leaves s e → (last ≡ touched_by p s e n) ⊎ ((step s e).accepted < last)
       → last ≤ s.accepted → (wanted s.registry ≡ wanted (step s e).registry) × (last ≤ (step s e).accepted)
-  text_left s e n last valid lawful (inl m) (inl is) low = by_listed (p (touch_in s e)) refl (is ∙ m.touched p n) where
+  text_left s e n last valid (inl m) (inl is) low = by_listed (p (touch_in s e)) refl (is ∙ m.touched p n) where
     by_listed : (b : Bool) → p (touch_in s e) ≡ b → last ≡ (if b then s.accepted + 1 else n) → (wanted s.registry ≡ wanted (step s e).registry) × (last ≤ (step s e).accepted)
     by_listed true un is = absurd (omega (arith, is, low))
     by_listed false un is =
         let count = m.count in
-        (frame s.registry e.edit valid.registry lawful m.lawful un ∙ ap wanted (sym m.registry), omega (arith, count, low))
-  text_left s e n last valid lawful (inl m) (inr lt) low = let count = m.count in absurd (omega (arith, count, lt, low))
-  text_left s e n last valid lawful (inr l) at low =
+        (edit_frame s.registry e.edit valid.registry un ∙ ap wanted (sym m.registry), omega (arith, count, low))
+  text_left s e n last valid (inl m) (inr lt) low = let count = m.count in absurd (omega (arith, count, lt, low))
+  text_left s e n last valid (inr l) at low =
       (ap (λ (t : State). wanted t.registry) (sym l.state), subst (λ (t : State). last ≤ t.accepted) (sym l.state) low)
 
   -- a text that no request touches is wanted as before
   pub steady : (s : State) (n : ℕ) (es : List Entry) → ValidState s → AllLawful es → last_from p s n es ≤ s.accepted → wanted s.registry ≡ wanted (run s es).registry
   steady s n [] valid lawful low = refl
   steady s n (e ∷ es) valid lawful low =
-      let left = text_left s e n (last_from p s n (e ∷ es)) valid lawful.0 (makes_or_leaves s e) (last_or_later p (step s e) (touched_by p s e n) es) low in
+      let left = text_left s e n (last_from p s n (e ∷ es)) valid (makes_or_leaves s e) (last_or_later p (step s e) (touched_by p s e n) es) low in
       left.0 ∙ steady (step s e) (touched_by p s e n) es (still_a_state s e valid lawful.0) lawful.1 left.1

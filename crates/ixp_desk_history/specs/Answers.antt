@@ -44,7 +44,8 @@ unless_both r handle n =
 -- same whether or not it is there.
 abbrev pub own_refusal : Registry → List ℕ → List ℕ → ℕ → Option Refusal
 own_refusal r secret handle n =
-    if_there (owner_of r secret) (Some NoKey) (λ owner. if may_read r owner n then unless_both r handle n else Some (Denied right.Staff))
+    if_there (owner_of r secret) (Some NoKey) (λ owner. if may_read r owner n then unless_both r handle n
+    else Some (Denied right.Staff))
 
 -- the text of the session's own part, of this state, with its ROAs
 pub record IsOwnText (s : State) (handle : List ℕ) (n : ℕ) (text : Text) : Type 0 where
@@ -58,14 +59,18 @@ pub record IsOwnText (s : State) (handle : List ℕ) (n : ℕ) (text : Text) : T
 
 -- the router is there, and the interface is no session of it
 abbrev pub HasNoSession : Registry → List ℕ → ℕ → Type 0
-HasNoSession r handle n = (router : Router) × (find router_key handle r.routers ≡ Some router) × (session r router n ≡ None)
+HasNoSession r handle n = (router : Router) × (find router_key handle r.routers ≡ Some router)
+    × (session r router n ≡ None)
 
 -- what a question is answered of the state
 abbrev pub IsAnswered : State → Asked → Answered → Type 0
-IsAnswered s (Query secret query) (answered.Answer a) = (ask_refusal s.registry secret query ≡ None) × IsAnswer s.registry query a
+IsAnswered s (Query secret query) (answered.Answer a) =
+    (ask_refusal s.registry secret query ≡ None) × IsAnswer s.registry query a
 IsAnswered s (Query secret query) (answered.Refused x) = ask_refusal s.registry secret query ≡ Some x
-IsAnswered s (OwnText secret router n) (answered.Text t) = (own_refusal s.registry secret router n ≡ None) × IsOwnText s router n t
+IsAnswered s (OwnText secret router n) (answered.Text t) =
+    (own_refusal s.registry secret router n ≡ None) × IsOwnText s router n t
 IsAnswered s (OwnText secret router n) (answered.Refused x) = own_refusal s.registry secret router n ≡ Some x
-IsAnswered s (OwnText secret router n) answered.NoSession = (own_refusal s.registry secret router n ≡ None) × HasNoSession s.registry router n
+IsAnswered s (OwnText secret router n) answered.NoSession =
+    (own_refusal s.registry secret router n ≡ None) × HasNoSession s.registry router n
 IsAnswered s (Seen owner number) (answered.Place p) = p ≡ place_of s owner number
 IsAnswered s q a = ⊥

@@ -21,13 +21,14 @@ use Rattle.ixp_desk_history.specs.Touches.{MadeBy}
 -- with each.
 abbrev pub MayCome : First → List Turn → Event → Type 0
 MayCome f ts (Edit e d) =
-    IsLawful e.value.edit × ((state_of f ts).accepted < 2 ^ 64 - 1) × Says e.value.number (verdict (state_of f ts) e.value) d.value
+    IsLawful e.value.edit × ((state_of f ts).accepted < 2 ^ 64 - 1)
+    × Says e.value.number (verdict (state_of f ts) e.value) d.value
 MayCome f ts (Question q a) = IsAnswered (state_of f ts) q a.value
 MayCome f ts (Install upto) = (built_after f ts ≤ upto) × (upto ≤ (state_of f ts).accepted)
 MayCome f ts (Fault count) = Rose (faults_of f ts) count
 
--- how many texts the installation made: those touched since the last version that was installed, or as many as
--- before where there is no later one
+-- how many texts the installation made: those touched since the last version that was installed, or as many
+-- as before where there is no later one
 pub record ShowsMade (f : First) (ts : List Turn) (upto made : ℕ) : Type 0 where
   pub later : built_after f ts < upto → MadeBy f ts (built_after f ts) upto made
   pub same : upto ≡ built_after f ts → made ≡ made_of (shown_after f ts).bundle
@@ -36,7 +37,8 @@ pub record ShowsMade (f : First) (ts : List Turn) (upto made : ℕ) : Type 0 whe
 -- that were shown.
 abbrev pub ShowsTexts : First → List Turn → Event → Bundle → Type 0
 ShowsTexts f ts (Install upto) b =
-    (built_of b ≡ upto) × ((r : Registry) × IsVersion f ts upto r × IsOf b r) × ShowsMade f ts upto (made_of b)
+    (built_of b ≡ upto) × ((r : Registry) × IsVersion f ts upto r × IsOf b r)
+    × ShowsMade f ts upto (made_of b)
 ShowsTexts f ts (Edit e d) b = b ≡ (shown_after f ts).bundle
 ShowsTexts f ts (Question q a) b = b ≡ (shown_after f ts).bundle
 ShowsTexts f ts (Fault count) b = b ≡ (shown_after f ts).bundle
@@ -67,8 +69,8 @@ pub record Legal (f : First) (ts : List Turn) : Type 0 where
   pub begins : MayBegin f
   pub goes : GoesOn f [] ts
 
--- What is shown is right: the count and the keys of the state, and all texts of the version that was installed
--- last.
+-- What is shown is right: the count and the keys of the state, and all texts of the version that was
+-- installed last.
 pub record IsRight (f : First) (ts : List Turn) : Type 0 where
   pub accepted : (shown_after f ts).accepted ≡ (state_of f ts).accepted
   pub keys : (shown_after f ts).keys ≡ (registry_of f ts).keys

@@ -1,6 +1,6 @@
 -- Which edits of a history touched texts, and what is pending of it.
 use Rattle.std.specs.Prelude.{◌≡◌, ℕ, ◌+◌, nat_lt, Bool, List, [], ◌∷◌, ◌++◌, length, if◌then◌else◌}
-use Rattle.ixp_machine_edits.specs.Edits.{next}
+use Rattle.ixp_machine_edits.specs.Edits.{change, next}
 use Rattle.ixp_machine_steps.specs.declared.state.Entry.{Entry}
 use Rattle.ixp_machine_steps.specs.declared.state.State.{State}
 use Rattle.ixp_machine_steps.specs.Steps.{Verdict, Accepted, Repeated, Reused, Refused, verdict, step}
@@ -35,7 +35,8 @@ roas t = t.roas
 -- the count of the last edit that touched the text, if the one before this request was n
 abbrev pub touched_by : (Touch → Bool) → State → Entry → ℕ → ℕ
 touched_by is_text s e n =
-    if_accepted_else (verdict s e) (if is_text (touch s.registry (next s.registry e.edit) e.edit) then s.accepted + 1 else n) n
+    if_accepted_else (verdict s e) (if is_text
+    (touch s.registry (next s.registry e.edit) (change s.registry e.edit)) then s.accepted + 1 else n) n
 
 abbrev pub last_from : (Touch → Bool) → State → ℕ → List Entry → ℕ
 last_from is_text s n [] = n
@@ -45,11 +46,12 @@ last_from is_text s n (e ∷ es) = last_from is_text (step s e) (touched_by is_t
 abbrev pub last_touch : First → List Turn → (Touch → Bool) → ℕ
 last_touch f ts is_text = last_from is_text f.state 0 (entries_of ts)
 
--- what is pending is what edits touched since the last installation, each text with the count of the last such
--- edit
+-- what is pending is what edits touched since the last installation, each text with the count of the last
+-- such edit
 pub record Pends (f : First) (ts : List Turn) (p : Pending) : Type 0 where
   pub headers : (h : List ℕ) → header_count p h ≡ later_count (built_after f ts) (last_touch f ts (header h))
-  pub sessions : (h : List ℕ) (n : ℕ) → session_count p h n ≡ later_count (built_after f ts) (last_touch f ts (part h n))
+  pub sessions : (h : List ℕ) (n : ℕ)
+      → session_count p h n ≡ later_count (built_after f ts) (last_touch f ts (part h n))
   pub roas_are : p.roas ≡ later_count (built_after f ts) (last_touch f ts roas)
 
 -- the number of texts that edits touched after the version `built`, up to the version `upto`: they can be
@@ -62,5 +64,6 @@ pub record MadeBy (f : First) (ts : List Turn) (built upto made : ℕ) : Type 0 
   pub texts : Touch
   pub once : ListsOnce texts
   pub headers : (h : List ℕ) → lists_header texts h ≡ nat_lt built (last_touch f before (header h))
-  pub sessions : (h : List ℕ) (n : ℕ) → lists_session texts h n ≡ nat_lt built (last_touch f before (part h n))
+  pub sessions : (h : List ℕ) (n : ℕ)
+      → lists_session texts h n ≡ nat_lt built (last_touch f before (part h n))
   pub made_is : made ≡ length texts.headers + length texts.sessions

@@ -19,8 +19,8 @@ use Rattle.ixp_desk_history.specs.declared.turn.Event.TheVariants.{Edit, Questio
 
 -- Whose calls.
 
--- The question shows a secret of the member's; the export asks for none. Where an edit stands is asked for the
--- staff alone.
+-- The question shows a secret of the member's; the export asks for none. Where an edit stands is asked for
+-- the staff alone.
 abbrev pub IsAskedBy : Registry → ℕ → Asked → Type 0
 IsAskedBy r m (Query secret query) = (right_asked query ≡ None) ⊎ (owner_of r secret ≡ Some (Member m))
 IsAskedBy r m (OwnText secret router n) = owner_of r secret ≡ Some (Member m)
@@ -41,14 +41,15 @@ SameAsked (OwnText a router n) (OwnText b other k) = (router ≡ other) × (n �
 SameAsked (Seen owner n) (Seen other k) = (owner ≡ other) × (n ≡ k)
 SameAsked q p = ⊥
 
--- two requests with one number for the same edit, or the same question; the export is asked at the same second
+-- two requests with one number for the same edit, or the same question; the export is asked at the same
+-- second
 abbrev pub SameCall : Event → Event → Type 0
 SameCall (Edit e d) (Edit f c) = (e.value.number ≡ f.value.number) × (e.value.edit ≡ f.value.edit)
 SameCall (Question q a) (Question p b) = SameAsked q p
 SameCall v w = ⊥
 
--- What a member sees of two states is the same: its own records and what is kept of its requests, the routers,
--- the site and the public lists; and the directory, which is the member export without its second.
+-- What a member sees of two states is the same: its own records and what is kept of its requests, the
+-- routers, the site and the public lists; and the directory, which is the member export without its second.
 pub record SeesAlike (m : ℕ) (s t : State) : Type 0 where
   pub own : view s m ≡ view t m
   pub exchange : exchange_tree s.registry ≡ exchange_tree t.registry

@@ -17,8 +17,8 @@ use Rattle.ixp_desk_lock.specs.declared.fault.SubmitFault.TheVariants as submit
 use Rattle.ixp_desk_lock.specs.Calls.{Grows}
 use Rattle.ixp_desk_lock.specs.Sights.{Sight}
 
--- The call's own turn, which has the seat's count at its start for number, comes right after these turns in the
--- history that the seat has seen at the return.
+-- The call's own turn, which has the seat's count at its start for number, comes right after these turns in
+-- the history that the seat has seen at the return.
 pub record IsAfter (f : First) (before : List Turn) (s t : Sight) : Type 0 where
   pub grows : Grows s t
   pub turn : Turn
@@ -36,14 +36,15 @@ pub record IsOf (m : ℕ) (secret : List ℕ) (f : First) (before : List Turn) (
   pub place : IsAfter f before s t
   pub own : owner_of (registry_of f before) secret ≡ Some (Member m)
 
--- The secret is one of the member's as long as the call lasts: in each history between that which the seat had seen
--- and that which it has seen at the return.
+-- The secret is one of the member's as long as the call lasts: in each history between that which the seat
+-- had seen and that which it has seen at the return.
 abbrev pub StaysOf : ℕ → List ℕ → Sight → Sight → Type 0
-StaysOf m secret s t = (f : First) (ts : List Turn) → IsPrefix s.2 (entries f ts) → IsPrefix (entries f ts) t.2
+StaysOf m secret s t = (f : First) (ts : List Turn) → IsPrefix s.2 (entries f ts)
+    → IsPrefix (entries f ts) t.2
     → owner_of (registry_of f ts) secret ≡ Some (Member m)
 
--- An answer: the edit was made or is refused. A fault of the store, running out of memory, and a seat whose turns
--- can't be counted are none.
+-- An answer: the edit was made or is refused. A fault of the store, running out of memory, and a seat whose
+-- turns can't be counted are none.
 abbrev pub IsDecided : Result Reply SubmitFault → Type 0
 IsDecided (Ok reply) = Unit {0}
 IsDecided (Err (submit.Refused x)) = Unit {0}

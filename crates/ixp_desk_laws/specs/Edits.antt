@@ -76,8 +76,10 @@ AnswersAgain (Fault count) = ⊥
 -- subject of the first.
 abbrev pub Resends : Registry → Owner → ℕ → Event → Event → Type 0
 Resends r owner n (Edit e d) (Edit i c) =
-    (owner_of r i.value.secret ≡ Some owner) × (i.value.number ≡ n) × (has_right owner (right_of i.value.edit) ≡ true)
-    × (same_kind (kind_of e.value.edit) (kind_of i.value.edit) ≡ true) × (same_subject (subject_of e.value.edit) (subject_of i.value.edit) ≡ true)
+    (owner_of r i.value.secret ≡ Some owner) × (i.value.number ≡ n)
+    × (has_right owner (right_of i.value.edit) ≡ true)
+    × (same_kind (kind_of e.value.edit) (kind_of i.value.edit) ≡ true)
+    × (same_subject (subject_of e.value.edit) (subject_of i.value.edit) ≡ true)
 Resends r owner n v w = ⊥
 
 -- X3: its number isn't kept any more

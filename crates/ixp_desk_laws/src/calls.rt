@@ -27,8 +27,9 @@ pub fn answered_calls_have_places()
         → OwnTexts secret router n x s t → IsTold x → HasPlace s t }
 {}
 
-/// What a desk answers to a member's call depends on what the member sees at the call's place alone: two calls
-/// that are the same, of any seats of any desks, are answered the same where the member sees the same.
+/// What a desk answers to a member's call depends on what the member sees at the call's place alone: two
+/// calls that are the same, of any seats of any desks, are answered the same where the member sees the
+/// same.
 pub fn desks_answer_members_of_their_own()
     ensures submit { (m : ℕ) (a b : Entry) (x y : Result Reply SubmitFault) (s t u w : Sight) (f g : First)
         (before others : List Turn) → Submits a x s t → Submits b y u w → IsDecided x → IsDecided y

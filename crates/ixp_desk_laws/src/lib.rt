@@ -1,9 +1,10 @@
 //! What callers of a desk may rely on, whatever others do, and however often they send their edits.
 //!
-//! The laws are about legal histories of `ixp_desk_history`. What a member is answered depends on what it sees
-//! alone, and its edits change nothing of anybody else's (`members`). An edit is made once, however often it is
-//! sent (`repeats`). The same is said of the calls of `ixp_desk_lock`, whose turns stand in such a history
-//! (`calls`), and of those of links (`links`). The functions do nothing: each is called for what it ensures.
+//! The laws are about legal histories of `ixp_desk_history`. What a member is answered depends on what it
+//! sees alone, and its edits change nothing of anybody else's (`members`). An edit is made once, however
+//! often it is sent (`repeats`). The same is said of the calls of `ixp_desk_lock`, whose turns stand in
+//! such a history (`calls`), and of those of links (`links`). The functions do nothing: each is called for
+//! what it ensures.
 #![tactic(auto)]
 
 mod calls;

@@ -22,8 +22,9 @@ ghost use Rattle.ixp_desk_laws.specs.Edits.{IsRepeat};
 ghost use Rattle.ixp_desk_laws.specs.Links.{IsReply};
 
 /// What a link answers to a member's call depends on what the member sees at the call's place alone: edits,
-/// questions, explanations of a route, and what a looking glass shows of the same routes. An explanation looks for whose the secret is before its turn, so it is
-/// said of those whose secret is the member's as long as the call lasts.
+/// questions, explanations of a route, and what a looking glass shows of the same routes. An explanation
+/// looks for whose the secret is before its turn, so it is said of those whose secret is the member's as
+/// long as the call lasts.
 pub fn links_answer_members_of_their_own()
     ensures edit { (m : ℕ) (a b : Entry) (x y : Outcome) (s t u w : Sight) (f g : First)
         (before others : List Turn) → EditTurn a x s t → EditTurn b y u w → IsReply x → IsReply y

@@ -28,8 +28,8 @@ pub fn repeats_change_nothing()
         → state_of f (before ++ t ∷ []) ≡ state_of f before }
 {}
 
-/// An edit that was accepted, sent again later by its owner who still has the right, is answered as it was, or
-/// refused as too old once its number is dropped; and the state stays as it is.
+/// An edit that was accepted, sent again later by its owner who still has the right, is answered as it was,
+/// or refused as too old once its number is dropped; and the state stays as it is.
 pub fn resent_edits_are_known()
     ensures answer { (f : First) (before between after : List Turn) (t u : Turn) (owner : Owner) (n : ℕ)
         → Legal f (before ++ t ∷ (between ++ u ∷ after))

@@ -1,5 +1,5 @@
--- How the calls of a link are answered, and which turns of its seats stand in the desk's history, and in that of the
--- routes that sessions hold, for them.
+-- How the calls of a link are answered, and which turns of its seats stand in the desk's history, and in that
+-- of the routes that sessions hold, for them.
 use Rattle.std.specs.Prelude.{◌≡◌, ℕ, List, Option, Result, Ok, Err, IfOk}
 use mathlib.Core.List.{IsPrefix}
 use Rattle.ixp_io.specs.Told.{Told}
@@ -67,7 +67,8 @@ AsksClock q second given given' = given' ≡ given
 
 -- a question is asked at the clock's second, and its answer told
 abbrev pub TimedTurn : List ℕ → Query → Option ℕ → Option ℕ → Outcome → Sight → Sight → Type 0
-TimedTurn secret q given given' o s t = (second : ℕ) × AsksClock q second given given' × AskTurn secret (at_second second q) o s t
+TimedTurn secret q given given' o s t =
+    (second : ℕ) × AsksClock q second given given' × AskTurn secret (at_second second q) o s t
 
 -- Configurations.
 
@@ -78,20 +79,26 @@ text_outcome (Err fault) = fault_outcome fault
 -- A configuration is handed out: the headline holds of it.
 abbrev pub ConfigTurn : List ℕ → List ℕ → Option ℕ → Outcome → Sight → Sight → Type 0
 ConfigTurn secret handle seen o s t =
-    (r : Result Text PubFault) × (o ≡ text_outcome r) × Answers secret handle seen r s t × IfOk r (IsPublished s.2 t.2 handle)
+    (r : Result Text PubFault) × (o ≡ text_outcome r) × Answers secret handle seen r s t
+    × IfOk r (IsPublished s.2 t.2 handle)
 
 -- All calls.
 
--- What a call of a link does: what its seats have seen grows, and their turns and the answer are those of the call.
--- The looking glass is asked by its own calls alone, and the clock for the export alone.
+-- What a call of a link does: what its seats have seen grows, and their turns and the answer are those of the
+-- call. The looking glass is asked by its own calls alone, and the clock for the export alone.
 abbrev pub LinkTurn : Sights × Option ℕ → Call → Outcome → Sights × Option ℕ → Type 0
 LinkTurn d (Edit entry) o e = Grows d.0.0 e.0.0 × EditTurn entry o d.0.0 e.0.0 × (e.0.1 ≡ d.0.1) × (e.1 ≡ d.1)
 LinkTurn d (Ask secret q) o e = Grows d.0.0 e.0.0 × TimedTurn secret q d.1 e.1 o d.0.0 e.0.0 × (e.0.1 ≡ d.0.1)
-LinkTurn d (Published secret handle seen) o e = Grows d.0.0 e.0.0 × ConfigTurn secret handle seen o d.0.0 e.0.0 × (e.0.1 ≡ d.0.1) × (e.1 ≡ d.1)
-LinkTurn d (Explain call) o e = Grows d.0.0 e.0.0 × ExplainTurn call o d.0.0 e.0.0 × (e.0.1 ≡ d.0.1) × (e.1 ≡ d.1)
-LinkTurn d (Hold secret handle n routes) o e = Grows d.0.0 e.0.0 × IsPrefix d.0.1 e.0.1 × HoldTurn secret handle n routes o d.0 e.0 × (e.1 ≡ d.1)
-LinkTurn d (Glass secret handle n) o e = Grows d.0.0 e.0.0 × IsPrefix d.0.1 e.0.1 × GlassTurn secret handle n o d.0 e.0 × (e.1 ≡ d.1)
-LinkTurn d (GlassPlace secret handle n place) o e = Grows d.0.0 e.0.0 × IsPrefix d.0.1 e.0.1 × PlaceTurn secret handle n place o d.0 e.0 × (e.1 ≡ d.1)
+LinkTurn d (Published secret handle seen) o e =
+    Grows d.0.0 e.0.0 × ConfigTurn secret handle seen o d.0.0 e.0.0 × (e.0.1 ≡ d.0.1) × (e.1 ≡ d.1)
+LinkTurn d (Explain call) o e =
+    Grows d.0.0 e.0.0 × ExplainTurn call o d.0.0 e.0.0 × (e.0.1 ≡ d.0.1) × (e.1 ≡ d.1)
+LinkTurn d (Hold secret handle n routes) o e =
+    Grows d.0.0 e.0.0 × IsPrefix d.0.1 e.0.1 × HoldTurn secret handle n routes o d.0 e.0 × (e.1 ≡ d.1)
+LinkTurn d (Glass secret handle n) o e =
+    Grows d.0.0 e.0.0 × IsPrefix d.0.1 e.0.1 × GlassTurn secret handle n o d.0 e.0 × (e.1 ≡ d.1)
+LinkTurn d (GlassPlace secret handle n place) o e =
+    Grows d.0.0 e.0.0 × IsPrefix d.0.1 e.0.1 × PlaceTurn secret handle n place o d.0 e.0 × (e.1 ≡ d.1)
 
 -- the seats have seen more, perhaps
 abbrev pub SeesMore : Sights → Sights → Type 0

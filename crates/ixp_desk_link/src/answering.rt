@@ -61,7 +61,8 @@ pub(crate) fn asked<R: Wait, N: BoardName, D: Desks<N>, C: Clock>(
     query: Query,
 ) -> Outcome
     ensures grows { Grows seat.old seat.new }
-    ensures turn { TimedTurn secret.now query (C.given clock.old) (C.given clock.new) result seat.old seat.new }
+    ensures turn { TimedTurn secret.now query (C.given clock.old) (C.given clock.new) result seat.old
+        seat.new }
 {
     let at = at_second(clock, query);
     answer_outcome(desk.ask(rt, seat, secret, at))

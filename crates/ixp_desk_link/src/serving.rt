@@ -19,8 +19,8 @@ use std::alloc::Global;
 use std::marker::PhantomData;
 use std::sync::Wait;
 
-/// Serves one link to its end by a seat of the desk and one of the looking glass: reads its requests, has the two
-/// answer those that are calls, and writes the replies in their order.
+/// Serves one link to its end by a seat of the desk and one of the looking glass: reads its requests, has
+/// the two answer those that are calls, and writes the replies in their order.
 pub fn serve_link<
     R: Wait,
     N: BoardName,

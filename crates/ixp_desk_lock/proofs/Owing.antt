@@ -9,9 +9,11 @@ use Rattle.ixp_board.specs.Histories.{entries, turns_of, IsViewOf}
 use Rattle.ixp_board.proofs.Entries.{same_first, same_turns, turns_of-entries}
 use Rattle.ixp_registry.specs.declared.members.Owner.{Owner}
 use Rattle.ixp_registry.specs.declared.registry.Registry.{Registry}
+use Rattle.ixp_registry_change.specs.declared.change.RegistryChange.{RegistryChange}
 use Rattle.ixp_members.specs.Owners.{owner_of}
 use Rattle.ixp_machine_edits.specs.declared.edit.Edit as edits
-use Rattle.ixp_machine_edits.specs.Edits.{IsLawful, next}
+use Rattle.ixp_machine_edits.specs.Edits.{IsLawful, change, next}
+use Rattle.ixp_machine_edits.proofs.EditChanges.{change_is_next}
 use Rattle.ixp_machine_steps.specs.declared.state.Entry.{Entry}
 use Rattle.ixp_machine_steps.specs.declared.state.State.{State}
 use Rattle.ixp_machine_steps.specs.Runs.{run, if_accepted}
@@ -25,7 +27,7 @@ use Rattle.ixp_build_pending.specs.declared.pending.Pending.{Pending}
 use Rattle.ixp_build_pending.specs.declared.touch.Touch.{Touch}
 use Rattle.ixp_build_pending.specs.Pendings.{IsNoted, header_count, later_count, lists_header, lists_session, session_count}
 use Rattle.ixp_build_touches.specs.declared.touch.Reached.{Reached}
-use Rattle.ixp_build_touches.specs.Touched.{reached, with_after}
+use Rattle.ixp_build_touches.specs.Touched.{reached, touch, with_after}
 use Rattle.ixp_build_touches.proofs.TwoSteps.{headers_alike, roas_alike, sessions_alike}
 use Rattle.ixp_desk_history.specs.declared.turn.Answered.{Answered}
 use Rattle.ixp_desk_history.specs.declared.turn.Asked.{Asked}
@@ -179,6 +181,10 @@ by_listed true built c count last low is = by_less (nat_lt built c) refl where
   by_less false is = absurd (grind (arith, nat_tests))
 by_listed false built c count last low is = is
 
+-- what the change of an edit reaches
+abbrev reached_in : Registry → Entry → Reached
+reached_in r e = reached r (change r e.edit)
+
 module _ (f : First) (ts : List Turn) (t : Turn) (e : Entry) (legal : Legal f ts) (is : Accepts t.event e) (accepted : verdict (state_of f ts) e ≡ Accepted) where
   -- the last count after the edit's turn
   edit_last : (p : Touch → Bool) → last_touch f (ts ++ t ∷ []) p ≡ touched_by p (state_of f ts) e (last_touch f ts p)
@@ -199,20 +205,24 @@ module _ (f : First) (ts : List Turn) (t : Turn) (e : Entry) (legal : Legal f ts
       ∙ (by_listed listed (built_after f ts) ((state_of f ts).accepted + 1) c (last_touch f ts p) (omega (arith, low)) counts
       ∙ sym (ap (λ (b : ℕ). later_count b (last_touch f (ts ++ t ∷ []) p)) built ∙ ap (later_count (built_after f ts)) last))
 
-  edit_pends : (p q : Pending) → IsLawful e.edit → Pends f ts p → IsNoted ((state_of f ts).accepted + 1) (with_after (reached (registry_of f ts) e.edit) (next (registry_of f ts) e.edit)) p q
+  edit_pends : (p q : Pending) → Pends f ts p → IsNoted ((state_of f ts).accepted + 1) (with_after (reached_in (registry_of f ts) e) (next (registry_of f ts) e.edit)) p q
       → Pends f (ts ++ t ∷ []) q
-  edit_pends p q lawful pends noted =
+  edit_pends p q pends noted =
       let r = registry_of f ts in
-      let u = with_after (reached r e.edit) (next r e.edit) in
+      let c = change r e.edit in
+      let u = with_after (reached r c) (next r e.edit) in
       let valid = (state_valid f ts legal).registry in
-      let allowed = (accepted_makes (state_of f ts) e accepted).lawful in
+      let made = change_is_next r e.edit in
       record {
-        headers = λ h. text_noted (header h) (lists_header u h) (header_count p h) (header_count q h) (headers_alike r e.edit h) (pends.headers h) (noted.headers h);
-        sessions = λ h n. text_noted (part h n) (lists_session u h n) (session_count p h n) (session_count q h n) (sessions_alike r e.edit h n valid lawful allowed) (pends.sessions h n) (noted.sessions h n);
-        roas_are = text_noted roas u.roas p.roas q.roas (roas_alike r e.edit) pends.roas_are noted.roas;
+        headers = λ h. text_noted (header h) (lists_header u h) (header_count p h) (header_count q h)
+            (subst (λ (s : Registry). lists_header (with_after (reached r c) s) h ≡ lists_header (touch r s c) h) made (headers_alike r c h)) (pends.headers h) (noted.headers h);
+        sessions = λ h n. text_noted (part h n) (lists_session u h n) (session_count p h n) (session_count q h n)
+            (subst (λ (s : Registry). lists_session (with_after (reached r c) s) h n ≡ lists_session (touch r s c) h n) made (sessions_alike r c h n valid)) (pends.sessions h n) (noted.sessions h n);
+        roas_are = text_noted roas u.roas p.roas q.roas
+            (subst (λ (s : Registry). (with_after (reached r c) s).roas ≡ (touch r s c).roas) made (roas_alike r c)) pends.roas_are noted.roas;
       }
 
-  edit_follows : (old : Shown) → IsLawful e.edit → (state_of f ts).accepted < 2 ^ 64 - 1 → t.number ≡ turns_by t.seat ts → ShowsNext old (state_of f ts) e t.view → old ≡ shown_after f ts
+  edit_follows : (old : Shown) → IsLawful e.edit → (state_of f ts).accepted < 2 ^ 64 - 1 → t.number ≡ turns_by t.seat ts → ShowsNext old (state_of f ts) (change (registry_of f ts) e.edit) t.view → old ≡ shown_after f ts
       → MayFollow f ts t
   edit_follows old lawful room number shows was =
       let makes = accepted_makes (state_of f ts) e accepted in
@@ -220,21 +230,22 @@ module _ (f : First) (ts : List Turn) (t : Turn) (e : Entry) (legal : Legal f ts
         number = number;
         event = edit_comes f ts t.event e is lawful accepted room;
         accepted = shows.accepted ∙ sym (ap (λ (s : State). s.accepted) (edit_state f ts t e is) ∙ makes.count);
-        keys = shows.keys ∙ sym (ap (λ (s : State). s.registry.keys) (edit_state f ts t e is) ∙ ap (λ (r : Registry). r.keys) makes.registry);
+        keys = shows.keys ∙ (ap (λ (r : Registry). r.keys) (change_is_next (registry_of f ts) e.edit)
+            ∙ sym (ap (λ (s : State). s.registry.keys) (edit_state f ts t e is) ∙ ap (λ (r : Registry). r.keys) makes.registry));
         texts = edit_shows f ts t.event e t.view old is shows.bundle was;
       }
 
   -- What is noted later.
-  note_pends : (x : Reached) (s : State) (p q : Pending) → s ≡ state_of f (ts ++ t ∷ []) → IsLawful e.edit → x ≡ reached (registry_of f ts) e.edit → Pends f ts p
+  note_pends : (x : Reached) (s : State) (p q : Pending) → s ≡ state_of f (ts ++ t ∷ []) → x ≡ reached_in (registry_of f ts) e → Pends f ts p
       → IsNoted s.accepted (with_after x s.registry) p q → Pends f (ts ++ t ∷ []) q
-  note_pends x s p q made lawful reach pends noted =
+  note_pends x s p q made reach pends noted =
       let makes = accepted_makes (state_of f ts) e accepted in
       let now : s ≡ step (state_of f ts) e = made ∙ edit_state f ts t e is in
       let count : s.accepted ≡ (state_of f ts).accepted + 1 = ap (λ (y : State). y.accepted) now ∙ makes.count in
       let registry : s.registry ≡ next (registry_of f ts) e.edit = ap (λ (y : State). y.registry) now ∙ makes.registry in
-      edit_pends p q lawful pends
-      (subst (λ (n : ℕ). IsNoted n (with_after (reached (registry_of f ts) e.edit) (next (registry_of f ts) e.edit)) p q) count
-      (subst (λ (r : Registry). IsNoted s.accepted (with_after (reached (registry_of f ts) e.edit) r) p q) registry
+      edit_pends p q pends
+      (subst (λ (n : ℕ). IsNoted n (with_after (reached_in (registry_of f ts) e) (next (registry_of f ts) e.edit)) p q) count
+      (subst (λ (r : Registry). IsNoted s.accepted (with_after (reached_in (registry_of f ts) e) r) p q) registry
       (subst (λ (y : Reached). IsNoted s.accepted (with_after y s.registry) p q) reach noted)))
 
 note_folds : (log : Log) (t : Turn) (o : Option Reached) (s : State) (p q : Pending) → NotesReach s o p q → Folds log (Some t) o s p → Folds log (Some t) None s q
@@ -248,7 +259,7 @@ note_folds log t (Some x) s p q noted g =
       legal = g.legal;
       state = g.state;
       reaches = tt;
-      pends = note_pends g.first g.turns t r.0 (legal_before g.first g.turns (t ∷ []) g.legal) r.1 r.3 x s p q g.state r.2 r.4 g.pends noted;
+      pends = note_pends g.first g.turns t r.0 (legal_before g.first g.turns (t ∷ []) g.legal) r.1 r.3 x s p q g.state r.4 g.pends noted;
     }
 
 note_all : (log : Log) (owed : Option Owed) (s : State) (p q : Pending) → NotesReach s (reach_in owed) p q → Folds log (turn_in owed) (reach_in owed) s p
@@ -293,8 +304,8 @@ reach_counts log (Some o) s p g = counts_reach log o.turn o.reached s p g
 -- A turn that is owed.
 
 pub folds_edit : (log : Log) (s s' : State) (p : Pending) (t : Turn) (owner : Owner) (e : Entry) (x : Reached) (old : Shown) → Folds log None None s p
-    → IsViewOf Legal shown_after log old → Accepts t.event e → MayAccept log owner e → t.number ≡ turns_by t.seat (turns_of log) → ShowsNext old s e t.view
-    → s' ≡ step s e → x ≡ reached s.registry e.edit → Folds log (Some t) (Some x) s' p
+    → IsViewOf Legal shown_after log old → Accepts t.event e → MayAccept log owner e → t.number ≡ turns_by t.seat (turns_of log) → ShowsNext old s (change s.registry e.edit) t.view
+    → s' ≡ step s e → x ≡ reached_in s.registry e → Folds log (Some t) (Some x) s' p
 folds_edit log s s' p t owner e x old g view is may number shows made reach =
     let ok = may g.first g.turns g.is in
     let at : t.number ≡ turns_by t.seat g.turns = number ∙ (ap (λ (l : Log). turns_by t.seat (turns_of l)) g.is ∙ ap (turns_by t.seat) (turns_of-entries g.first g.turns)) in
@@ -303,9 +314,9 @@ folds_edit log s s' p t owner e x old g view is may number shows made reach =
       turns = g.turns;
       is = g.is;
       legal = legal_snoc g.first g.turns t g.legal
-          (edit_follows g.first g.turns t e g.legal is ok.2 old ok.0 ok.3 at (subst (λ (y : State). ShowsNext old y e t.view) g.state shows) (shown_is log old g.first g.turns view g.is));
+          (edit_follows g.first g.turns t e g.legal is ok.2 old ok.0 ok.3 at (subst (λ (y : State). ShowsNext old y (change y.registry e.edit) t.view) g.state shows) (shown_is log old g.first g.turns view g.is));
       state = made ∙ (ap (λ (y : State). step y e) g.state ∙ sym (edit_state g.first g.turns t e is));
-      reaches = (e, is, ok.0, ok.2, reach ∙ ap (λ (y : State). reached y.registry e.edit) g.state);
+      reaches = (e, is, ok.0, ok.2, reach ∙ ap (λ (y : State). reached_in y.registry e) g.state);
       pends = g.pends;
     }
 
@@ -405,14 +416,15 @@ at_log : (v : Log × Option Turn) (log : Log) (owed : Option Turn) (t : Turn) (s
 at_log v log owed t seat number view at seat_is number_is =
     number_is ∙ (at ∙ (ap (λ (l : Log). turns_by seat (turns_of l)) (log_is v log owed view) ∙ ap (λ (n : ℕ). turns_by n (turns_of log)) (sym seat_is)))
 
-pub edit_owed : (v : Log × Option Turn) (log : Log) (owed owed' : Option Owed) (s s' : State) (p : Pending) (t : Turn) (owner : Owner) (e : Entry) (x : Reached) (old : Shown) (seat number : ℕ)
+pub edit_owed : (v : Log × Option Turn) (log : Log) (owed owed' : Option Owed) (s s' : State) (p : Pending) (t : Turn) (owner : Owner) (e : Entry) (c : RegistryChange) (x : Reached) (old : Shown) (seat number : ℕ)
     → ◌≡◌ {A = Log × Option Turn} (log, turn_in owed) v → v.1 ≡ None → number ≡ turns_by seat (turns_of v.0) → MayAccept v.0 owner e → Folds log (turn_in owed) (reach_in owed) s p
-    → IsViewOf Legal shown_after log old → t.seat ≡ seat → t.number ≡ number → Accepts t.event e → ShowsNext old s e t.view → x ≡ reached s.registry e.edit → s' ≡ step s e
-    → owed' ≡ Some (record { turn = t; reached = Some x }) → Folds log (turn_in owed') (reach_in owed') s' p
-edit_owed v log owed owed' s s' p t owner e x old seat number view none at may folds shown seat_is number_is is shows reach made owes =
+    → IsViewOf Legal shown_after log old → t.seat ≡ seat → t.number ≡ number → Accepts t.event e → c ≡ change s.registry e.edit → ShowsNext old s c t.view
+    → x ≡ reached s.registry c → s' ≡ step s e → owed' ≡ Some (record { turn = t; reached = Some x }) → Folds log (turn_in owed') (reach_in owed') s' p
+edit_owed v log owed owed' s s' p t owner e c x old seat number view none at may folds shown seat_is number_is is makes shows reach made owes =
     subst (λ o. Folds log (turn_in o) (reach_in o) s' p) (sym owes)
     (folds_edit log s s' p t owner e x old (unowed v log owed s p view none folds) shown is (subst (λ (l : Log). MayAccept l owner e) (log_is v log (turn_in owed) view) may)
-    (at_log v log (turn_in owed) t seat number view at seat_is number_is) shows made reach)
+    (at_log v log (turn_in owed) t seat number view at seat_is number_is) (subst (λ (d : RegistryChange). ShowsNext old s d t.view) makes shows) made
+    (reach ∙ ap (reached s.registry) makes))
 
 pub still_owed : (v : Log × Option Turn) (log : Log) (owed owed' : Option Owed) (s s' : State) (p : Pending) (t : Turn) (old : Shown) (seat number : ℕ)
     → ◌≡◌ {A = Log × Option Turn} (log, turn_in owed) v → v.1 ≡ None → number ≡ turns_by seat (turns_of v.0) → Folds log (turn_in owed) (reach_in owed) s p

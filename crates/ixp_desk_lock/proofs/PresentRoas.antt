@@ -1,7 +1,6 @@
 -- The ROAs that there are.
-use Rattle.std.proofs.Common.{◌≡◌, ◌==◌, not, ℕ, Bool, true, false, List, Option, None, Result, Ok, Err, IfOk, refl, ap, sym, ◌∙◌}
+use Rattle.std.proofs.Common.{◌≡◌, ◌==◌, not, Bool, false, List, Option, None, Result, Ok, Err, IfOk, ap, sym, ◌∙◌}
 use Rattle.std.specs.declared.alloc.AllocError.{AllocError}
-use Rattle.std.proofs.lemmas.Bool.{eqb-true}
 use Rattle.ixp_num.specs.declared.roa.Roa.{Roa}
 use Rattle.ixp_board.specs.Histories.{IsViewOf}
 use Rattle.ixp_machine_steps.specs.declared.state.State.{State}
@@ -11,16 +10,11 @@ use Rattle.ixp_desk_history.specs.declared.turn.Turn.{Turn}
 use Rattle.ixp_desk_history.specs.Legal.{Legal}
 use Rattle.ixp_desk_history.specs.Turns.{shown_after}
 use Rattle.ixp_desk_history.proofs.Installing.{roas_shown}
+use Rattle.ixp_build.proofs.Later.{unlisted}
 use Rattle.ixp_desk_lock.specs.declared.owed.Owed.{Owed}
 use Rattle.ixp_desk_lock.specs.Facts.{Folds, IsStateAt, Log, turn_in, reach_in}
 use Rattle.ixp_desk_lock.specs.Given.{HasRoas}
 use Rattle.ixp_desk_lock.proofs.Owing.{log_is, shown_is, state_at, unowed}
-
-none_there : (n : ℕ) (b : Bool) → b ≡ not (n == 0) → b ≡ false → n ≡ 0
-none_there n b is un = by_test (n == 0) refl (sym is ∙ un) where
-  by_test : (z : Bool) → (n == 0) ≡ z → not (n == 0) ≡ false → n ≡ 0
-  by_test true e none = eqb-true n 0 e
-  by_test false e none = absurd (let bad : true ≡ false = sym (ap not e) ∙ none in let wrong : ⊥ = cc in wrong)
 
 -- those of the bundle, where none are pending
 roas_there : (v : Log × Option Turn) (log : Log) (owed : Option Owed) (s : State) (p : Pending) (old : Shown) → ◌≡◌ {A = Log × Option Turn} (log, turn_in owed) v → v.1 ≡ None
@@ -44,7 +38,7 @@ pub roas_shared : (v : Log × Option Turn) (log : Log) (owed : Option Owed) (s :
     → ◌≡◌ {A = Log × Option Turn} (log, turn_in owed) v → v.1 ≡ None → Folds log (turn_in owed) (reach_in owed) s p → IsViewOf Legal shown_after log old
     → pending ≡ not (p.roas == 0) → pending ≡ false → rows ≡ old.bundle.roas → IfOk r (λ t. t ≡ rows) → IfOk r (HasRoas v.0)
 roas_shared v log owed s p old pending rows r view none folds shown tells un its is =
-    roas_made v log owed s p rows r view none folds (its ∙ roas_there v log owed s p old view none folds shown (none_there p.roas pending tells un)) is
+    roas_made v log owed s p rows r view none folds (its ∙ roas_there v log owed s p old view none folds shown (unlisted p.roas pending tells un)) is
 
 -- they are those of the state
 pub roas_at : (v : Log × Option Turn) (log : Log) (owed : Option Owed) (s now : State) (p : Pending) (roas : List Roa) → ◌≡◌ {A = Log × Option Turn} (log, turn_in owed) v

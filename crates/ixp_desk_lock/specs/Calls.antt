@@ -156,9 +156,12 @@ Asks secret q (Err ask.NoMemory) s t = t.1 ≡ s.1
 
 -- What a question for a session's own text does, in the same way.
 abbrev pub OwnTexts : List ℕ → List ℕ → ℕ → Result Text AskFault → Sight → Sight → Type 0
-OwnTexts secret router n (Ok text) s t = Own (One (IsQuestion (OwnText secret router n) (answered.Text text))) s t
-OwnTexts secret router n (Err (ask.Refused x)) s t = Own (One (IsQuestion (OwnText secret router n) (answered.Refused x))) s t
-OwnTexts secret router n (Err ask.NoSession) s t = Own (One (IsQuestion (OwnText secret router n) answered.NoSession)) s t
+OwnTexts secret router n (Ok text) s t =
+    Own (One (IsQuestion (OwnText secret router n) (answered.Text text))) s t
+OwnTexts secret router n (Err (ask.Refused x)) s t =
+    Own (One (IsQuestion (OwnText secret router n) (answered.Refused x))) s t
+OwnTexts secret router n (Err ask.NoSession) s t =
+    Own (One (IsQuestion (OwnText secret router n) answered.NoSession)) s t
 OwnTexts secret router n (Err (ask.SeatCount a b)) s t = OtherCount a b s t
 OwnTexts secret router n (Err (ask.Ended k)) s t = SeatEnded k s t
 OwnTexts secret router n (Err ask.NoMemory) s t = t.1 ≡ s.1
@@ -178,8 +181,8 @@ InstallsOver from upto s t = (own : Own (One (λ v. v ≡ Install upto)) s t) ×
 abbrev pub MakesNone : Sight → Sight → Type 0
 MakesNone s t = (t.1 ≡ s.1) × (t.1 ≡ turns_by t.0 (turns_of t.2))
 
--- What a worker is given to do: an order that was taken of what the seat has seen, of a later version than the
--- one that is shown; or nothing where that is the present one, which is installed once more.
+-- What a worker is given to do: an order that was taken of what the seat has seen, of a later version than
+-- the one that is shown; or nothing where that is the present one, which is installed once more.
 abbrev pub Takes : Taken → Sight → Sight → Type 0
 Takes (taken.Ordered o) s t = MakesNone s t × HasBounds o × (o.from ≢ o.upto) × IsOrdered t.2 (made_from o)
 Takes (taken.Nothing built) s t = InstallsOver built built s t × HasAccepted t.2 built
@@ -187,7 +190,8 @@ Takes (taken.Nothing built) s t = InstallsOver built built s t × HasAccepted t.
 -- What a worker's installation does: one turn, or none where others were installed since the order was taken.
 abbrev pub Installs : Made → Put → Sight → Sight → Type 0
 Installs m (put.Built upto) s t = (upto ≡ m.upto) × InstallsOver m.from upto s t
-Installs m (put.Late current asked) s t = MakesNone s t × (asked ≡ m.from) × (current ≢ asked) × HasBuilt t.2 current
+Installs m (put.Late current asked) s t =
+    MakesNone s t × (asked ≡ m.from) × (current ≢ asked) × HasBuilt t.2 current
 
 -- the history begins with what the seat has seen, its counts agree, and there is room for two turns more
 pub record Fits (log : Log) (s : Sight) : Type 0 where

@@ -4,8 +4,8 @@
 -- the store, the member export that was made last, and at most one turn that is owed: one that was made and
 -- stored, and isn't in the history yet since memory ran out. Three facts are kept, each with the owed turn
 -- counted in: the store's rows are the state's (`Stored`), the state and what is pending are those of the
--- history (`Folds`), and so are the counts of faults and of turns (`Counts`). The export is that of the state's
--- registry (`KeepsExport`).
+-- history (`Folds`), and so are the counts of faults and of turns (`Counts`). The export is that of the
+-- state's registry (`KeepsExport`).
 use Rattle.std.specs.Prelude.{◌≡◌, ◌<◌, ◌-◌, ◌^◌, ◌+◌, ℕ, List, [], ◌∷◌, ◌++◌, get_or, Option, Some, None, IfSome}
 use mathlib.Core.List.{IsPrefix}
 use Rattle.ixp_io.specs.Tables.{Table}
@@ -15,7 +15,9 @@ use Rattle.ixp_board.specs.Histories.{entries, with_turn}
 use Rattle.ixp_registry.specs.declared.members.Owner.{Owner}
 use Rattle.ixp_registry.specs.declared.registry.Registry.{Registry}
 use Rattle.ixp_members.specs.Owners.{owner_of}
-use Rattle.ixp_machine_edits.specs.Edits.{IsLawful, next}
+use Rattle.ixp_machine_edits.specs.Edits.{IsLawful, change}
+use Rattle.ixp_registry_change.specs.declared.change.RegistryChange.{RegistryChange}
+use Rattle.ixp_registry_change.specs.Changes.{with_change}
 use Rattle.ixp_machine_steps.specs.declared.state.Entry as steps
 use Rattle.ixp_machine_steps.specs.declared.state.State.{State}
 use Rattle.ixp_machine_steps.specs.Steps.{Accepted, verdict}
@@ -95,11 +97,13 @@ abbrev pub IsReach : First → List Turn → Option Turn → Option Reached → 
 IsReach f ts owed None = Unit {0}
 IsReach f ts None (Some x) = ⊥
 IsReach f ts (Some t) (Some x) =
-    (e : steps.Entry) × Accepts t.event e × IsLawful e.edit × (verdict (state_of f ts) e ≡ Accepted) × (x ≡ reached (registry_of f ts) e.edit)
+    (e : steps.Entry) × Accepts t.event e × IsLawful e.edit × (verdict (state_of f ts) e ≡ Accepted)
+    × (x ≡ reached (registry_of f ts) (change (registry_of f ts) e.edit))
 
 -- The history with the turn that is owed is legal, and the state is the one after it. What is pending is that
 -- of the history, with what the owed turn's edit touched once that is noted.
-pub record Folds (log : Log) (owed : Option Turn) (reach : Option Reached) (s : State) (p : Pending) : Type 0 where
+pub record Folds (log : Log) (owed : Option Turn) (reach : Option Reached) (s : State)
+    (p : Pending) : Type 0 where
   pub first : First
   pub turns : List Turn
   pub is : log ≡ entries first turns
@@ -145,7 +149,8 @@ pub record KeepsStore (v : Log × Option Turn) (rows : Option Table) (faults : �
 -- the edit is accepted after this history, for this owner
 abbrev pub MayAccept : Log → Owner → steps.Entry → Type 0
 MayAccept log owner entry = (f : First) (ts : List Turn) → log ≡ entries f ts
-    → IsLawful entry.edit × (owner_of (registry_of f ts) entry.secret ≡ Some owner) × (verdict (state_of f ts) entry ≡ Accepted)
+    → IsLawful entry.edit × (owner_of (registry_of f ts) entry.secret ≡ Some owner)
+    × (verdict (state_of f ts) entry ≡ Accepted)
     × ((state_of f ts).accepted < 2 ^ 64 - 1)
 
 -- the edit is decided so after this history
@@ -190,14 +195,15 @@ IsQuestion q a (Fault count) = ⊥
 
 -- the history is as before, and a turn of the seat is owed
 abbrev pub Owes : Log → Log × Option Turn → ℕ → ℕ → (Event → Type 0) → Type 0
-Owes log now seat number Does = (t : Turn) × (now ≡ (log, Some t)) × (t.seat ≡ seat) × (t.number ≡ number) × Does t.event
+Owes log now seat number Does =
+    (t : Turn) × (now ≡ (log, Some t)) × (t.seat ≡ seat) × (t.number ≡ number) × Does t.event
 
 -- What readers see.
 
--- after an accepted edit
-pub record ShowsNext (old : Shown) (s : State) (entry : steps.Entry) (new : Shown) : Type 0 where
+-- after the change of an accepted edit
+pub record ShowsNext (old : Shown) (s : State) (c : RegistryChange) (new : Shown) : Type 0 where
   pub accepted : new.accepted ≡ s.accepted + 1
-  pub keys : new.keys ≡ (next s.registry entry.edit).keys
+  pub keys : new.keys ≡ (with_change s.registry c).keys
   pub bundle : new.bundle ≡ old.bundle
 
 -- after texts are installed

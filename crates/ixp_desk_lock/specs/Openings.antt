@@ -9,7 +9,8 @@ use Rattle.ixp_desk_lock.specs.Facts.{Log}
 
 -- the history without turns that begins with the state, and with this count of the store's faults
 abbrev pub BeginsAt : State → ℕ → Log → Type 0
-BeginsAt s faults log = (first : First) × (log ≡ entries first []) × (s ≡ first.state) × (faults ≡ first.faults)
+BeginsAt s faults log = (first : First) × (log ≡ entries first []) × (s ≡ first.state)
+    × (faults ≡ first.faults)
 
 -- no seat has made a turn
 abbrev pub AllZero : List ℕ → Type 0

@@ -37,7 +37,8 @@ greater a b = if nat_lt a b then b else a
 -- the text of the router with the handle, as the bundle has it
 abbrev pub Reads : Shown → List ℕ → Option Text → Type 0
 Reads v handle None = text_of v.bundle handle ≡ None
-Reads v handle (Some t) = (text_of v.bundle handle ≡ Some t.bytes) × (t.built ≡ built_of v.bundle) × (t.roas ≡ roas_of v.bundle)
+Reads v handle (Some t) = (text_of v.bundle handle ≡ Some t.bytes) × (t.built ≡ built_of v.bundle)
+    × (t.roas ≡ roas_of v.bundle)
 
 -- Of the history.
 
@@ -99,7 +100,8 @@ pub record Brings (at : Log) (need : ℕ) (vs : List Event) : Type 0 where
   pub newer : (built : ℕ) → HasBuilt at built → need ≤ built → vs ≡ []
 
 -- the turns of a publication: it asks, and then brings the texts up to what must be contained
-pub record Publishes (owner : Owner) (must : ℕ) (seen : Option ℕ) (handle : List ℕ) (o : Option Text) (s t : Sight) : Type 0 where
+pub record Publishes (owner : Owner) (must : ℕ) (seen : Option ℕ) (handle : List ℕ) (o : Option Text)
+    (s t : Sight) : Type 0 where
   pub place : ℕ
   pub at : Log
   pub begins : IsPrefix at t.2
@@ -109,7 +111,8 @@ pub record Publishes (owner : Owner) (must : ℕ) (seen : Option ℕ) (handle : 
 -- why nothing is handed out
 abbrev pub PubSays : Owner → Option ℕ → PubFault → Sight → Sight → Type 0
 PubSays owner seen (pub_fault.Refused x) s t = ⊥
-PubSays owner seen (pub_fault.SeenUnknown n) s t = (seen ≡ Some n) × Own (One (IsQuestion (Seen owner n) (Place None))) s t
+PubSays owner seen (pub_fault.SeenUnknown n) s t =
+    (seen ≡ Some n) × Own (One (IsQuestion (Seen owner n) (Place None))) s t
 PubSays owner seen pub_fault.NoRouter s t = ⊥
 PubSays owner seen (pub_fault.SeatCount a b) s t = OtherCount a b s t
 PubSays owner seen (pub_fault.Ended n) s t = SeatEnded n s t
@@ -117,7 +120,8 @@ PubSays owner seen pub_fault.NoMemory s t = AtMostOne s t
 
 -- what asking after an edit leaves, of a level seat
 abbrev pub PlaceSays : Owner → Option ℕ → PubFault → Sight → Sight → Type 0
-PlaceSays owner seen (pub_fault.SeenUnknown n) s t = (seen ≡ Some n) × Adds (One (IsQuestion (Seen owner n) (Place None))) s t
+PlaceSays owner seen (pub_fault.SeenUnknown n) s t =
+    (seen ≡ Some n) × Adds (One (IsQuestion (Seen owner n) (Place None))) s t
 PlaceSays owner seen pub_fault.NoMemory s t = t ≡ s
 PlaceSays owner seen x s t = ⊥
 

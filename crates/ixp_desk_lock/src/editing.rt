@@ -23,13 +23,15 @@ ghost use Rattle.ixp_desk_lock.specs.Sights.{Looks};
 
 use crate::fault::SubmitFault;
 use crate::locked::Locked;
-use crate::preparing::{edit_event, kept_count, owe_fault, owe_turn, prepare, raise, take_up};
+use crate::preparing::{
+    accepted_event, edit_event, kept_count, make_ready, owe_fault, owe_turn, raise, take_up,
+};
 use crate::seat::DeskSeat;
 use ixp_board::{BoardName, Note, Publish};
 use ixp_desk_commits::keep;
 use ixp_desk_history::{DeskStory, Turn};
 use ixp_io::{KeepFault, Keeper};
-use ixp_machine::{Decision, Reply, decide, read_edit};
+use ixp_machine::{Decision, Reply, decide, prepare, read_edit};
 use ixp_machine_steps::Entry;
 use ixp_registry::{Owner, Refusal};
 use std::alloc::AllocError;
@@ -101,17 +103,19 @@ impl<P: Keeper + Drop, N: BoardName, W: Publish<Note<DeskStory, N>>> Locked<P, N
         let Some(_kept) = kept_count(self.counts.as_slice(), seat) else {
             return Err(KeepFault::NoMemory);
         };
-        let ready = prepare(
+        let event = accepted_event(owner, &entry);
+        let prepared = prepare(self.alloc, &self.state, owner, entry)?;
+        let ready = make_ready(
             self.alloc,
             &self.state,
             self.pen.view(),
             seat,
             number,
-            owner,
-            &entry,
+            event,
+            &prepared.change,
         )?;
         self.export = None;
-        match keep(self.alloc, &mut self.state, &mut self.keeper, owner, entry) {
+        match keep(self.alloc, &mut self.state, &mut self.keeper, prepared) {
             Ok(()) => {
                 take_up(&mut self.owed, ready);
                 raise(&mut self.counts, seat, number);

@@ -53,7 +53,11 @@ fn make_pending(
     ensures { IfOk result (CatchesUp state.now pending.now view.now) }
 {
     let texts = pending.listed(alloc)?;
-    let order = view.get().bundle.get().order(alloc, state, &texts)?;
+    let order = view
+        .get()
+        .bundle
+        .get()
+        .order(alloc, &state.registry, state.accepted, &texts)?;
     make(alloc, order)
 }
 
@@ -105,7 +109,7 @@ impl<P: Keeper + Drop, N: BoardName, W: Publish<Note<DeskStory, N>>> Locked<P, N
         let Some(_kept) = kept_count(self.counts.as_slice(), turn.seat) else {
             return Err(AllocError);
         };
-        let _view = self.pen.view();
+        let _view = self.pen.view(); // for the proof alone: what is shown is that of the history
         let note = self.pen.put(rt, turn)?;
         raise(&mut self.counts, turn.seat, turn.number);
         self.pending.settle(self.alloc, upto);
@@ -184,11 +188,12 @@ impl<P: Keeper + Drop, N: BoardName, W: Publish<Note<DeskStory, N>>> Locked<P, N
     {
         let texts = self.pending.listed(self.alloc)?;
         let view = self.pen.view();
-        let order = view
-            .get()
-            .bundle
-            .get()
-            .order(self.alloc, &self.state, &texts)?;
+        let order = view.get().bundle.get().order(
+            self.alloc,
+            &self.state.registry,
+            self.state.accepted,
+            &texts,
+        )?;
         Ok(order)
     }
 

@@ -127,8 +127,9 @@ impl<P: Keeper + Drop, N: BoardName, W: Publish<Note<DeskStory, N>>> Locked<P, N
         seat.taught(&self.pen)
     }
 
-    /// Whether the history begins with what the seat has seen. As the pen alone makes turns, it does; but what
-    /// is known of a board says nothing of who writes, so that no clause can exclude the answer `false`.
+    /// Whether the history begins with what the seat has seen. As the pen alone makes turns, it does; but
+    /// what is known of a board says nothing of who writes, so that no clause can exclude the answer
+    /// `false`.
     pub fn covers(&self, seat: &DeskSeat<N>) -> bool
         ensures { IsTrue result → IsPrefix seat.now.2 self.now.0 }
     {

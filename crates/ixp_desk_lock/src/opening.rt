@@ -26,7 +26,7 @@ impl<P: Keeper + Drop, N: BoardName, W: Publish<Note<DeskStory, N>>> Locked<P, N
         requires counts { AllZero counts.items }
         ensures { result ≡ (pen, None) }
     {
-        let _view = pen.view();
+        let _view = pen.view(); // for the proof alone: what is shown is that of the history
         Locked {
             alloc,
             state,

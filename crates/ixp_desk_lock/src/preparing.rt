@@ -17,7 +17,7 @@ ghost use Rattle.std.specs.Prelude.{
 };
 ghost use Rattle.ixp_build.specs.Orders.{installed};
 ghost use Rattle.ixp_build_touches.specs.Touched.{reached};
-ghost use Rattle.ixp_machine_edits.specs.Edits.{next};
+ghost use Rattle.ixp_registry_change.specs.Changes.{with_change};
 ghost use Rattle.ixp_machine.specs.declared.decision.Decision.TheVariants.{Accepted};
 ghost use Rattle.ixp_desk_history.specs.declared.turn.Event.TheVariants.{Fault, Install};
 ghost use Rattle.ixp_desk_lock.specs.Facts.{
@@ -40,6 +40,7 @@ use ixp_machine::Decision;
 use ixp_machine_steps::{Entry, State};
 use ixp_num_tables::Held;
 use ixp_registry::Owner;
+use ixp_registry_change::RegistryChange;
 use std::alloc::{AllocError, Global};
 use std::snapshot::Snapshot;
 
@@ -52,16 +53,21 @@ pub(crate) struct Ready {
     pub(crate) same: View,
 }
 
-/// What readers see after an edit.
-fn next_view(alloc: Global, view: &View, state: &State, entry: &Entry) -> Result<View, AllocError>
+/// What readers see after a change.
+fn next_view(
+    alloc: Global,
+    view: &View,
+    state: &State,
+    change: &RegistryChange,
+) -> Result<View, AllocError>
     requires keys { view.now.keys ≡ state.now.registry.keys }
     requires room { state.now.accepted < 2 ^ 64 - 1 }
     ensures accepted { IfOk result (λ v. v.accepted ≡ state.now.accepted + 1) }
-    ensures keys { IfOk result (λ v. v.keys ≡ (next state.now.registry entry.now.edit).keys) }
+    ensures keys { IfOk result (λ v. v.keys ≡ (with_change state.now.registry change.now).keys) }
     ensures bundle { IfOk result (λ v. v.bundle ≡ view.now.bundle) }
 {
     let shown = view.get();
-    let keys = keys_after(alloc, &shown.keys, &entry.edit)?;
+    let keys = keys_after(alloc, &shown.keys, change)?;
     let bundle = shown.bundle.shared()?;
     Held::new(
         alloc,
@@ -81,7 +87,7 @@ pub(crate) fn edit_event(entry: &Entry, decision: &Decision) -> Event
 }
 
 /// The event of an edit that is accepted for its owner.
-fn accepted_event(owner: Owner, entry: &Entry) -> Event
+pub(crate) fn accepted_event(owner: Owner, entry: &Entry) -> Event
     ensures { Accepts result entry.now }
 {
     edit_event(entry, &Decision::Accepted(owner))
@@ -94,33 +100,33 @@ pub(crate) fn question_event(asked: Asked, answered: &Answered) -> Event
     Event::Question(asked, Snapshot::of(answered))
 }
 
-/// Makes an edit of a seat ready that is accepted.
-pub(crate) fn prepare(
+/// Makes the turn of a seat ready that says the event, whose edit makes the change.
+pub(crate) fn make_ready(
     alloc: Global,
     state: &State,
     view: &View,
     seat: u64,
     number: u64,
-    owner: Owner,
-    entry: &Entry,
+    event: Event,
+    change: &RegistryChange,
 ) -> Result<Ready, AllocError>
     requires keys { view.now.keys ≡ state.now.registry.keys }
     requires room { state.now.accepted < 2 ^ 64 - 1 }
     ensures seat { IfOk result (λ r. r.turn.seat ≡ seat) }
     ensures number { IfOk result (λ r. r.turn.number ≡ number) }
-    ensures event { IfOk result (λ r. Accepts r.turn.event entry.now) }
-    ensures shows { IfOk result (λ r. ShowsNext view.now state.now entry.now r.turn.view) }
-    ensures reached { IfOk result (λ r. r.reached ≡ reached state.now.registry entry.now.edit) }
+    ensures event { IfOk result (λ r. r.turn.event ≡ event) }
+    ensures shows { IfOk result (λ r. ShowsNext view.now state.now change.now r.turn.view) }
+    ensures reached { IfOk result (λ r. r.reached ≡ reached state.now.registry change.now) }
     ensures same { IfOk result (λ r. r.same ≡ view.now) }
 {
     let same = view.shared()?;
-    let reached = reached_by(alloc, &state.registry, &entry.edit)?;
-    let view = next_view(alloc, view, state, entry)?;
+    let reached = reached_by(alloc, &state.registry, change)?;
+    let view = next_view(alloc, view, state, change)?;
     Ok(Ready {
         turn: Turn {
             seat,
             number,
-            event: accepted_event(owner, entry),
+            event,
             view,
         },
         reached,

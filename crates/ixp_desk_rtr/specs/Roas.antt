@@ -33,9 +33,9 @@ pub record AreRoasAt (log : Log) (count : ℕ) (roas : List Roa) : Type 0 where
   pub version : IsVersion first turns count registry
   pub roas_are : roas ≡ registry.public.roas
 
--- The ROAs of one version of the history that the seat has seen at the return. It contains every edit of the history
--- that the call looked at, which begins with all that the seat had seen. The seat made no turn, or one that installs
--- texts.
+-- The ROAs of one version of the history that the seat has seen at the return. It contains every edit of the
+-- history that the call looked at, which begins with all that the seat had seen. The seat made no turn, or
+-- one that installs texts.
 pub record GivesRoas (count : ℕ) (roas : List Roa) (s t : Sight) : Type 0 where
   pub at : AreRoasAt t.2 count roas
   pub looked : Log
@@ -63,15 +63,16 @@ Kept = RtrCache × Sight
 abbrev pub IsUpdated : RtrCache → RtrCache → Type 0
 IsUpdated before now = (set : List Roa) × (changed : Bool) × Updates before set changed now
 
--- The cache was brought to the ROAs of one version, which contains every edit that was accepted when the call looked.
+-- The cache was brought to the ROAs of one version, which contains every edit that was accepted when the call
+-- looked.
 pub record IsFresh (before after : Kept) : Type 0 where
   pub count : ℕ
   pub roas : List Roa
   pub gives : GivesRoas count roas before.1 after.1
   pub present : IsInOrder roa_key roas after.0.present
 
--- A query was answered by a cache that was brought to the ROAs of one version in this way. A router that has the set which
--- its query names has exactly these ROAs after the answer.
+-- A query was answered by a cache that was brought to the ROAs of one version in this way. A router that has
+-- the set which its query names has exactly these ROAs after the answer.
 pub record Answers (query : Query) (pdus : List Pdu) (before after : Kept) : Type 0 where
   pub fresh : IsFresh before after
   pub updated : IsUpdated before.0 after.0

@@ -49,7 +49,8 @@ Reads bytes (x ∷ xs) rest = (more : List ℕ) × (first bytes ≡ (Ok x.query,
 
 -- behind the queries this stood next, and it was read
 abbrev pub Stood : List Exchange → Result Query QueryFault → Option (List ℕ) → Option (List ℕ) → Type 0
-Stood xs next before now = Told before now (λ bytes rest. (more : List ℕ) × Reads bytes xs more × (first more ≡ (next, rest)))
+Stood xs next before now = Told before now (λ bytes rest. (more : List ℕ) × Reads bytes xs more
+    × (first more ≡ (next, rest)))
 
 -- what was written are the answers, and then these PDUs
 abbrev pub Wrote : List Exchange → List Pdu → Option (List ℕ) → Option (List ℕ) → Type 0
@@ -66,26 +67,37 @@ IsBad (Err PeerError) pdus = ⊥
 IsBad (Err CutOff) pdus = ⊥
 IsBad (Err Unread) pdus = ⊥
 
--- How a link ends behind these exchanges: what stood next, and what was written. `unread` says that reads failed,
--- `unwritten` that writes did. What was written of an answer whose write failed isn't said.
-abbrev pub Ends : List Exchange → Option (List ℕ) → Option (List ℕ) → Option (List ℕ) → Option (List ℕ) → Type 0 → Type 0 → RtrEnd → Type 0
-Ends xs left left' written written' unread unwritten Closed = Stood xs (Ok End) left left' × Wrote xs [] written written'
+-- How a link ends behind these exchanges: what stood next, and what was written. `unread` says that reads
+-- failed, `unwritten` that writes did. What was written of an answer whose write failed isn't said.
+abbrev pub Ends : List Exchange → Option (List ℕ) → Option (List ℕ) → Option (List ℕ) → Option (List ℕ)
+    → Type 0 → Type 0 → RtrEnd → Type 0
+Ends xs left left' written written' unread unwritten Closed =
+    Stood xs (Ok End) left left' × Wrote xs [] written written'
 Ends xs left left' written written' unread unwritten Bad =
-    (next : Result Query QueryFault) × (pdus : List Pdu) × Stood xs next left left' × IsBad next pdus × Wrote xs pdus written written'
-Ends xs left left' written written' unread unwritten Peer = Stood xs (Err PeerError) left left' × Wrote xs [] written written'
-Ends xs left left' written written' unread unwritten Cut = Stood xs (Err CutOff) left left' × Wrote xs [] written written'
+    (next : Result Query QueryFault) × (pdus : List Pdu) × Stood xs next left left' × IsBad next pdus
+    × Wrote xs pdus written written'
+Ends xs left left' written written' unread unwritten Peer =
+    Stood xs (Err PeerError) left left' × Wrote xs [] written written'
+Ends xs left left' written written' unread unwritten Cut =
+    Stood xs (Err CutOff) left left' × Wrote xs [] written written'
 Ends xs left left' written written' unread unwritten Spent =
-    (length xs ≡ query_limit) × Told left left' (λ bytes rest. Reads bytes xs rest) × Wrote xs [] written written'
+    (length xs ≡ query_limit) × Told left left' (λ bytes rest. Reads bytes xs rest)
+    × Wrote xs [] written written'
 Ends xs left left' written written' unread unwritten ReadFault = unread × Wrote xs [] written written'
-Ends xs left left' written written' unread unwritten WriteFault = unwritten × ((next : Result Query QueryFault) × Stood xs next left left')
+Ends xs left left' written written' unread unwritten WriteFault =
+    unwritten × ((next : Result Query QueryFault) × Stood xs next left left')
 Ends xs left left' written written' unread unwritten (SeatCount seat kept) =
-    ((query : Query) × Stood xs (Ok query) left left') × Wrote xs [] written written' × ((s : Sight) × (t : Sight) × OtherCount seat kept s t)
+    ((query : Query) × Stood xs (Ok query) left left') × Wrote xs [] written written'
+    × ((s : Sight) × (t : Sight) × OtherCount seat kept s t)
 Ends xs left left' written written' unread unwritten (Ended count) =
-    ((query : Query) × Stood xs (Ok query) left left') × Wrote xs [] written written' × ((s : Sight) × (t : Sight) × SeatEnded count s t)
-Ends xs left left' written written' unread unwritten NoMemory = ((query : Query) × Stood xs (Ok query) left left') × Wrote xs [] written written'
+    ((query : Query) × Stood xs (Ok query) left left') × Wrote xs [] written written'
+    × ((s : Sight) × (t : Sight) × SeatEnded count s t)
+Ends xs left left' written written' unread unwritten NoMemory =
+    ((query : Query) × Stood xs (Ok query) left left') × Wrote xs [] written written'
 
 -- What was done on a link: queries were answered after which it went on, and then it ended.
-pub record Serves (left left' written written' : Option (List ℕ)) (unread unwritten : Type 0) (end : RtrEnd) : Type 0 where
+pub record Serves (left left' written written' : Option (List ℕ)) (unread unwritten : Type 0)
+    (end : RtrEnd) : Type 0 where
   pub xs : List Exchange
   pub goes : GoOn xs
   pub few : length xs ≤ query_limit

@@ -54,8 +54,11 @@ Refuses x written written' unwritten end =
     ((end ≡ ends_by x) × Takes written written' (pdus_bytes (reports x))) ⊎ ((end ≡ WriteFault) × unwritten)
 
 -- the next query of a link was answered, or the link ended
-abbrev pub Steps : Option (List ℕ) → Option (List ℕ) → Option (List ℕ) → Option (List ℕ) → Type 0 → Type 0 → Option RtrEnd → Type 0
+abbrev pub Steps : Option (List ℕ) → Option (List ℕ) → Option (List ℕ) → Option (List ℕ) → Type 0 → Type 0
+    → Option RtrEnd → Type 0
 Steps left left' written written' unread unwritten None =
     (query : Query) × (pdus : List Pdu) × WasAnswered query pdus × (query ≢ End) × (IsOther pdus → ⊥)
-    × Told left left' (λ bytes rest. first bytes ≡ (Ok query, rest)) × Takes written written' (pdus_bytes pdus)
-Steps left left' written written' unread unwritten (Some end) = Ends [] left left' written written' unread unwritten end
+    × Told left left' (λ bytes rest. first bytes ≡ (Ok query, rest))
+    × Takes written written' (pdus_bytes pdus)
+Steps left left' written written' unread unwritten (Some end) =
+    Ends [] left left' written written' unread unwritten end

@@ -12,8 +12,8 @@ use std::alloc::{AllocError, Global};
 use std::marker::Model;
 use std::sync::Wait;
 
-/// A cache of a desk's ROAs, with the seat that keeps it up to date. Contracts see the cache, and what the seat has
-/// seen. Its present set has the ROAs of one version of that history.
+/// A cache of a desk's ROAs, with the seat that keeps it up to date. Contracts see the cache, and what the
+/// seat has seen. Its present set has the ROAs of one version of that history.
 #[derive(Drop)]
 pub struct RoaCache<N: BoardName> {
     alloc: Global,
@@ -52,8 +52,8 @@ impl<N: BoardName> RoaCache<N> {
         })
     }
 
-    /// Brings the present set to the ROAs of a version that contains every edit which was accepted when the call
-    /// looked. Where that is the version whose ROAs it has, nothing is copied or compared.
+    /// Brings the present set to the ROAs of a version that contains every edit which was accepted when the
+    /// call looked. Where that is the version whose ROAs it has, nothing is copied or compared.
     fn refresh<R: Wait, D: Desks<N>>(&mut self, rt: &R, desk: &mut D) -> Result<(), TurnFault>
         ensures grows { Grows self.old.1 self.new.1 }
         ensures updated { IsUpdated self.old.0 self.new.0 }
@@ -70,8 +70,8 @@ impl<N: BoardName> RoaCache<N> {
         Ok(())
     }
 
-    /// The answer to a query, by the ROAs of a version that contains every edit which was accepted when the call
-    /// looked. It shares the sets that it needs, so it may be written while the cache changes.
+    /// The answer to a query, by the ROAs of a version that contains every edit which was accepted when the
+    /// call looked. It shares the sets that it needs, so it may be written while the cache changes.
     pub fn answer<R: Wait, D: Desks<N>>(
         &mut self,
         rt: &R,

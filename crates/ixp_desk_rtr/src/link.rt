@@ -154,8 +154,8 @@ fn exchange<R: Wait, N: BoardName, D: Desks<N>, L: Source + Sink>(
     }
 }
 
-/// Serves the link of a router to its end: each query is answered by the cache, once that was brought up to date
-/// under its lock. A link has at most [`QUERY_LIMIT`] queries.
+/// Serves the link of a router to its end: each query is answered by the cache, once that was brought up to
+/// date under its lock. A link has at most [`QUERY_LIMIT`] queries.
 pub fn rtr_link<R: Wait, N: BoardName, D: Desks<N>, L: Source + Sink>(
     rt: &R,
     desk: &mut D,

@@ -37,9 +37,9 @@ pub(crate) fn roas_seen<N: BoardName>(
     Ok((bundle.built(), roas))
 }
 
-/// The ROAs of a version that contains every edit which was accepted when the call looked, and the version's count.
-/// Where what is shown is older, the call makes and installs the texts that are pending. Nothing is copied: the table
-/// has one more owner. Y4 and Y5 where the seat's turns can't be counted.
+/// The ROAs of a version that contains every edit which was accepted when the call looked, and the
+/// version's count. Where what is shown is older, the call makes and installs the texts that are pending.
+/// Nothing is copied: the table has one more owner. Y4 and Y5 where the seat's turns can't be counted.
 pub fn roas_now<R: Wait, N: BoardName, D: Desks<N>>(
     rt: &R,
     desk: &mut D,

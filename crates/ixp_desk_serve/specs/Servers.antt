@@ -19,13 +19,17 @@ use Rattle.ixp_desk_serve.specs.declared.server.ServerEnd.{ServerEnd}
 use Rattle.ixp_desk_serve.specs.declared.server.ServerEnd.TheVariants.{Unopened, NoMemory, DoorFault, Served}
 
 -- A worker's seats served a link of the door, and the clock gave whatever it gave.
-abbrev pub IsHosted : Sights → Sights → Option (List ℕ) → Option (List ℕ) → Option (List ℕ) → Option (List ℕ) → Type 0 → Type 0 → Type 0
+abbrev pub IsHosted : Sights → Sights → Option (List ℕ) → Option (List ℕ) → Option (List ℕ) → Option (List ℕ)
+    → Type 0 → Type 0 → Type 0
 IsHosted s t left left' written written' unread unwritten =
-    (given : Option ℕ) × (given' : Option ℕ) × (served : Link) × IsServed (s, given) (t, given') left left' written written' unread unwritten served
+    (given : Option ℕ) × (given' : Option ℕ) × (served : Link)
+    × IsServed (s, given) (t, given') left left' written written' unread unwritten served
 
 -- A router's link was served by the desk's cache of ROAs.
-abbrev pub IsRouted : Option (List ℕ) → Option (List ℕ) → Option (List ℕ) → Option (List ℕ) → Type 0 → Type 0 → Type 0
-IsRouted left left' written written' unread unwritten = (end : RtrEnd) × Serves left left' written written' unread unwritten end
+abbrev pub IsRouted : Option (List ℕ) → Option (List ℕ) → Option (List ℕ) → Option (List ℕ) → Type 0 → Type 0
+    → Type 0
+IsRouted left left' written written' unread unwritten =
+    (end : RtrEnd) × Serves left left' written written' unread unwritten end
 
 -- the store has the rows of the state after some legal history
 abbrev pub KeepsSome : Option Table → ℕ → Type 0
@@ -37,19 +41,23 @@ end_of (Err short) routers = NoMemory
 end_of (Ok (Err failed)) routers = DoorFault
 end_of (Ok (Ok done)) routers = Served routers
 
--- How the links of a door end: served, the door gave as many as were asked for, where it tells that, and how many
--- routers' links a further door gave is told where routers were to be served. A fault comes only where the door's count
--- rose, by a further door that couldn't be opened, too.
+-- How the links of a door end: served, the door gave as many as were asked for, where it tells that, and how
+-- many routers' links a further door gave is told where routers were to be served. A fault comes only where
+-- the door's count rose, by a further door that couldn't be opened, too.
 abbrev pub DoorEnds : Bool → Option ℕ → Option ℕ → ℕ → ℕ → ℕ → ServerEnd → Type 0
-DoorEnds further links links' doors doors' n (Served routers) = Gave links links' n × (is_some routers ≡ further)
+DoorEnds further links links' doors doors' n (Served routers) =
+    Gave links links' n × (is_some routers ≡ further)
 DoorEnds further links links' doors doors' n DoorFault = Rose doors doors'
 DoorEnds further links links' doors doors' n NoMemory = Unit {0}
 DoorEnds further links links' doors doors' n (Unopened fault) = ⊥
 
--- How a server ends. The store couldn't be loaded: it has its rows, and the door wasn't touched. Or it was loaded,
--- and the door's links ended so; the store has the rows of the state after some legal history then.
-abbrev pub ServerEnds : Bool → Option Table → Option Table → ℕ → ℕ → Option ℕ → Option ℕ → ℕ → ℕ → ℕ → ServerEnd → Type 0
+-- How a server ends. The store couldn't be loaded: it has its rows, and the door wasn't touched. Or it was
+-- loaded, and the door's links ended so; the store has the rows of the state after some legal history then.
+abbrev pub ServerEnds : Bool → Option Table → Option Table → ℕ → ℕ → Option ℕ → Option ℕ → ℕ → ℕ → ℕ
+    → ServerEnd → Type 0
 ServerEnds further rows rows' faults faults' links links' doors doors' n (Unopened fault) =
-    Loads rows (Err fault) × (rows' ≡ rows) × (fault ≡ load.KeeperFault → Rose faults faults') × (links' ≡ links) × (doors' ≡ doors)
+    Loads rows (Err fault) × (rows' ≡ rows) × (fault ≡ load.KeeperFault → Rose faults faults')
+    × (links' ≡ links) × (doors' ≡ doors)
 ServerEnds further rows rows' faults faults' links links' doors doors' n end =
-    (s : State) × Loads rows (Ok s) × DoorEnds further links links' doors doors' n end × KeepsSome rows' faults'
+    (s : State) × Loads rows (Ok s) × DoorEnds further links links' doors doors' n end
+    × KeepsSome rows' faults'

@@ -21,9 +21,11 @@ use Rattle.ixp_desk_serve.specs.declared.session.SessionEnd.TheVariants.{Unopene
 abbrev pub without_memory : Served → Served
 without_memory served = record { end = link.NoMemory; requests = served.requests }
 
--- A link was served by seats that had seen this before. The store has the rows of the state after a history that
--- begins with all that the desk's seat has seen. Where it can't be shown that the history does, the link ends as out of memory.
-pub record ServesLink (seats : Sights) (given given' : Option ℕ) (left left' written written' : Option (List ℕ)) (unread unwritten : Type 0)
+-- A link was served by seats that had seen this before. The store has the rows of the state after a history
+-- that begins with all that the desk's seat has seen. Where it can't be shown that the history does, the link
+-- ends as out of memory.
+pub record ServesLink (seats : Sights) (given given' : Option ℕ)
+    (left left' written written' : Option (List ℕ)) (unread unwritten : Type 0)
     (rows : Option Table) (faults : ℕ) (served : Served) : Type 0 where
   pub sees : Sights
   pub link : Served
@@ -32,18 +34,22 @@ pub record ServesLink (seats : Sights) (given given' : Option ℕ) (left left' w
   pub store : KeepsStore after rows faults
   pub is : ((served ≡ link) × IsPrefix sees.0.2 after.0) ⊎ (served ≡ without_memory link)
 
--- A desk of one seat serves a link, with a looking glass of which nothing is held. Where memory runs out before, the
--- store has the rows of the state after the desk's history, and nothing is read or written.
-abbrev pub ServesAlone : Log × Option Turn → Sight → Option ℕ → Option ℕ → Option (List ℕ) → Option (List ℕ) → Option (List ℕ) → Option (List ℕ) → ℕ → ℕ → ℕ → ℕ
+-- A desk of one seat serves a link, with a looking glass of which nothing is held. Where memory runs out
+-- before, the store has the rows of the state after the desk's history, and nothing is read or written.
+abbrev pub ServesAlone : Log × Option Turn → Sight → Option ℕ → Option ℕ → Option (List ℕ) → Option (List ℕ)
+    → Option (List ℕ) → Option (List ℕ) → ℕ → ℕ → ℕ → ℕ
     → Option Table → ℕ → Option Served → Type 0
 ServesAlone desk seat given given' left left' written written' reads reads' writes writes' rows faults None =
-    KeepsStore desk rows faults × (given' ≡ given) × (left' ≡ left) × (written' ≡ written) × (reads' ≡ reads) × (writes' ≡ writes)
-ServesAlone desk seat given given' left left' written written' reads reads' writes writes' rows faults (Some served) =
-    ServesLink (seat, entries tt []) given given' left left' written written' (Rose reads reads') (Rose writes writes') rows faults served
+    KeepsStore desk rows faults × (given' ≡ given) × (left' ≡ left) × (written' ≡ written) × (reads' ≡ reads)
+    × (writes' ≡ writes)
+ServesAlone desk seat given given' left left' written written' reads reads' writes writes' rows faults
+    (Some served) =
+    ServesLink (seat, entries tt []) given given' left left' written written' (Rose reads reads')
+    (Rose writes writes') rows faults served
 
--- What is told of the objects of a session at a moment: the store's rows and its count of faults, the bytes that are
--- left to read and how many reads failed, the bytes that were written and how many writes failed, and what the clock
--- gave last.
+-- What is told of the objects of a session at a moment: the store's rows and its count of faults, the bytes
+-- that are left to read and how many reads failed, the bytes that were written and how many writes failed,
+-- and what the clock gave last.
 pub record Objects : Type 0 where
   pub rows : Option Table
   pub faults : ℕ
@@ -61,13 +67,15 @@ pub record IsUnused (before after : Objects) : Type 0 where
   pub writes : after.writes ≡ before.writes
   pub given : after.given ≡ before.given
 
--- How a session ends. The store couldn't be loaded, and has its rows. Or it was loaded as a state, with which the
--- desk's history begins; then memory ran out and the store has that state's rows, or the link was served.
+-- How a session ends. The store couldn't be loaded, and has its rows. Or it was loaded as a state, with which
+-- the desk's history begins; then memory ran out and the store has that state's rows, or the link was served.
 abbrev pub SessionEnds : Objects → Objects → SessionEnd → Type 0
 SessionEnds before after (Unopened fault) =
-    IsUnused before after × Loads before.rows (Err fault) × (after.rows ≡ before.rows) × (fault ≡ load.KeeperFault → Rose before.faults after.faults)
+    IsUnused before after × Loads before.rows (Err fault) × (after.rows ≡ before.rows)
+    × (fault ≡ load.KeeperFault → Rose before.faults after.faults)
 SessionEnds before after NoMemory =
-    IsUnused before after × ((first : First) × Loads before.rows (Ok first.state) × (first.faults ≡ before.faults)
+    IsUnused before after × ((first : First) × Loads before.rows (Ok first.state)
+    × (first.faults ≡ before.faults)
     × KeepsStore (entries first [], None) after.rows after.faults)
 SessionEnds before after (Answered served) =
     (first : First) × Loads before.rows (Ok first.state) × (first.faults ≡ before.faults)

@@ -11,7 +11,8 @@ use ixp_io_workers::{Background, Help, Host};
 use std::alloc::Global;
 use std::sync::{Mutex, Wait};
 
-/// A desk and a looking glass whose links are served by threads, while one more makes the texts that edits touched.
+/// A desk and a looking glass whose links are served by threads, while one more makes the texts that edits
+/// touched.
 #[derive(Drop)]
 pub(crate) struct Hosting<
     'a,

@@ -25,7 +25,7 @@ use std::thread::Threads;
 pub struct RtrDoor {
     pub port: u16,
     /// How many links are to be served.
-    pub links: u32,
+    pub links: u64,
 }
 
 /// How a server ended.
@@ -36,13 +36,13 @@ pub enum ServerEnd {
     NoMemory,
     /// The door failed, or the further one couldn't be opened.
     DoorFault,
-    /// As many links were served as were asked for, and so many of routers: as many as were asked for, unless the
-    /// further door failed.
-    Served { routers: Option<u32> },
+    /// As many links were served as were asked for, and so many of routers: as many as were asked for,
+    /// unless the further door failed.
+    Served { routers: Option<u64> },
 }
 
 /// How the links of the door ended, with those of routers.
-fn end_of(served: Result<Result<(), Failed>, AllocError>, routers: Option<u32>) -> ServerEnd
+fn end_of(served: Result<Result<(), Failed>, AllocError>, routers: Option<u64>) -> ServerEnd
     ensures { result ≡ end_of served routers }
 {
     match served {
@@ -72,8 +72,9 @@ fn pairs_of<N: BoardName, M: BoardName>(
     Ok(pairs)
 }
 
-/// Serves so many links of the door by threads, each with one pair of the seats but the last, while helpers serve those
-/// of routers at a further door, by a cache on that one. The cache's session is the clock's second.
+/// Serves so many links of the door by threads, each with one pair of the seats but the last, while helpers
+/// serve those of routers at a further door, by a cache on that one. The cache's session is the clock's
+/// second.
 fn serve_both<
     R: Threads + Wait + Sync,
     N: BoardName + Send + Sync,
@@ -93,7 +94,7 @@ fn serve_both<
     clock: &mut C,
     door: &mut D,
     gate: &G,
-    links: u32,
+    links: u64,
     at: RtrDoor,
 ) -> ServerEnd
 where
@@ -130,7 +131,8 @@ where
     end_of(served, Some(given))
 }
 
-/// Serves so many links of the door at the port by threads, each with one pair of the seats, and those of routers.
+/// Serves so many links of the door at the port by threads, each with one pair of the seats, and those of
+/// routers.
 fn serve_shared<
     R: Threads + Wait + Sync,
     N: BoardName + Send + Sync,
@@ -151,7 +153,7 @@ fn serve_shared<
     door: &mut D,
     gate: &G,
     port: u16,
-    links: u32,
+    links: u64,
     routers: Option<RtrDoor>,
 ) -> ServerEnd
 where
@@ -202,7 +204,7 @@ fn serve_glass<
     door: &mut D,
     gate: &G,
     port: u16,
-    links: u32,
+    links: u64,
     routers: Option<RtrDoor>,
 ) -> ServerEnd
 where
@@ -243,7 +245,7 @@ fn serve_desk<
     door: &mut D,
     gate: &G,
     port: u16,
-    links: u32,
+    links: u64,
     routers: Option<RtrDoor>,
 ) -> (ServerEnd, P)
 where
@@ -253,7 +255,8 @@ where
     requires some { 0 < seats }
     requires few { seats ≤ 64 }
     requires more { is_some routers ≡ true → 1 < seats }
-    ensures ends { DoorEnds (is_some routers) (D.links door.old) (D.links door.new) (D.faults door.old) (D.faults door.new) links
+    ensures ends { DoorEnds (is_some routers) (D.links door.old) (D.links door.new) (D.faults door.old)
+        (D.faults door.new) links
         result.0 }
     ensures counts { D.faults door.old ≤ D.faults door.new }
     ensures store { KeepsSome (P.table result.1) (P.faults result.1) }
@@ -290,7 +293,7 @@ fn serve_lent<
     gate: &G,
     port: u16,
     workers: u32,
-    links: u32,
+    links: u64,
     routers: Option<RtrDoor>,
 ) -> (ServerEnd, &'a mut P)
 where
@@ -327,11 +330,12 @@ where
 }
 
 /// Loads the store, and serves so many links of the door at the port: each by one of the workers, which are
-/// threads with a seat each, while one thread more makes the texts that edits touched. What no thread could be
-/// started for is done by the caller. It ends once all links were served to their end.
+/// threads with a seat each, while one thread more makes the texts that edits touched. What no thread could
+/// be started for is done by the caller. It ends once all links were served to their end.
 ///
-/// Where routers are to be served, a further door is opened for them, and up to sixteen of their links are served at
-/// a time, by one cache of the desk's ROAs. A fault of that door once it listens ends what it gives, and nothing else.
+/// Where routers are to be served, a further door is opened for them, and up to sixteen of their links are
+/// served at a time, by one cache of the desk's ROAs. A fault of that door once it listens ends what it
+/// gives, and nothing else.
 pub fn serve_door<
     R: Threads + Wait + Sync,
     P: Keeper + Send,
@@ -347,13 +351,14 @@ pub fn serve_door<
     gate: &G,
     port: u16,
     workers: u32,
-    links: u32,
+    links: u64,
     routers: Option<RtrDoor>,
 ) -> ServerEnd
 where
     D::Link: Drop + Send,
     requires few { workers ≤ 62 }
-    ensures ends { ServerEnds (is_some routers) (P.table keeper.old) (P.table keeper.new) (P.faults keeper.old) (P.faults keeper.new)
+    ensures ends { ServerEnds (is_some routers) (P.table keeper.old) (P.table keeper.new)
+        (P.faults keeper.old) (P.faults keeper.new)
         (D.links door.old) (D.links door.new) (D.faults door.old) (D.faults door.new) links result }
     ensures counts { D.faults door.old ≤ D.faults door.new }
 {

@@ -68,7 +68,8 @@ fn serve_seats<
     (Served { end, requests }, keeper)
 }
 
-/// Serves the link by the desk's one seat and these holds, and takes the desk apart. None where memory runs out before.
+/// Serves the link by the desk's one seat and these holds, and takes the desk apart. None where memory runs
+/// out before.
 fn serve_glass<
     R: Wait,
     N: BoardName,
@@ -88,7 +89,8 @@ fn serve_glass<
 ) -> (Option<Served>, P)
     requires name { holds.0 ≡ M.book }
     requires nothing { holds.1 ≡ entries tt [] }
-    ensures { ServesAlone desk seat (C.given clock.old) (C.given clock.new) (L.left link.old) (L.left link.new)
+    ensures { ServesAlone desk seat (C.given clock.old) (C.given clock.new) (L.left link.old) (L.left
+        link.new)
         (L.written link.old) (L.written link.new) (L.read_faults link.old) (L.read_faults link.new)
         (L.write_faults link.old) (L.write_faults link.new) (P.table result.1) (P.faults result.1)
         result.0 }
@@ -124,7 +126,8 @@ fn serve_alone<R: Wait, N: BoardName, P: Keeper + Drop, L: Source + Sink, C: Clo
 ) -> (Option<Served>, P)
     requires name { desk.0 ≡ N.book }
     requires one { desk.2 ≡ 1 }
-    ensures { ServesAlone (desk.1, None) (0, 0, desk.1) (C.given clock.old) (C.given clock.new) (L.left link.old)
+    ensures { ServesAlone (desk.1, None) (0, 0, desk.1) (C.given clock.old) (C.given clock.new) (L.left
+        link.old)
         (L.left link.new) (L.written link.old) (L.written link.new) (L.read_faults link.old)
         (L.read_faults link.new) (L.write_faults link.old) (L.write_faults link.new) (P.table result.1)
         (P.faults result.1) result.0 }

@@ -84,8 +84,10 @@ module _ (c : Costs) where
 
 -- with one more item
 abbrev pub costs_after : ItemTree → Costs → Costs
-costs_after (define_item n e) c = record { value = λ m. if same_name n m then 3 + expr_cost c e else c.value m; call = c.call }
-costs_after (function_item n qs ss) c = record { value = c.value; call = λ m. if same_name n m then 1 + stmts_cost c ss else c.call m }
+costs_after (define_item n e) c =
+    record { value = λ m. if same_name n m then 3 + expr_cost c e else c.value m; call = c.call }
+costs_after (function_item n qs ss) c =
+    record { value = c.value; call = λ m. if same_name n m then 1 + stmts_cost c ss else c.call m }
 costs_after (router_id_item a) c = c
 costs_after (table_item t n) c = c
 costs_after (filter_item n ss) c = c

@@ -53,7 +53,8 @@ abbrev pub waits_for : List ℕ → Bool → Body → Wait
 waits_for n w b = record { name = n; wanted = w; body = b }
 
 -- the value of a name is wanted
-abbrev pub looks_defined : Option (List ItemTree × ExprTree) → List ℕ → Body → List Wait → Result (Body × List Wait) Fault
+abbrev pub looks_defined : Option (List ItemTree × ExprTree) → List ℕ → Body → List Wait
+    → Result (Body × List Wait) Fault
 looks_defined None n b ws = Err (no_filter n)
 looks_defined (Some d) n b ws = Ok (begins_value d.0 d.1, waits_for n true b ∷ ws)
 
@@ -65,7 +66,8 @@ abbrev pub looks : List ℕ → Body → List Wait → Result (Body × List Wait
 looks n b ws = looks_given (find_named b.params n) n b ws
 
 -- a function is called
-abbrev pub enters : Option (List ItemTree × List (Ty × List ℕ) × StmtTrees) → List ℕ → Bool → List Value → Body → List Wait → Result (Body × List Wait) Fault
+abbrev pub enters : Option (List ItemTree × List (Ty × List ℕ) × StmtTrees) → List ℕ → Bool → List Value
+    → Body → List Wait → Result (Body × List Wait) Fault
 enters None n w args b ws = Err (no_filter n)
 enters (Some f) n w args b ws = Ok (begins f.0 (bind f.1 args) f.2, waits_for n w b ∷ ws)
 

@@ -57,14 +57,16 @@ below [] = []
 below (v ∷ vs) = vs
 
 abbrev pub paired : ℕ → ℕ → List Value → Result (List Value) Fault
-paired a b vs = if nat_lt 65535 a then Err (pair_range a) else (if nat_lt 65535 b then Err (pair_range b) else Ok (value.Pair a b ∷ vs))
+paired a b vs = if nat_lt 65535 a then Err (pair_range a)
+    else (if nat_lt 65535 b then Err (pair_range b) else Ok (value.Pair a b ∷ vs))
 
 -- the stack after an operator
 abbrev pub applied : Environment → Operation → List Value → Result (List Value) Fault
 applied env negates vs = Ok (value.Bool (not (truth (top vs))) ∷ below vs)
 applied env pairs vs = paired (number (top (below vs))) (number (top vs)) (below (below vs))
 applied env triples vs =
-    Ok (value.Triple (number (top (below (below vs)))) (number (top (below vs))) (number (top vs)) ∷ below (below (below vs)))
+    Ok (value.Triple (number (top (below (below vs)))) (number (top (below vs))) (number (top vs))
+    ∷ below (below (below vs)))
 applied env (relates o) vs = Ok (value.Bool (compares o (top (below vs)) (top vs)) ∷ below (below vs))
 applied env (checks t) vs = Ok (checked (roas_named env.roas t) (top (below vs)) (top vs) ∷ below (below vs))
 

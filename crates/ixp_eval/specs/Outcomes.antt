@@ -11,11 +11,15 @@ use Rattle.ixp_eval.specs.Frames.{Body, Wait, Next, goes, stops, breaks}
 -- an operator's value stands in the place of its operands
 abbrev pub applied_out : Environment → Operation → List Value → (List Value → End) → End
 applied_out env negates vs next = next (value.Bool (not (truth (top vs))) ∷ below vs)
-applied_out env pairs vs next = pair_of (number (top (below vs))) (number (top vs)) (λ v. next (v ∷ below (below vs)))
+applied_out env pairs vs next =
+    pair_of (number (top (below vs))) (number (top vs)) (λ v. next (v ∷ below (below vs)))
 applied_out env triples vs next =
-    next (value.Triple (number (top (below (below vs)))) (number (top (below vs))) (number (top vs)) ∷ below (below (below vs)))
-applied_out env (relates o) vs next = next (value.Bool (compares o (top (below vs)) (top vs)) ∷ below (below vs))
-applied_out env (checks t) vs next = next (checked (roas_named env.roas t) (top (below vs)) (top vs) ∷ below (below vs))
+    next (value.Triple (number (top (below (below vs)))) (number (top (below vs))) (number (top vs))
+    ∷ below (below (below vs)))
+applied_out env (relates o) vs next =
+    next (value.Bool (compares o (top (below vs)) (top vs)) ∷ below (below vs))
+applied_out env (checks t) vs next =
+    next (checked (roas_named env.roas t) (top (below vs)) (top vs) ∷ below (below vs))
 
 -- what a call's body gave, with the value on top or without it
 abbrev pub called_out : Bool → List ℕ → End → (Value → Route → End) → (Route → End) → End
@@ -42,11 +46,14 @@ module _ (env : Environment) (k : Known) (ps : Params) where
       if truth (top vs) then runs_all env k ps ss r (λ r. todo_out ts (below vs) r)
       else runs_all env k ps tt r (λ r. todo_out ts (below vs) r)
   todo_out (select arms ss ∷ ts) vs r =
-      runs_arms env k ps arms (top vs) r (λ r. todo_out ts (below vs) r) (λ r. runs_all env k ps ss r (λ r. todo_out ts (below vs) r))
+      runs_arms env k ps arms (top vs) r (λ r. todo_out ts (below vs) r)
+      (λ r. runs_all env k ps ss r (λ r. todo_out ts (below vs) r))
   todo_out (calling n w es args ∷ ts) vs r =
-      means_all env k ps es args r (λ xs r. called_out w n (k.call n xs r) (λ v r. todo_out ts (v ∷ vs) r) (λ r. todo_out ts vs r))
+      means_all env k ps es args r (λ xs r. called_out w n (k.call n xs r) (λ v r. todo_out ts (v ∷ vs) r)
+      (λ r. todo_out ts vs r))
   todo_out (calling_after n w es args ∷ ts) vs r =
-      means_all env k ps es (args ++ top vs ∷ []) r (λ xs r. called_out w n (k.call n xs r) (λ v r. todo_out ts (v ∷ below vs) r) (λ r. todo_out ts (below vs) r))
+      means_all env k ps es (args ++ top vs ∷ []) r (λ xs r. called_out w n (k.call n xs r)
+      (λ v r. todo_out ts (v ∷ below vs) r) (λ r. todo_out ts (below vs) r))
   todo_out (changing c ∷ ts) vs r = todo_out ts (below vs) (changed c (top vs) r)
   todo_out (returning ∷ ts) vs r = returns (top vs) r
   todo_out (accepting ∷ ts) vs r = accepts r
@@ -56,7 +63,8 @@ module _ (env : Environment) (k : Known) (ps : Params) where
   abbrev pub act_out : Act → End
   act_out (on ts vs r) = todo_out ts vs r
   act_out (wants n ts vs r) = value_named k ps n r (λ v r. todo_out ts (v ∷ vs) r)
-  act_out (calls n w args ts vs r) = called_out w n (k.call n args r) (λ v r. todo_out ts (v ∷ vs) r) (λ r. todo_out ts vs r)
+  act_out (calls n w args ts vs r) =
+      called_out w n (k.call n args r) (λ v r. todo_out ts (v ∷ vs) r) (λ r. todo_out ts vs r)
   act_out (done e) = e
   act_out (faulty f) = fails f
 

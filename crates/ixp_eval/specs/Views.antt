@@ -109,7 +109,12 @@ abbrev pub filter_view : FoundFilter → List ItemTree × StmtTrees
 filter_view f = (backwards f.before, stmts (stmts_view f.body.now))
 
 abbrev pub body_view : Frame → Body
-body_view f = record { before = backwards f.before; params = bind f.params.now (vals f.args); tasks = todos f.tasks; values = vals f.values }
+body_view f = record {
+  before = backwards f.before;
+  params = bind f.params.now (vals f.args);
+  tasks = todos f.tasks;
+  values = vals f.values;
+}
 
 abbrev pub wait_view : Waiting → Wait
 wait_view w = record { name = w.callee.name.now; wanted = w.callee.wanted; body = body_view w.frame }

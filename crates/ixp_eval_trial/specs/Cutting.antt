@@ -9,7 +9,8 @@ IsFree mark t = AllByRecursion (λ c. c ≢ mark) t
 
 -- the bytes before the first mark, and those from it on
 abbrev pub IsParted : ℕ → List ℕ → List ℕ → List ℕ → Type 0
-IsParted mark t front back = (t ≡ front ++ back) × IsFree mark front × ((back ≡ []) ⊎ ((rest : List ℕ) × (back ≡ mark ∷ rest)))
+IsParted mark t front back =
+    (t ≡ front ++ back) × IsFree mark front × ((back ≡ []) ⊎ ((rest : List ℕ) × (back ≡ mark ∷ rest)))
 
 -- the bytes before the first mark, and those behind it
 abbrev pub IsCut : ℕ → List ℕ → List ℕ → List ℕ → Type 0

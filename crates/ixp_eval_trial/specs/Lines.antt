@@ -32,4 +32,5 @@ pub record Divided (input : List ℕ) (above behind : List (List ℕ)) : Type 0 
 -- The filter text is what stands above the first divider; where there is none, it is the whole input.
 abbrev pub IsFilterText : List ℕ → List ℕ → Type 0
 IsFilterText input text =
-    ((above behind : List (List ℕ)) × Divided input above behind × (text ≡ ended above)) ⊎ (HasNoDivider (lines input) × (text ≡ input))
+    ((above behind : List (List ℕ)) × Divided input above behind × (text ≡ ended above))
+    ⊎ (HasNoDivider (lines input) × (text ≡ input))

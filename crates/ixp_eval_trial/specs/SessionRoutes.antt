@@ -22,22 +22,27 @@ pub record IsSessionLine (line handle : List ℕ) (interface : ℕ) (text : List
 
 -- the line says the route and who brings it
 abbrev pub SaysRoute : List ℕ → List ℕ → ℕ → Route → Type 0
-SaysRoute line router interface route = (text : List ℕ) × IsSessionLine line router interface text × RouteAnswer text (Ok route)
+SaysRoute line router interface route =
+    (text : List ℕ) × IsSessionLine line router interface text × RouteAnswer text (Ok route)
 
 -- why a line says no route: it isn't of the form, or what it has for a route's text is none
 abbrev pub SaysNoRoute : List ℕ → RouteCode → Type 0
 SaysNoRoute line c =
-    (((handle : List ℕ) (interface : ℕ) (text : List ℕ) → ¬ (IsSessionLine line handle interface text)) × (c ≡ code.Text))
-    ⊎ ((handle : List ℕ) × (interface : ℕ) × (text : List ℕ) × IsSessionLine line handle interface text × IsNoRouteText text c)
+    (((handle : List ℕ) (interface : ℕ) (text : List ℕ) → ¬ (IsSessionLine line handle interface text))
+    × (c ≡ code.Text))
+    ⊎ ((handle : List ℕ) × (interface : ℕ) × (text : List ℕ) × IsSessionLine line handle interface text
+    × IsNoRouteText text c)
 
 -- What lines are, of which the first has this number: one line that says a route. Where there is none, or
 -- another one after it, that is the place; running out of memory is free.
 abbrev pub SessionRouteAnswer : List (List ℕ) → ℕ → Result SessionRoute TrialFault → Type 0
-SessionRouteAnswer ls first (Ok s) = (line : List ℕ) × (ls ≡ line ∷ []) × SaysRoute line s.router s.interface s.route × (s.line ≡ first)
+SessionRouteAnswer ls first (Ok s) =
+    (line : List ℕ) × (ls ≡ line ∷ []) × SaysRoute line s.router s.interface s.route × (s.line ≡ first)
 SessionRouteAnswer ls first (Err (fault.BadLine n)) = ⊥
 SessionRouteAnswer ls first (Err (fault.BadRoute n c)) =
     ((ls ≡ []) × (n ≡ first) × (c ≡ code.Text))
     ⊎ ((line : List ℕ) × (after : List (List ℕ)) × (ls ≡ line ∷ after) × SaysNoRoute line c × (n ≡ first))
     ⊎ ((line second router : List ℕ) × (interface : ℕ) × (route : Route) × (after : List (List ℕ))
-    × (ls ≡ line ∷ second ∷ after) × SaysRoute line router interface route × (n ≡ first + 1) × (c ≡ code.Text))
+    × (ls ≡ line ∷ second ∷ after) × SaysRoute line router interface route × (n ≡ first + 1)
+    × (c ≡ code.Text))
 SessionRouteAnswer ls first (Err fault.NoMemory) = Unit {0}

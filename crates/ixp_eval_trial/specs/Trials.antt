@@ -57,7 +57,8 @@ IsNoRoute line c =
 
 -- Of these lines, the first of which has the number `first`, the front is the lines of these ROAs; behind
 -- them stands the rest, the first line of which has this number.
-pub record Behind (ls : List (List ℕ)) (first : ℕ) (roas : List (List ℕ × Roa)) (number : ℕ) (rest : List (List ℕ)) : Type 0 where
+pub record Behind (ls : List (List ℕ)) (first : ℕ) (roas : List (List ℕ
+    × Roa)) (number : ℕ) (rest : List (List ℕ)) : Type 0 where
   pub before : List (List ℕ)
   pub whole : ls ≡ before ++ rest
   pub are_roas : AreRoaLines before roas
@@ -76,10 +77,12 @@ LinesAnswer ls first (Ok t) =
     (line text : List ℕ) × (after : List (List ℕ)) × Behind ls first t.roas t.line (line ∷ after)
     × IsRouteLine line t.session text × RouteAnswer text (Ok t.route) × (t.more ≡ following t.line after)
 LinesAnswer ls first (Err (fault.BadLine n)) =
-    (roas : List (List ℕ × Roa)) × (line : List ℕ) × (after : List (List ℕ)) × Behind ls first roas n (line ∷ after)
+    (roas : List (List ℕ × Roa)) × (line : List ℕ) × (after : List (List ℕ))
+    × Behind ls first roas n (line ∷ after)
     × BeginsRoa line × ((table : List ℕ) (roa : Roa) → ¬ (IsRoaLine line table roa))
 LinesAnswer ls first (Err (fault.BadRoute n c)) =
-    ((roas : List (List ℕ × Roa)) × (line : List ℕ) × (after : List (List ℕ)) × Behind ls first roas n (line ∷ after) × ¬ (BeginsRoa line) × IsNoRoute line c)
+    ((roas : List (List ℕ × Roa)) × (line : List ℕ) × (after : List (List ℕ))
+    × Behind ls first roas n (line ∷ after) × ¬ (BeginsRoa line) × IsNoRoute line c)
     ⊎ ((roas : List (List ℕ × Roa)) × Behind ls first roas n [] × (c ≡ code.Text))
 LinesAnswer ls first (Err fault.NoMemory) = Unit {0}
 
@@ -87,5 +90,6 @@ LinesAnswer ls first (Err fault.NoMemory) = Unit {0}
 -- last one is told.
 abbrev pub TrialAnswer : List ℕ → Result Trial TrialFault → Type 0
 TrialAnswer input result =
-    ((above behind : List (List ℕ)) × Divided input above behind × LinesAnswer behind (length above + 2) result)
+    ((above behind : List (List ℕ)) × Divided input above behind
+    × LinesAnswer behind (length above + 2) result)
     ⊎ (HasNoDivider (lines input) × (result ≡ Err (fault.BadLine (length (lines input) + 1))))

@@ -1,2 +1,2 @@
 mod Behind
-mod Telling
+pub mod Telling

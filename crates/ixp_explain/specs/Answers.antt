@@ -49,7 +49,8 @@ Spelt text outcome answer = (items : List ItemTree) × SpellsText text items × 
 
 -- The answer to a question about a text. A text that is no configuration is told as its reader tells it; all
 -- else is the outcome by the configuration that the text spells. Running out of memory is free.
-abbrev pub Answers : {A : Type 0} → List ℕ → (List ItemTree → Result A Trouble) → Result A ExplainFault → Type 0
+abbrev pub Answers : {A : Type 0} → List ℕ → (List ItemTree → Result A Trouble) → Result A ExplainFault
+    → Type 0
 Answers text outcome (Err told.NoMemory) = Unit {0}
 Answers text outcome (Err (told.Unread f)) = IsUnread text (told.Unread f)
 Answers text outcome (Err (told.Family family)) = Spelt text outcome (Err (told.Family family))

@@ -86,17 +86,20 @@ Tables = List (List ℕ × List Roa)
 
 -- the fate of a route of the session's family
 abbrev pub fate_told : List ItemTree → Tables → ℕ → Route → Result Fate Trouble
-fate_told items roas interface route = unless_apart (family_apart (session_in items interface) route) (run (walk items roas (session_name interface) route))
+fate_told items roas interface route = unless_apart (family_apart (session_in items interface) route)
+    (run (walk items roas (session_name interface) route))
 
 abbrev pub report_of : Option Asn → Fate → Report
 report_of own fate = record { fate = fate; number = number_told own fate.table fate.passed }
 
 abbrev pub explained : List ItemTree → Tables → ℕ → Route → Result Report Trouble
-explained items roas interface route = and_then (fate_told items roas interface route) (λ fate. Ok (report_of (own_number items interface) fate))
+explained items roas interface route =
+    and_then (fate_told items roas interface route) (λ fate. Ok (report_of (own_number items interface) fate))
 
 -- the fate's text, which says by the route server's own number why a route is stopped
 abbrev pub fate_text_told : List ItemTree → Tables → ℕ → Route → Result (List ℕ) Trouble
-fate_text_told items roas interface route = and_then (fate_told items roas interface route) (λ fate. Ok (fate_text fate (own_number items interface)))
+fate_text_told items roas interface route =
+    and_then (fate_told items roas interface route) (λ fate. Ok (fate_text fate (own_number items interface)))
 
 -- Members are told to whom their own route is to be sent.
 
@@ -107,7 +110,8 @@ env_of roas b = record { from = b.neighbor; roas = roas }
 -- both functions that are asked are of their forms, where they are there
 abbrev pub shapes_told : Sorts → Result (Unit {0}) Trouble
 shapes_told sorts =
-    if is_shaped Truth (find_named sorts sends_name) then (if is_shaped Number (find_named sorts count_name) then Ok tt else Err (misshapen count_name))
+    if is_shaped Truth (find_named sorts sends_name)
+    then (if is_shaped Number (find_named sorts count_name) then Ok tt else Err (misshapen count_name))
     else Err (misshapen sends_name)
 
 -- how often a number is put in front; more than 255 times is no form of the function
@@ -116,41 +120,52 @@ times_told (value.Int n) = if nat_le n 255 then Ok (Some n) else Err (misshapen 
 times_told _ = Err (misshapen count_name)
 
 abbrev pub sends_told : List ItemTree → Environment → Route → ℕ → Result Bool Trouble
-sends_told items env route peer = and_then (called (function_end env (reverse items) sends_name peer route)) (λ v. Ok (truth v))
+sends_told items env route peer =
+    and_then (called (function_end env (reverse items) sends_name peer route)) (λ v. Ok (truth v))
 
 abbrev pub count_told : List ItemTree → Environment → Route → ℕ → Result (Option ℕ) Trouble
-count_told items env route peer = and_then (called (function_end env (reverse items) count_name peer route)) times_told
+count_told items env route peer =
+    and_then (called (function_end env (reverse items) count_name peer route)) times_told
 
 -- the wish for one peer, by the route that the filter up gave
 abbrev pub wish_told : List ItemTree → Environment → Route → ℕ → Result (Option ℕ) Trouble
-wish_told items env route peer = and_then (sends_told items env route peer) (λ sends. if sends then count_told items env route peer else Ok None)
+wish_told items env route peer = and_then (sends_told items env route peer) (λ sends. if sends
+    then count_told items env route peer else Ok None)
 
 -- peer after peer, up to the first trouble
-abbrev pub wishes_told : List ItemTree → Environment → Route → List Asn → Result (List (Asn × Option ℕ)) Trouble
+abbrev pub wishes_told : List ItemTree → Environment → Route → List Asn
+    → Result (List (Asn × Option ℕ)) Trouble
 wishes_told items env route [] = Ok []
 wishes_told items env route (p ∷ ps) =
-    and_then (wish_told items env route p.0) (λ wish. and_then (wishes_told items env route ps) (λ wishes. Ok ((p, wish) ∷ wishes)))
+    and_then (wish_told items env route p.0)
+    (λ wish. and_then (wishes_told items env route ps) (λ wishes. Ok ((p, wish) ∷ wishes)))
 
-abbrev pub wishes_by : List ItemTree → Environment → List Asn → Verdict → Result (List (Asn × Option ℕ)) Trouble
+abbrev pub wishes_by : List ItemTree → Environment → List Asn → Verdict
+    → Result (List (Asn × Option ℕ)) Trouble
 wishes_by items env peers Reject = Ok []
 wishes_by items env peers (Accept route) = wishes_told items env route peers
 
 -- what is asked of a route that passed: the filter up is run on the route that the session's table holds
-abbrev pub passed_told : List ItemTree → Environment → ℕ → Route → List Asn → Result (List (Asn × Option ℕ)) Trouble
+abbrev pub passed_told : List ItemTree → Environment → ℕ → Route → List Asn
+    → Result (List (Asn × Option ℕ)) Trouble
 passed_told items env interface route peers =
     and_then (run (filter_end env (reverse items) (up_name interface) route)) (λ verdict.
     and_then (shapes_told (sorts_after [] items)) (λ _. wishes_by items env peers verdict))
 
 -- of a route that doesn't pass nobody is asked
-abbrev pub asks_told : List ItemTree → Tables → ℕ → Option Bgp → Option Route → Bool → List Asn → Result (List (Asn × Option ℕ)) Trouble
-asks_told items roas interface (Some b) (Some route) true peers = passed_told items (env_of roas b) interface route peers
+abbrev pub asks_told : List ItemTree → Tables → ℕ → Option Bgp → Option Route → Bool → List Asn
+    → Result (List (Asn × Option ℕ)) Trouble
+asks_told items roas interface (Some b) (Some route) true peers =
+    passed_told items (env_of roas b) interface route peers
 asks_told items roas interface _ _ _ peers = Ok []
 
 abbrev pub own_report_of : Option Asn → Fate → List (Asn × Option ℕ) → OwnReport
-own_report_of own fate asks = record { tagged = fate.table; passed = fate.passed; number = number_told own fate.table fate.passed; asks = asks }
+own_report_of own fate asks =
+    record { tagged = fate.table; passed = fate.passed; number = number_told own fate.table fate.passed; asks = asks }
 
 abbrev pub own_explained : List ItemTree → Tables → ℕ → Route → List Asn → Result OwnReport Trouble
 own_explained items roas interface route peers =
     and_then (fate_told items roas interface route) (λ fate.
-    and_then (asks_told items roas interface (session_in items interface) fate.table fate.passed peers) (λ asks.
+    and_then (asks_told items roas interface (session_in items interface) fate.table fate.passed peers)
+    (λ asks.
     Ok (own_report_of (own_number items interface) fate asks)))

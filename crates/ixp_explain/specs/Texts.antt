@@ -23,7 +23,9 @@ verdict_text false number = stopped_text number
 
 abbrev pub told_text : Option Route → Bool → Option ℕ → List (Asn × Option ℕ) → List ℕ
 told_text None passed number asks = codes "dropped\n"
-told_text (Some route) passed number asks = (codes "tagged " ++ (attributes_text route ++ codes "\n")) ++ (verdict_text passed number ++ asks_text asks)
+told_text (Some route) passed number asks =
+    (codes "tagged " ++ (attributes_text route ++ codes "\n"))
+    ++ (verdict_text passed number ++ asks_text asks)
 
 -- One line for the route as the server holds it, one for whether it passes, with the number of the reason if
 -- it doesn't, and one for each peer that was asked.

@@ -4,8 +4,9 @@
 //! [`explain`] and [`explain_member`] read the text and run it. What they answer is the outcome by the
 //! configuration that the text spells (`specs/Explained.antt`), so a text that was altered by hand is
 //! explained as it stands. [`explain_text`] gives the fate as a text, [`print_own`] writes what a member
-//! gets to read. A [`Reading`] is a text that is read once for many routes. What the texts of a valid registry
-//! explain is said in `ixp_explain_member`.
+//! gets to read. A [`Reading`] is a text that is read once for many routes, and [`session`] has the steps of an
+//! explanation for those who read a text themselves. What the texts of a valid registry explain is said in
+//! `ixp_explain_member`.
 #![tactic(auto)]
 
 mod fates;
@@ -15,7 +16,7 @@ mod peers;
 mod print;
 mod reading;
 mod report;
-mod session;
+pub mod session;
 mod shapes;
 mod tables;
 

@@ -1,4 +1,4 @@
-//! The session of an interface, and a route's walk from it.
+//! The session of an interface, and a route's walk from it, by a configuration that was read.
 ghost use Rattle.std.specs.Prelude.{◌≡◌, IfOk, option_map, MatchResult};
 ghost use Rattle.std.specs.Option.{option_copied};
 ghost use Rattle.ixp_lang.specs.Trees.{ItemTree};
@@ -27,7 +27,7 @@ use ixp_roa::RoaTable;
 use std::alloc::{AllocError, Global};
 
 /// The configuration that a text spells.
-pub(crate) fn config_of(alloc: Global, text: &[u8]) -> Result<Config, ExplainFault>
+pub fn config_of(alloc: Global, text: &[u8]) -> Result<Config, ExplainFault>
     ensures { MatchResult result (λ c. SpellsText text.now (config_view c)) (IsUnread text.now) }
 {
     match read_config(alloc, text) {
@@ -38,7 +38,7 @@ pub(crate) fn config_of(alloc: Global, text: &[u8]) -> Result<Config, ExplainFau
 }
 
 /// The name of an interface's session.
-pub(crate) fn name_of(alloc: Global, interface: u32) -> Result<Name, AllocError>
+pub fn name_of(alloc: Global, interface: u32) -> Result<Name, AllocError>
     ensures { IfOk result (λ name. name ≡ session_name interface) }
 {
     numbered(alloc, b"b_", interface)
@@ -57,7 +57,7 @@ fn family_apart(session: Option<&Bgp>, route: &Route) -> Option<Family>
 
 /// The fate of a route of the session's family.
 #[tactic(auto, using(crate::proofs::Telling::telling))]
-pub(crate) fn fate_of(
+pub fn fate_of(
     alloc: Global,
     config: &Config,
     roas: &[(Name, Held<RoaTable>)],
@@ -75,11 +75,7 @@ pub(crate) fn fate_of(
 }
 
 /// The number of this end of an interface's session.
-pub(crate) fn own_number(
-    alloc: Global,
-    config: &Config,
-    interface: u32,
-) -> Result<Option<Asn>, AllocError>
+pub fn own_number(alloc: Global, config: &Config, interface: u32) -> Result<Option<Asn>, AllocError>
     ensures { IfOk result (λ own. own ≡ own_number (config_view config.now) interface) }
 {
     let name = name_of(alloc, interface)?;
@@ -102,7 +98,7 @@ fn reason_of(asn: u32, triples: &[(u32, u32, u32)]) -> Option<u32>
 }
 
 /// The number that stands behind `stopped` in a fate's text.
-pub(crate) fn number_told(own: Option<Asn>, table: &Option<Route>, passed: bool) -> Option<u32>
+pub fn number_told(own: Option<Asn>, table: &Option<Route>, passed: bool) -> Option<u32>
     ensures { result ≡ number_told own table.now passed }
 {
     let Some(route) = table else {

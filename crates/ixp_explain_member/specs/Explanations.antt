@@ -22,13 +22,15 @@ use Rattle.ixp_explain_member.specs.declared.explanation.Explanation.TheVariants
 -- what a session's text says of a route, where there is one and the route is of the router's family; X7 else
 abbrev pub told_by : (Session → List ℕ) → Router → Route → Option Session → Explanation
 told_by says router route None = NoSession
-told_by says router route (Some s) = if same_family router.family route.net.family then Text (says s) else Refused (Family router.family)
+told_by says router route (Some s) =
+    if same_family router.family route.net.family then Text (says s) else Refused (Family router.family)
 
 -- to the staff: the route's fate; Y3 where there is no such router
 abbrev pub staff_explanation : Registry → List ℕ → ℕ → Route → Explanation
 staff_explanation r handle n route =
     if_there (find router_key handle r.routers) NoRouter
-    (λ router. told_by (λ s. fate_text (fate_of r router route s) (Some router.asn)) router route (session r router n))
+    (λ router. told_by (λ s. fate_text (fate_of r router route s) (Some router.asn)) router route
+    (session r router n))
 
 -- the interface is there, and is the member's
 abbrev pub is_own : Registry → ℕ → ℕ → Bool
@@ -40,5 +42,6 @@ abbrev pub member_explanation : Registry → ℕ → List ℕ → ℕ → Route 
 member_explanation r m handle n route peers =
     if is_own r m n
     then if_there (find router_key handle r.routers) (Refused (Unknown Routers (Handle handle)))
-    (λ router. told_by (λ s. own_text (own_report_by_rows r router s route peers)) router route (session r router n))
+    (λ router. told_by (λ s. own_text (own_report_by_rows r router s route peers)) router route
+    (session r router n))
     else Refused (Denied Staff)

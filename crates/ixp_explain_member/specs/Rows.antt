@@ -21,7 +21,8 @@ use Rattle.ixp_explain.specs.Explained.{explained, own_explained, other_family}
 
 -- the route's fate, and the number with which it is refused
 abbrev pub report_by_rows : Registry → Router → Session → Route → Report
-report_by_rows r router s route = record { fate = fate_of r router route s; number = refusal_number (refusal r router s route) }
+report_by_rows r router s route =
+    record { fate = fate_of r router route s; number = refusal_number (refusal r router s route) }
 
 -- the route as the server holds it, whether it passes, the number with which it is refused, and the wish for
 -- each peer where it passes
@@ -30,7 +31,8 @@ own_report_by_rows r router s route peers = record {
   tagged = Some (tagged r router s route);
   passed = passes r router s route;
   number = refusal_number (refusal r router s route);
-  asks = if passes r router s route then map (λ p. (p, wish router s (tagged r router s route) p.0)) peers else [];
+  asks = if passes r router s route then map (λ p. (p, wish router s (tagged r router s route) p.0)) peers
+      else [];
 }
 
 -- The router's text spells a configuration that explains each route of the session of interface n as the rows
@@ -38,8 +40,10 @@ own_report_by_rows r router s route peers = record {
 pub record ExplainsRows (r : Registry) (router : Router) (n : ℕ) (s : Session) : Type 0 where
   pub items : List ItemTree
   pub is_spelt : SpellsText (Gen r router) items
-  pub is_report : (route : Route) → route.net.family ≡ router.family → explained items (roa_tables r) n route ≡ Ok (report_by_rows r router s route)
-  pub is_apart : (route : Route) → same_family router.family route.net.family ≡ false → explained items (roa_tables r) n route ≡ Err (other_family router.family)
+  pub is_report : (route : Route) → route.net.family ≡ router.family
+      → explained items (roa_tables r) n route ≡ Ok (report_by_rows r router s route)
+  pub is_apart : (route : Route) → same_family router.family route.net.family ≡ false
+      → explained items (roa_tables r) n route ≡ Err (other_family router.family)
 
 -- The session's own text does so for its member, whatever peers are asked.
 pub record TellsRows (r : Registry) (router : Router) (n : ℕ) (s : Session) : Type 0 where

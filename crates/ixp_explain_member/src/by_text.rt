@@ -121,8 +121,8 @@ pub(crate) fn member_by_text(
     }
 }
 
-/// What becomes of a route that the interface's session brings, by the text of a router, which was read, and the
-/// ROAs of its version. Of a text that is no router's nothing is claimed.
+/// What becomes of a route that the interface's session brings, by the text of a router, which was read, and
+/// the ROAs of its version. Of a text that is no router's nothing is claimed.
 pub fn staff_told(
     alloc: Global,
     reading: &Reading,

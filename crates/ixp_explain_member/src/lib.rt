@@ -4,8 +4,8 @@
 //! a member what its session's own text says of its own route. `specs/Explanations.antt` says what each is
 //! answered by the rows, and when it is refused.
 //!
-//! [`staff_told`] and [`member_told`] answer the same of texts that were handed out: they have the bytes, or a text
-//! that was read, and the ROAs of that version, and no registry.
+//! [`staff_told`] and [`member_told`] answer the same of texts that were handed out: they have the bytes, or
+//! a text that was read, and the ROAs of that version, and no registry.
 //!
 //! That what the texts of a valid registry explain is what the rules over its rows say, `specs/Rows.antt`
 //! has: the reports by the rows, and when a text explains them. The laws' functions do nothing: each is

@@ -17,7 +17,7 @@ use Rattle.ixp_explain.specs.declared.report.OwnReport.{OwnReport}
 use Rattle.ixp_explain.specs.Answers.{Answers, IsFaulty, Tells, Troubled, fault_of}
 use Rattle.ixp_explain.specs.Explained.{Tables, Trouble, and_then, asks_told, env_of, fate_told, own_explained, own_number, own_report_of, run, session_in, shapes_told, up_name, wishes_by, faulty}
 use Rattle.ixp_explain.specs.Kinds.{sorts_after}
-use Rattle.ixp_glass.proofs.Telling.{answered}
+use Rattle.ixp_explain.proofs.Telling.{told_of}
 use Rattle.ixp_glass.specs.Forms.{HasForms, Told, asks_forms, filtered, told_but_forms}
 
 abbrev pub Asks : Type 0
@@ -157,7 +157,7 @@ troubled_by o p on (told.Shape name) is = on _ is
 module _ (text : List ℕ) (items : List ItemTree) (spelt : SpellsText text items) (roas : Tables) (n : ℕ) (route : Route) where
   explained_by : (answer : Result OwnReport ExplainFault) → Tells answer (own_explained items roas n route []) → Told text roas n route answer
   explained_by answer tells list same =
-      subst (λ (ts : Tables). Answers text (λ is. own_explained is ts n route []) answer) same (answered text (λ is. own_explained is roas n route []) answer items spelt tells)
+      subst (λ (ts : Tables). Answers text (λ is. own_explained is ts n route []) answer) same (told_of text (λ is. own_explained is roas n route []) answer items spelt tells)
 
   -- the forms are known to be right
   pub by_forms : (x : OwnReport) → Ok x ≡ told_but_forms items roas n route → HasForms items → Told text roas n route (Ok x)

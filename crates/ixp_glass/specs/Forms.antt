@@ -13,8 +13,10 @@ use Rattle.ixp_explain.specs.Kinds.{sorts_after}
 use Rattle.ixp_glass.specs.Reports.{Explains, tables_named}
 
 -- a route that passed is given to the filter up
-abbrev pub filtered : List ItemTree → Tables → ℕ → Option Bgp → Option Route → Bool → Result (Unit {0}) Trouble
-filtered items roas interface (Some b) (Some route) true = and_then (run (filter_end (env_of roas b) (reverse items) (up_name interface) route)) (λ verdict. Ok tt)
+abbrev pub filtered : List ItemTree → Tables → ℕ → Option Bgp → Option Route → Bool
+    → Result (Unit {0}) Trouble
+filtered items roas interface (Some b) (Some route) true =
+    and_then (run (filter_end (env_of roas b) (reverse items) (up_name interface) route)) (λ verdict. Ok tt)
 filtered items roas interface _ _ _ = Ok tt
 
 abbrev pub told_but_forms : List ItemTree → Tables → ℕ → Route → Result OwnReport Trouble
@@ -25,7 +27,8 @@ told_but_forms items roas interface route =
 
 -- the forms count for this report's route
 abbrev pub asks_forms : List ItemTree → ℕ → OwnReport → Bool
-asks_forms items interface report = is_some (session_in items interface) && is_some report.tagged && report.passed
+asks_forms items interface report =
+    is_some (session_in items interface) && is_some report.tagged && report.passed
 
 -- the functions of the text are of their forms
 abbrev pub HasForms : List ItemTree → Type 0
@@ -33,4 +36,5 @@ HasForms items = shapes_told (sorts_after [] items) ≡ Ok tt
 
 -- what `explain_member` answers of a route by these tables, where they are those of some ROAs
 abbrev pub Told : List ℕ → Tables → ℕ → Route → Result OwnReport ExplainFault → Type 0
-Told text tables interface route answer = (roas : List Roa) → tables ≡ tables_named roas → Explains text roas interface route answer
+Told text tables interface route answer =
+    (roas : List Roa) → tables ≡ tables_named roas → Explains text roas interface route answer

@@ -11,11 +11,13 @@ use Rattle.ixp_glass.specs.Reports.{AreReports}
 
 -- the reports of the router's session at the interface, with what they were made from
 abbrev pub made_from : List ℕ → ℕ → List Route → List ℕ → List Roa → List OwnReport → KeptReports
-made_from router interface routes text roas reports = record { router = router; interface = interface; routes = routes; text = text; roas = roas; reports = reports }
+made_from router interface routes text roas reports =
+    record { router = router; interface = interface; routes = routes; text = text; roas = roas; reports = reports }
 
 -- reports of the session are kept that were made from these
 abbrev pub AreKept : List KeptReports → List ℕ → ℕ → List Route → List ℕ → List Roa → Type 0
-AreKept kept router interface routes text roas = (reports : List OwnReport) × Contains kept (made_from router interface routes text roas reports)
+AreKept kept router interface routes text roas =
+    (reports : List OwnReport) × Contains kept (made_from router interface routes text roas reports)
 
 -- the reports are those of the routes, by the text and the ROAs
 abbrev pub IsRight : KeptReports → Type 0
@@ -28,13 +30,14 @@ is_of router interface k = same k.router router && k.interface == interface
 abbrev pub others : List ℕ → ℕ → List KeptReports → List KeptReports
 others router interface ks = filter (λ k. not (is_of router interface k)) ks
 
--- What is kept once these reports were made: the ones that were made last stand first. Of other sessions no more
--- than 15 stay, so that those which were made longest ago go.
+-- What is kept once these reports were made: the ones that were made last stand first. Of other sessions no
+-- more than 15 stay, so that those which were made longest ago go.
 abbrev pub with_newest : KeptReports → List KeptReports → List KeptReports
 with_newest k ks = k ∷ take (MOST_KEPT - 1) (others k.router k.interface ks)
 
--- These reports are given: they are kept already, and all stays; or none are kept that were made from these, and
--- they are kept now.
+-- These reports are given: they are kept already, and all stays; or none are kept that were made from these,
+-- and they are kept now.
 abbrev pub Gives : KeptReports → List KeptReports → List KeptReports → Type 0
 Gives k before now =
-    (Contains before k × (now ≡ before)) ⊎ ((AreKept before k.router k.interface k.routes k.text k.roas → ⊥) × (now ≡ with_newest k before))
+    (Contains before k × (now ≡ before))
+    ⊎ ((AreKept before k.router k.interface k.routes k.text k.roas → ⊥) × (now ≡ with_newest k before))

@@ -16,7 +16,8 @@ tables_named roas = (codes "roas4", roas) ∷ (codes "roas6", roas) ∷ []
 module _ (text : List ℕ) (roas : List Roa) (interface : ℕ) where
   -- what `explain_member` answers of a route, where no peer is asked
   abbrev pub Explains : Route → Result OwnReport ExplainFault → Type 0
-  Explains route answer = Answers text (λ items. own_explained items (tables_named roas) interface route []) answer
+  Explains route answer =
+      Answers text (λ items. own_explained items (tables_named roas) interface route []) answer
 
   -- a report of each route, in their order
   abbrev pub AreReports : List Route → List OwnReport → Type 0

@@ -20,5 +20,6 @@ same_roa a b = same_prefix a.prefix b.prefix && a.max == b.max && a.asn.0 == b.a
 
 abbrev pub same_route : Route → Route → Bool
 same_route a b =
-    same_prefix a.net b.net && same_addr a.next_hop b.next_hop && pointwise same_asn a.path b.path && pointwise same_pair a.pairs b.pairs
+    same_prefix a.net b.net && same_addr a.next_hop b.next_hop && pointwise same_asn a.path b.path
+    && pointwise same_pair a.pairs b.pairs
     && pointwise same_triple a.triples b.triples

@@ -13,8 +13,8 @@ use ixp_num_tables::Held;
 use std::alloc::{AllocError, Global};
 use std::marker::Model;
 
-/// The reports of at most 16 sessions, each with what they were made from. Contracts see them as they were made,
-/// the last ones first. Each report that it holds is right.
+/// The reports of at most 16 sessions, each with what they were made from. Contracts see them as they were
+/// made, the last ones first. Each report that it holds is right.
 #[derive(Drop)]
 pub struct Glass {
     alloc: Global,
@@ -81,8 +81,8 @@ impl Glass {
         }
     }
 
-    /// Whether the reports of the router's session at the interface are to be made: not where they are kept and
-    /// were made from these routes, this text and these ROAs. It does not allocate.
+    /// Whether the reports of the router's session at the interface are to be made: not where they are kept
+    /// and were made from these routes, this text and these ROAs. It does not allocate.
     pub fn due(
         &self,
         router: &Name,
@@ -109,7 +109,8 @@ impl Glass {
         requires { AreReports text.now roas.now interface routes.now reports.now }
         ensures ok { OnOk result
             (self.new
-            ≡ with_newest (made_from router.now interface routes.now text.now roas.now reports.now) self.old) }
+            ≡ with_newest (made_from router.now interface routes.now text.now roas.now reports.now)
+            self.old) }
         ensures err { OnErr result (self.new ≡ self.old) }
     {
         let newest = newest_of(

@@ -6,7 +6,7 @@ ghost use Rattle.ixp_glass.specs.Reports.{Reports};
 
 use crate::forms::report_of;
 use crate::roas::GlassRoas;
-use crate::session::config_of;
+use ixp_explain::session::config_of;
 use ixp_explain::{ExplainFault, OwnReport};
 use ixp_lang::{Config, Route};
 use ixp_num::Items;
@@ -43,8 +43,8 @@ fn reports_by(
     Ok(reports)
 }
 
-/// The reports of the routes that the interface's session brings, by the text and the ROAs. Without routes the
-/// text isn't read.
+/// The reports of the routes that the interface's session brings, by the text and the ROAs. Without routes
+/// the text isn't read.
 pub(crate) fn reports_of(
     alloc: Global,
     text: &[u8],

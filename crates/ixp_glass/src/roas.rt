@@ -10,8 +10,8 @@ use ixp_roa::RoaTable;
 use std::alloc::{AllocError, Global};
 use std::marker::Model;
 
-/// ROAs as a list, which can be compared with another one, and as the table by which filters ask them. To share
-/// them costs the same however many they are.
+/// ROAs as a list, which can be compared with another one, and as the table by which filters ask them. To
+/// share them costs the same however many they are.
 #[derive(Drop)]
 pub struct GlassRoas {
     rows: Held<Items<Roa>>,

@@ -29,16 +29,19 @@ hold_of router interface routes = record { session = session_of router interface
 
 -- what the router's session at the interface holds
 abbrev pub routes_of : List Hold → List ℕ → ℕ → Option (List Route)
-routes_of rows router interface = option_map (λ h. h.routes) (find hold_key (session_key (session_of router interface)) rows)
+routes_of rows router interface =
+    option_map (λ h. h.routes) (find hold_key (session_key (session_of router interface)) rows)
 
 -- after the history the session holds these routes, or nothing
 abbrev pub IsHeld : Log → List ℕ → ℕ → Option (List Route) → Type 0
-IsHeld log router interface x = (first : Unit {0}) (turns : List Hold) → log ≡ entries first turns → routes_of (held_after first turns) router interface ≡ x
+IsHeld log router interface x = (first : Unit {0}) (turns : List Hold) → log ≡ entries first turns
+    → routes_of (held_after first turns) router interface ≡ x
 
 -- the place of the first route of another family, where the first route is at this place
 abbrev pub other_from : ℕ → Family → List Route → Option ℕ
 other_from place family [] = None
-other_from place family (r ∷ rs) = if same_family family r.net.family then other_from (place + 1) family rs else Some place
+other_from place family (r ∷ rs) =
+    if same_family family r.net.family then other_from (place + 1) family rs else Some place
 
 -- this session holds nothing, and as many others as may hold routes do
 abbrev pub is_full : List Hold → Hold → Bool
@@ -53,17 +56,21 @@ is_crowded rows h = nat_lt 0 (length h.routes) && is_full rows h
 abbrev pub refusal : List Hold → Family → Hold → Option HoldFault
 refusal rows family h =
     if nat_lt MOST_ROUTES (length h.routes) then Some (fault.TooMany (length h.routes) MOST_ROUTES)
-    else (if is_crowded rows h then Some (fault.TooMany (MOST_SESSIONS + 1) MOST_SESSIONS) else option_map fault.Family (other_from 1 family h.routes))
+    else (if is_crowded rows h then Some (fault.TooMany (MOST_SESSIONS + 1) MOST_SESSIONS)
+    else option_map fault.Family (other_from 1 family h.routes))
 
 -- what is held after the history tells this
 abbrev pub IsRefused : Log → Family → Hold → Option HoldFault → Type 0
-IsRefused log family h x = (first : Unit {0}) (turns : List Hold) → log ≡ entries first turns → refusal (held_after first turns) family h ≡ x
+IsRefused log family h x = (first : Unit {0}) (turns : List Hold) → log ≡ entries first turns
+    → refusal (held_after first turns) family h ≡ x
 
 -- Where the routes are held, the seat has seen one turn that says so at the end of the history, and what was
 -- held before it refuses nothing. Where they are refused, what is held after the history that the seat has
 -- seen refuses them so. Where memory runs out the seat has seen nothing more.
 abbrev pub MakesHold : Family → Hold → Result (Unit {0}) HoldFault → Log → Log → Type 0
-MakesHold family h (Ok done) before now = (log : Log) × IsPrefix before log × (now ≡ with_turn log h) × IsRefused log family h None
+MakesHold family h (Ok done) before now =
+    (log : Log) × IsPrefix before log × (now ≡ with_turn log h) × IsRefused log family h None
 MakesHold family h (Err fault.NoMemory) before now = now ≡ before
-MakesHold family h (Err (fault.TooMany have limit)) before now = IsRefused now family h (Some (fault.TooMany have limit))
+MakesHold family h (Err (fault.TooMany have limit)) before now =
+    IsRefused now family h (Some (fault.TooMany have limit))
 MakesHold family h (Err (fault.Family place)) before now = IsRefused now family h (Some (fault.Family place))

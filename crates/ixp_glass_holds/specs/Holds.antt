@@ -47,10 +47,12 @@ held_from rows (h ∷ hs) = held_from (with_hold h rows) hs
 abbrev pub held_after : Unit {0} → List Hold → List Hold
 held_after first turns = held_from [] turns
 
--- from what sessions hold each turn goes on: its routes may be held, and no more than 16 sessions hold any then
+-- from what sessions hold each turn goes on: its routes may be held, and no more than 16 sessions hold any
+-- then
 abbrev pub GoesOn : List Hold → List Hold → Type 0
 GoesOn rows [] = Unit {0}
-GoesOn rows (h ∷ hs) = AreHoldable h.routes × (length (with_hold h rows) ≤ MOST_SESSIONS) × GoesOn (with_hold h rows) hs
+GoesOn rows (h ∷ hs) = AreHoldable h.routes × (length (with_hold h rows) ≤ MOST_SESSIONS)
+    × GoesOn (with_hold h rows) hs
 
 abbrev pub Legal : Unit {0} → List Hold → Type 0
 Legal first turns = GoesOn [] turns

@@ -4,7 +4,8 @@ use std::alloc::AllocError;
 /// Why a session doesn't hold the routes.
 #[derive(Debug, Drop)]
 pub enum HoldFault {
-    /// Z1: there are so many routes, or so many sessions with this one, and no more than the limit may be held.
+    /// Z1: there are so many routes, or so many sessions with this one, and no more than the limit may be
+    /// held.
     TooMany { have: u64, limit: u64 },
     /// Z2: the route at this place, counted from 1, is of the other family.
     Family { place: u64 },

@@ -80,5 +80,6 @@ impl Copied for Hold {
     }
 }
 
-/// What all sessions hold, in the order of the sessions. A seat's own view counts its owners in its outer part.
+/// What all sessions hold, in the order of the sessions. A seat's own view counts its owners in its outer
+/// part.
 pub type HoldView = Held<Held<Table<Hold>>>;

@@ -11,7 +11,8 @@ ghost use Rattle.ixp_glass_holds.specs.Keys.{session_of};
 /// sessions hold what they held before.
 pub fn sessions_hold_what_was_said_last()
     ensures own { (turns : List Hold) (h : Hold)
-        → routes_of (held_after tt (turns ++ h ∷ [])) h.session.router h.session.interface ≡ some_of h.routes }
+        → routes_of (held_after tt (turns ++ h ∷ [])) h.session.router h.session.interface
+        ≡ some_of h.routes }
     ensures others { (turns : List Hold) (h : Hold) (router : List ℕ) (interface : ℕ)
         → (session_of router interface ≡ h.session → ⊥)
         → routes_of (held_after tt (turns ++ h ∷ [])) router interface

@@ -2,9 +2,9 @@
 //! glass shows is made of these.
 //!
 //! They are held in memory and end with the program. [`open_glass`] begins a history of holds, which a board
-//! publishes: each turn says which routes one session holds from then on, and an empty list says that it holds
-//! none any more (`specs/Holds.antt`). [`GlassDesks`] has the call that makes turns, for one caller or for
-//! threads that share a lock ([`GlassDesk`]); [`held`] looks at what a session holds, without the lock.
+//! publishes: each turn says which routes one session holds from then on, and an empty list says that it
+//! holds none any more (`specs/Holds.antt`). [`GlassDesks`] has the call that makes turns, for one caller or
+//! for threads that share a lock ([`GlassDesk`]); [`held`] looks at what a session holds, without the lock.
 #![tactic(auto)]
 
 mod calls;

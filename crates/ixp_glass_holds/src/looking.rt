@@ -35,7 +35,8 @@ pub(crate) fn is_legal<N: BoardName>(seat: &GlassSeat<N>)
     let _view = seat.view();
 }
 
-/// Looks at what the router's session at the interface holds: None where that is nothing. It waits for nobody.
+/// Looks at what the router's session at the interface holds: None where that is nothing. It waits for
+/// nobody.
 pub fn held<N: BoardName>(
     alloc: Global,
     seat: &mut GlassSeat<N>,

@@ -32,8 +32,8 @@ impl<N: BoardName, W: Publish<Note<HoldStory, N>>> GlassDesk<N, W> {
 }
 
 impl Holds {
-    /// The board for one caller, with its seats, each of which has seen that nothing is held. Where memory runs
-    /// out all comes back.
+    /// The board for one caller, with its seats, each of which has seen that nothing is held. Where memory
+    /// runs out all comes back.
     pub fn alone<N: BoardName>(self) -> Result<(AloneGlass<N>, Vec<GlassSeat<N>>), Holds>
         requires name { self.0 ≡ N.book }
         ensures pen { IfOk result (λ x. x.0 ≡ self.1) }

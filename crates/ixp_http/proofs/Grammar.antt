@@ -7,7 +7,7 @@ use Rattle.ixp_http.specs.Heads.{begins_with, line_end, one_more, head_len, line
 
 -- ---- how many lines there are
 
-line_feeds-append : (xs ys : List ℕ) → line_feeds (xs ++ ys) ≡ line_feeds xs + line_feeds ys
+pub line_feeds-append : (xs ys : List ℕ) → line_feeds (xs ++ ys) ≡ line_feeds xs + line_feeds ys
 line_feeds-append [] ys = omega arith
 line_feeds-append (b ∷ xs) ys = by (b == 10) (line_feeds-append xs ys)
   where

@@ -7,6 +7,7 @@ use Rattle.ixp_http.specs.declared.head.Start.{Start}
 use Rattle.ixp_http.specs.declared.head.Start.TheVariants.{Over, Between, Inside, Headed}
 use Rattle.ixp_http.specs.Answers.{Grows, HoldsOneRead, IsQuiet}
 use Rattle.ixp_http.specs.Heads.{chunk, begins_with, line_end, blank_len, end_after, one_more, head_len, line_feeds, head_limit, start_lined, start_after, start_front, start_within, start_of, is_open}
+use Rattle.ixp_http.proofs.Grammar.{line_feeds-append}
 use Rattle.ixp_http.proofs.Starts.{IsLined, headed, placed, blank_fits, blank_more, head_some}
 
 parts : (b : ℕ) (bytes : List ℕ) → line_feeds (b ∷ bytes) ≡ 0 → ((b == 10) ≡ false) × (line_feeds bytes ≡ 0)
@@ -108,15 +109,6 @@ blank_less (b ∷ c ∷ xs) more few = by (b == 10 || (b == 13 && (c == 10))) fe
     by true few ih = ap suc (ih (omega (arith, few)))
     by false few ih = refl
 
-feeds_over : (xs ys : List ℕ) → line_feeds (xs ++ ys) ≡ line_feeds xs + line_feeds ys
-feeds_over [] ys = omega arith
-feeds_over (b ∷ xs) ys = by (b == 10) (feeds_over xs ys)
-  where
-    by : (t : Bool) → line_feeds (xs ++ ys) ≡ line_feeds xs + line_feeds ys
-        → (if t then line_feeds (xs ++ ys) + 1 else line_feeds (xs ++ ys)) ≡ (if t then line_feeds xs + 1 else line_feeds xs) + line_feeds ys
-    by true e = omega (arith, e)
-    by false e = e
-
 drop_over : (xs ys : List ℕ) → drop (length xs) (xs ++ ys) ≡ ys
 drop_over [] ys = refl
 drop_over (x ∷ xs) ys = drop_over xs ys
@@ -149,7 +141,7 @@ quiet_more held now new (more, q, is) (last, grown) none =
     let all : take (length new - length now) (drop (length now) new) ≡ last =
     ap (take (length new - length now)) ends ∙ take_all (length new - length now) last size in
     let few : line_feeds last ≡ 0 = sym (ap line_feeds all) ∙ none in
-    (more ++ last, feeds_over more last ∙ omega (arith, q, few), grown ∙ ap (λ (t : List ℕ). t ++ last) is ∙ append_assoc held more last)
+    (more ++ last, line_feeds-append more last ∙ omega (arith, q, few), grown ∙ ap (λ (t : List ℕ). t ++ last) is ∙ append_assoc held more last)
 
 -- the last read
 pub quiet_last : (held now new : List ℕ) → SoFar held now → Grows now new → length new ≤ length now + chunk → IsQuiet held new

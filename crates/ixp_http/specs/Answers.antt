@@ -20,10 +20,13 @@ Together before now held holds = Told before now (λ left rest. held ++ left ≡
 -- A reading of all the bytes, those that were held and those that were left, is answered, and P holds of the
 -- bytes and it. What is held and left after a request is what stands behind it. The other faults say nothing
 -- of the bytes.
-abbrev pub Tells : (List ℕ → Reading → Type 0) → Option (List ℕ) → Option (List ℕ) → List ℕ → List ℕ → Result Next HttpFault → Type 0
-Tells P before now held holds (Ok (Found r)) = Told before now (λ left rest. P (held ++ left) (message r (holds ++ rest)))
+abbrev pub Tells : (List ℕ → Reading → Type 0) → Option (List ℕ) → Option (List ℕ) → List ℕ → List ℕ
+    → Result Next HttpFault → Type 0
+Tells P before now held holds (Ok (Found r)) =
+    Told before now (λ left rest. P (held ++ left) (message r (holds ++ rest)))
 Tells P before now held holds (Ok End) = Told before now (λ left rest. P (held ++ left) closed)
-Tells P before now held holds (Err (Bad status)) = Told before now (λ left rest. P (held ++ left) (bad status))
+Tells P before now held holds (Err (Bad status)) =
+    Told before now (λ left rest. P (held ++ left) (bad status))
 Tells P before now held holds (Err Cut) = Told before now (λ left rest. P (held ++ left) cut)
 Tells P before now held holds (Err ReadFault) = ⊤
 Tells P before now held holds (Err WriteFault) = ⊤
@@ -41,8 +44,8 @@ most_held = head_limit + body_limit + chunk
 abbrev pub TakesUpTo : ℕ → Option (List ℕ) → Option (List ℕ) → List ℕ → Type 0
 TakesUpTo most before now held = (taken : List ℕ) × (length taken ≤ most) × Together before now held taken
 
--- What was read and not used yet: behind a request no more than one read gives, where no more was held before; else
--- a message and what one read gives at most.
+-- What was read and not used yet: behind a request no more than one read gives, where no more was held
+-- before; else a message and what one read gives at most.
 abbrev pub Leaves : Option (List ℕ) → Option (List ℕ) → List ℕ → List ℕ → Result Next HttpFault → Type 0
 Leaves before now held holds (Ok (Found r)) = length held ≤ chunk → length holds ≤ chunk
 Leaves before now held holds (Ok End) = length held ≤ most_held → TakesUpTo most_held before now held
@@ -68,7 +71,8 @@ Grows held holds = (more : List ℕ) × (holds ≡ held ++ more)
 -- what came before the last read has no end of a line
 abbrev pub IsQuiet : List ℕ → List ℕ → Type 0
 IsQuiet held holds =
-    (more : List ℕ) × (last : List ℕ) × (line_feeds more ≡ 0) × (length last ≤ chunk) × (holds ≡ (held ++ more) ++ last)
+    (more : List ℕ) × (last : List ℕ) × (line_feeds more ≡ 0) × (length last ≤ chunk)
+    × (holds ≡ (held ++ more) ++ last)
 
 -- a fault that says nothing of the bytes
 abbrev pub SaysNothing : HttpFault → Type 0

@@ -105,7 +105,8 @@ need_within (Some n) = Body n
 -- The lengths that a head gives: none (RFC 9112 section 6.3), or one, which may come more than once.
 abbrev pub need_by : List (List ℕ) → Need
 need_by [] = Body 0
-need_by (v ∷ vs) = if all_are v (v ∷ vs) && is_decimal v then need_within (number_upto body_limit v) else Refused 400
+need_by (v ∷ vs) = if all_are v (v ∷ vs) && is_decimal v then need_within (number_upto body_limit v)
+    else Refused 400
 
 -- a head with a transfer coding is refused (RFC 9112 section 6.1)
 abbrev pub need_coded : List (List ℕ) → Need → Need
@@ -114,4 +115,5 @@ need_coded (v ∷ vs) need = Refused 501
 
 -- What a head's fields say of the body: its length, or the status with which the request is refused.
 abbrev pub need_of : List Field → Need
-need_of fields = need_coded (values (codes "transfer-encoding") fields) (need_by (values (codes "content-length") fields))
+need_of fields = need_coded (values (codes "transfer-encoding") fields)
+    (need_by (values (codes "content-length") fields))

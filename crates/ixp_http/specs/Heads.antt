@@ -69,7 +69,8 @@ start_after full from rest (Some n) = start_lined (nat_lt line_limit (line_feeds
 -- the same of the bytes up to the limit
 abbrev pub start_front : Bool → List ℕ → Start
 start_front full front =
-    start_after full (blank_len front) (drop (blank_len front) front) (head_len (drop (blank_len front) front))
+    start_after full (blank_len front) (drop (blank_len front) front)
+    (head_len (drop (blank_len front) front))
 
 -- the same of bytes with such a limit
 abbrev pub start_within : ℕ → List ℕ → Start

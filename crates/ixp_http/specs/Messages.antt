@@ -47,7 +47,8 @@ IsHead bytes head = (h : RequestHead) × ReadsRequest bytes h [] × (head ≡ pa
 -- 9.3.2).
 abbrev pub closes_after : Head → Bool
 closes_after head =
-    head.minor == 0 || (same head.method (codes "HEAD") || any_has_item (codes "close") (values (codes "connection") head.fields))
+    head.minor == 0 || (same head.method (codes "HEAD")
+    || any_has_item (codes "close") (values (codes "connection") head.fields))
 
 -- the request with these parts of its head and this body; its query is what follows the first `?` of the
 -- target
@@ -71,7 +72,8 @@ pub data Reading : Type 0 where
 -- a head, with what its fields say of the body, and then these bytes
 abbrev pub with_need : Head → Need → List ℕ → Reading
 with_need head (Refused status) rest = bad status
-with_need head (Body n) rest = if nat_le n (length rest) then message (request_of head (take n rest)) (drop n rest) else cut
+with_need head (Body n) rest =
+    if nat_le n (length rest) then message (request_of head (take n rest)) (drop n rest) else cut
 
 -- what stands first, by where a head stands
 abbrev pub Begins : List ℕ → Start → Reading → Type 0
@@ -105,6 +107,7 @@ OneReading =
     (bytes : List ℕ) (rs qs : List Request) (end last : Reading)
     → Messages bytes rs end → Messages bytes qs last → (rs ≡ qs) × (end ≡ last)
 
--- No bytes are without a reading. (Which one they have is asked of httparse's grammar, which comes without a test.)
+-- No bytes are without a reading. (Which one they have is asked of httparse's grammar, which comes without a
+-- test.)
 abbrev pub HasReading : Type 0
 HasReading = (bytes : List ℕ) → ((rs : List Request) (end : Reading) → Messages bytes rs end → ⊥) → ⊥

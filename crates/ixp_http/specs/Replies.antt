@@ -64,4 +64,5 @@ reply_bytes reply = concat (map (text_of reply) parts)
 
 -- what was written and is held is what was written and was held before, and then these bytes
 abbrev pub Holds : Option (List ℕ) → Option (List ℕ) → List ℕ → List ℕ → List ℕ → Type 0
-Holds before now held holds bytes = Told before now (λ written all. (all ++ holds ≡ written ++ (held ++ bytes)) × (length written ≤ length all))
+Holds before now held holds bytes = Told before now
+    (λ written all. (all ++ holds ≡ written ++ (held ++ bytes)) × (length written ≤ length all))

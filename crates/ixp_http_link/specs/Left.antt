@@ -14,8 +14,8 @@ abbrev pub BeginWith : List ℕ → List Request → List ℕ → Type 0
 BeginWith bytes [] rest = bytes ≡ rest
 BeginWith bytes (r ∷ rs) rest = (more : List ℕ) × First bytes (message r more) × BeginWith more rs rest
 
--- What was read behind the last whole request. Where the link ended with a request, it is no more than one read gives;
--- where the input ended, it is empty lines; else it is a message and what one read gives at most.
+-- What was read behind the last whole request. Where the link ended with a request, it is no more than one
+-- read gives; where the input ended, it is empty lines; else it is a message and what one read gives at most.
 abbrev pub IsTaken : LinkEnd → List ℕ → List ℕ → Type 0
 IsTaken Closed taken rest = (length taken ≤ chunk) ⊎ First (taken ++ rest) closed
 IsTaken Spent taken rest = length taken ≤ chunk
@@ -25,13 +25,15 @@ IsTaken ReadFault taken rest = length taken ≤ most_held
 IsTaken WriteFault taken rest = length taken ≤ most_held
 IsTaken NoMemory taken rest = length taken ≤ most_held
 
--- The bytes that were held and left are the requests that were read, then what was taken of what follows them, and
--- then what is left. Those requests were answered, n before, but maybe the last one.
-pub record LeavesFrom (n : ℕ) (before after : Option (List ℕ)) (held : List ℕ) (served : Served) : Type 0 where
+-- The bytes that were held and left are the requests that were read, then what was taken of what follows
+-- them, and then what is left. Those requests were answered, n before, but maybe the last one.
+pub record LeavesFrom (n : ℕ) (before after : Option (List ℕ)) (held : List ℕ)
+    (served : Served) : Type 0 where
   pub rs : List Request
   pub taken : List ℕ
   pub count : (n + length rs ≡ served.requests) ⊎ (n + length rs ≡ served.requests + 1)
-  pub rest : Told before after (λ bytes rest. BeginWith (held ++ bytes) rs (taken ++ rest) × IsTaken served.end taken rest)
+  pub rest : Told before after (λ bytes rest. BeginWith (held ++ bytes) rs (taken ++ rest)
+      × IsTaken served.end taken rest)
 
 -- the same of a whole link
 abbrev pub Leaves : Option (List ℕ) → Option (List ℕ) → Served → Type 0

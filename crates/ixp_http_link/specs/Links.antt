@@ -57,17 +57,20 @@ Tried Writes failed text = Writes text ⊎ (failed × ((count : ℕ) × Writes (
 -- outcome.
 abbrev pub Replied : {D : Type 0} → (D → Call → Outcome → D → Type 0) → ℕ → D → Reading → List ℕ → D → Type 0
 Replied turn n d (message r rest) text e =
-    (o : Outcome) × Answers turn d r o e × (wants_memory o ≡ false) × (text ≡ reply_bytes (closing_if (ends_at n r) (reply o)))
+    (o : Outcome) × Answers turn d r o e × (wants_memory o ≡ false)
+    × (text ≡ reply_bytes (closing_if (ends_at n r) (reply o)))
 Replied turn n d (bad status) text e = (e ≡ d) × (text ≡ reply_bytes (reply (Head status)))
 Replied turn n d closed text e = ⊥
 Replied turn n d cut text e = ⊥
 
 -- How the link ends by what was read last, and how many requests were answered then.
-abbrev pub EndsBy : {D : Type 0} → (D → Call → Outcome → D → Type 0) → ℕ → D → D → (List ℕ → Type 0) → Reading → LinkEnd → ℕ → Type 0
+abbrev pub EndsBy : {D : Type 0} → (D → Call → Outcome → D → Type 0) → ℕ → D → D → (List ℕ → Type 0) → Reading
+    → LinkEnd → ℕ → Type 0
 EndsBy turn n d e Writes closed end m = (end ≡ Closed) × (m ≡ n) × (e ≡ d) × Writes []
 EndsBy turn n d e Writes cut end m = (end ≡ Cut) × (m ≡ n) × (e ≡ d) × Writes []
 EndsBy turn n d e Writes (bad status) end m =
-    (end ≡ BadMessage status) × (m ≡ n) × ((text : List ℕ) × Replied turn n d (bad status) text e × Writes text)
+    (end ≡ BadMessage status) × (m ≡ n) × ((text : List ℕ) × Replied turn n d (bad status) text e
+    × Writes text)
 EndsBy turn n d e Writes (message r rest) end m =
     (ends_at n r ≡ true) × (end ≡ (if r.closes then Closed else Spent)) × (m ≡ n + 1)
     × ((text : List ℕ) × Replied turn n d (message r rest) text e × Writes text)
@@ -76,7 +79,8 @@ EndsBy turn n d e Writes (message r rest) end m =
 -- stands.
 abbrev pub Stopped : {D : Type 0} → (D → Call → Outcome → D → Type 0) → D → D → (Reading → Type 0) → Type 0
 Stopped turn d e Stands =
-    (e ≡ d) ⊎ ((r : Request) × (rest : List ℕ) × Stands (message r rest) × ((o : Outcome) × Answers turn d r o e))
+    (e ≡ d) ⊎ ((r : Request) × (rest : List ℕ) × Stands (message r rest)
+    × ((o : Outcome) × Answers turn d r o e))
 
 -- How a link ends after n requests. `Stands` says what stands first on the link then, `Writes` what is
 -- written, and the two others that reads failed, and that writes did.
@@ -85,22 +89,28 @@ abbrev pub Ends : {D : Type 0} → (D → Call → Outcome → D → Type 0) →
 Ends turn n d e Stands Writes unread unwritten ReadFault m = unread × (m ≡ n) × (e ≡ d) × Writes []
 Ends turn n d e Stands Writes unread unwritten WriteFault m =
     unwritten × (m ≡ n)
-    × ((last : Reading) × (text : List ℕ) × Stands last × Replied turn n d last text e × ((count : ℕ) × Writes (take count text)))
+    × ((last : Reading) × (text : List ℕ) × Stands last × Replied turn n d last text e
+    × ((count : ℕ) × Writes (take count text)))
 Ends turn n d e Stands Writes unread unwritten NoMemory m =
     (m ≡ n) × Stopped turn d e Stands × Tried Writes unwritten (reply_bytes no_memory)
-Ends turn n d e Stands Writes unread unwritten Closed m = (last : Reading) × Stands last × EndsBy turn n d e Writes last Closed m
+Ends turn n d e Stands Writes unread unwritten Closed m =
+    (last : Reading) × Stands last × EndsBy turn n d e Writes last Closed m
 Ends turn n d e Stands Writes unread unwritten (BadMessage status) m =
     (last : Reading) × Stands last × EndsBy turn n d e Writes last (BadMessage status) m
-Ends turn n d e Stands Writes unread unwritten Cut m = (last : Reading) × Stands last × EndsBy turn n d e Writes last Cut m
-Ends turn n d e Stands Writes unread unwritten Spent m = (last : Reading) × Stands last × EndsBy turn n d e Writes last Spent m
+Ends turn n d e Stands Writes unread unwritten Cut m =
+    (last : Reading) × Stands last × EndsBy turn n d e Writes last Cut m
+Ends turn n d e Stands Writes unread unwritten Spent m =
+    (last : Reading) × Stands last × EndsBy turn n d e Writes last Spent m
 
 -- What was done on a link: requests were answered after which it went on, and then it ended. Before and after
 -- it are the desk, and what was written; `left` is what was left to read at first.
-pub record Serves {D : Type 0} (turn : D → Call → Outcome → D → Type 0) (d e : D) (left written now : Option (List ℕ))
+pub record Serves {D : Type 0} (turn : D → Call → Outcome → D
+    → Type 0) (d e : D) (left written now : Option (List ℕ))
     (unread unwritten : Type 0) (served : Served) : Type 0 where
   pub xs : List Exchange
   pub mid : D
   pub goes : GoesOn turn d xs mid
   pub few : length xs < request_limit
   pub begins : BeginsWith left xs
-  pub ends : Ends turn (length xs) mid e (Behind left xs) (Wrote written now xs) unread unwritten served.end served.requests
+  pub ends : Ends turn (length xs) mid e (Behind left xs)
+      (Wrote written now xs) unread unwritten served.end served.requests

@@ -30,7 +30,8 @@ wants_memory outcome.NotHeld = false
 
 -- A call is answered by a turn of the desk. What is no call is answered by what is wrong with it, and the
 -- desk stays as it was.
-abbrev pub Turned : {D : Type 0} → (D → Call → Outcome → D → Type 0) → D → Result Call CallFault → Outcome → D → Type 0
+abbrev pub Turned : {D : Type 0} → (D → Call → Outcome → D → Type 0) → D → Result Call CallFault → Outcome → D
+    → Type 0
 Turned turn d (Ok call) o e = turn d call o e
 Turned turn d (Err fault) o e = (o ≡ outcome.Called fault) × (e ≡ d)
 
@@ -45,7 +46,8 @@ pub record Exchange : Type 0 where
 
 -- the request is answered, and the link goes on: it doesn't ask to close, and memory sufficed
 abbrev pub Goes : {D : Type 0} → (D → Call → Outcome → D → Type 0) → D → Exchange → D → Type 0
-Goes turn d x e = (x.request.closes ≡ false) × (wants_memory x.outcome ≡ false) × Answers turn d x.request x.outcome e
+Goes turn d x e = (x.request.closes ≡ false) × (wants_memory x.outcome ≡ false)
+    × Answers turn d x.request x.outcome e
 
 -- the requests are answered one after the other, and the link goes on after each
 abbrev pub GoesOn : {D : Type 0} → (D → Call → Outcome → D → Type 0) → D → List Exchange → D → Type 0

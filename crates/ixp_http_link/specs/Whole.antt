@@ -54,12 +54,14 @@ requests_of xs = map (λ x. x.request) xs
 -- the requests are answered one after the other
 abbrev pub AnswersAll : {D : Type 0} → (D → Call → Outcome → D → Type 0) → D → List Exchange → D → Type 0
 AnswersAll turn d [] e = e ≡ d
-AnswersAll {D = D} turn d (x ∷ xs) e = (mid : D) × Answers turn d x.request x.outcome mid × AnswersAll turn mid xs e
+AnswersAll {D = D} turn d (x ∷ xs) e =
+    (mid : D) × Answers turn d x.request x.outcome mid × AnswersAll turn mid xs e
 
 -- the bytes of the replies; n were written before
 abbrev pub reply_texts : ℕ → List Exchange → List ℕ
 reply_texts n [] = []
-reply_texts n (x ∷ xs) = reply_bytes (closing_if (ends_at n x.request) (reply x.outcome)) ++ reply_texts (n + 1) xs
+reply_texts n (x ∷ xs) = reply_bytes (closing_if (ends_at n x.request) (reply x.outcome))
+    ++ reply_texts (n + 1) xs
 
 -- a read or a write failed, or memory ran out
 abbrev pub is_fault : LinkEnd → Bool
@@ -74,7 +76,8 @@ is_fault Spent = false
 -- Where nothing fails, the link's bytes say how it ends, how many requests are answered, and which ones:
 -- these are answered one after the other, and what is written is their replies, and that to what is no
 -- message.
-abbrev pub IsExact : {D : Type 0} → (D → Call → Outcome → D → Type 0) → D → D → List ℕ → Option (List ℕ) → Option (List ℕ) → Served → Type 0
+abbrev pub IsExact : {D : Type 0} → (D → Call → Outcome → D → Type 0) → D → D → List ℕ → Option (List ℕ)
+    → Option (List ℕ) → Served → Type 0
 IsExact turn d e bytes written now served =
     (rs : List Request) (last : Reading) → Messages bytes rs last → is_fault served.end ≡ false
     → (served ≡ served_from 0 rs last)
@@ -88,15 +91,18 @@ only_last_closes (r ∷ []) = true
 only_last_closes (r ∷ s ∷ rs) = not r.closes && only_last_closes (s ∷ rs)
 
 -- The link ends Closed, and each request has its reply.
-abbrev pub AllAnswered : {D : Type 0} → (D → Call → Outcome → D → Type 0) → D → D → Option (List ℕ) → Option (List ℕ) → List Request → Served → Type 0
+abbrev pub AllAnswered : {D : Type 0} → (D → Call → Outcome → D → Type 0) → D → D → Option (List ℕ)
+    → Option (List ℕ) → List Request → Served → Type 0
 AllAnswered turn d e written now rs served =
     (served.end ≡ Closed) × (served.requests ≡ length rs)
-    × ((xs : List Exchange) × (requests_of xs ≡ rs) × AnswersAll turn d xs e × Takes written now (reply_texts 0 xs))
+    × ((xs : List Exchange) × (requests_of xs ≡ rs) × AnswersAll turn d xs e
+    × Takes written now (reply_texts 0 xs))
 
 -- Where the bytes are whole requests, fewer than the limit, of which none but maybe the last asks to close,
 -- and neither reads nor writes fail, every request gets its reply and the link ends Closed, or memory ran
 -- out.
-abbrev pub IsComplete : {D : Type 0} → (D → Call → Outcome → D → Type 0) → D → D → List ℕ → Option (List ℕ) → Option (List ℕ)
+abbrev pub IsComplete : {D : Type 0} → (D → Call → Outcome → D → Type 0) → D → D → List ℕ → Option (List ℕ)
+    → Option (List ℕ)
     → Type 0 → Type 0 → Served → Type 0
 IsComplete turn d e bytes written now unread unwritten served =
     (rs : List Request) → Messages bytes rs closed → length rs < request_limit → only_last_closes rs ≡ true

@@ -102,8 +102,8 @@ fn serve_with<P, C, D: Desk<P, C>, L: Source + Sink>(
 }
 
 /// Serves one link to its end: reads its requests, has the desk answer those that are calls, and writes the
-/// replies in their order, one write for each that is short. A link has at most 100,000 requests. Nothing is read
-/// behind a request with which it ends.
+/// replies in their order, one write for each that is short. A link has at most 100,000 requests. Nothing
+/// is read behind a request with which it ends.
 pub fn serve<P, C, D: Desk<P, C>, L: Source + Sink>(
     alloc: Global,
     desk: &mut D,

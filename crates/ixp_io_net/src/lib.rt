@@ -4,6 +4,7 @@
 //! rose. They tell no content and no number of links: what the system gives can't be said in a contract.
 #![tactic(auto)]
 
+mod pace;
 mod system_clock;
 mod tcp_door;
 mod tcp_link;

@@ -13,15 +13,15 @@ const TRIES: u32 = 600;
 /// How many milliseconds pass between two tries.
 const PAUSE_MILLIS: u64 = 100;
 
-/// How many seconds a read waits for the peer.
+/// How many seconds a read waits for a silent peer.
 const LINK_SECONDS: u64 = 60;
 
-/// How many seconds a read waits for the peer on a link of a further door: a minute longer than the hour after which
-/// a router asks again (RFC 8210 section 6).
+/// How many seconds a read waits for a silent peer on a link of a further door: a minute longer than the hour
+/// after which a router asks again (RFC 8210 section 6).
 const PATIENT_SECONDS: u64 = 3660;
 
-/// The door of the machine itself, at 127.0.0.1. It doesn't tell how many links it gave. A read of its links waits
-/// for a minute, and one of a further door's links for an hour and a minute.
+/// The door of the machine itself, at 127.0.0.1. It doesn't tell how many links it gave. A read of its links
+/// waits for a minute, and one of a further door's links for an hour and a minute.
 ///
 /// A connection that its peer has given up already, or for which the system has no descriptor or memory left,
 /// is no fault yet: the next one is tried for about a minute, in which each silent link meets its limit.

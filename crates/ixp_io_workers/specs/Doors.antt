@@ -6,7 +6,8 @@ use Rattle.ixp_io.specs.Told.{Told}
 abbrev pub Gave : Option ℕ → Option ℕ → ℕ → Type 0
 Gave before now links = Told before now (λ m n. n ≡ m + links)
 
--- a door of which links are taken: what it tells of their number, its count of faults, and how many were taken
+-- a door of which links are taken: what it tells of their number, its count of faults, and how many were
+-- taken
 pub record Taken : Type 0 where
   pub links : Option ℕ
   pub faults : ℕ

@@ -15,8 +15,8 @@ fn work<R: Wait, B: Background>(rt: &R, background: &B, seat: &Mutex<B::Seat>) {
     }
 }
 
-/// Starts the work on the background's seat, and tells whether it could be started. It isn't where there is no
-/// seat for a worker: then the caller alone does everything.
+/// Starts the work on the background's seat, and tells whether it could be started. It isn't where there is
+/// no seat for a worker: then the caller alone does everything.
 pub fn start_background<'s, E, R: Wait + Sync, B: Background + Sync>(
     scope: &Scope<'s, E>,
     rt: &'s R,

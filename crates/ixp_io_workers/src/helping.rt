@@ -1,4 +1,5 @@
-//! Links of a further door, which helpers serve: threads each of which accepts a link and serves it to its end.
+//! Links of a further door, which helpers serve: threads each of which accepts a link and serves it to its
+//! end.
 ghost use Rattle.std.specs.Prelude.{◌≡◌, ◌<◌, None};
 ghost use Rattle.ixp_io.specs.Told.{WhereTold};
 ghost use Rattle.ixp_io_workers.specs.Doors.{HasEnded, Taken};
@@ -25,7 +26,7 @@ pub trait Help<L> {
 #[derive(Drop)]
 struct Taking<D: Door> {
     door: D,
-    given: u32,
+    given: u64,
     failed: bool,
 }
 
@@ -44,7 +45,7 @@ impl<D: Door> Model for Taking<D> {
 
 impl<D: Door> Taking<D> {
     // The next link, unless so many were given.
-    fn next(&mut self, most: u32) -> Option<D::Link>
+    fn next(&mut self, most: u64) -> Option<D::Link>
         ensures ended { result ≡ None → HasEnded most self.new }
     {
         if self.failed || self.given >= most {
@@ -67,7 +68,7 @@ impl<D: Door> Taking<D> {
 #[derive(Drop)]
 pub struct Helpers<D: Door, H> {
     taking: Mutex<Taking<D>>,
-    most: u32,
+    most: u64,
     help: H,
 }
 
@@ -81,7 +82,7 @@ impl<D: Door, H> Model for Helpers<D, H> {
 
 impl<D: Door, H: Help<D::Link>> Helpers<D, H> {
     /// Helpers who are to serve so many links of a door that gave none yet. It does not allocate.
-    pub fn new(door: D, most: u32, help: H) -> Helpers<D, H>
+    pub fn new(door: D, most: u64, help: H) -> Helpers<D, H>
         requires fresh { WhereTold (D.links door) (λ n. n ≡ 0) }
         ensures most { result ≡ most }
     {
@@ -110,9 +111,9 @@ impl<D: Door, H: Help<D::Link>> Helpers<D, H> {
         }
     }
 
-    /// Serves the links that are left, and tells how many the door gave: fewer than it was to give only where it
-    /// failed.
-    pub fn finish<R: Wait>(self, rt: &R) -> (u32, D)
+    /// Serves the links that are left, and tells how many the door gave: fewer than it was to give only where
+    /// it failed.
+    pub fn finish<R: Wait>(self, rt: &R) -> (u64, D)
     where
         D::Link: Drop,
         H: Drop,

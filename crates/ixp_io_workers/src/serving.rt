@@ -54,7 +54,7 @@ fn accept_all<R: Wait, D: Door, C: Clock, H: Host<D::Link>>(
     clock: &Mutex<C>,
     host: &H,
     seats: &Seats<H::Seat>,
-    links: u32,
+    links: u64,
     started: Started,
 ) -> Result<(), Failed>
 where
@@ -97,7 +97,7 @@ where
 #[derive(Drop)]
 struct Accepting<'a, D: Door> {
     door: &'a mut D,
-    links: u32,
+    links: u64,
 }
 
 impl<'a, D: Door, C: Clock, H: Host<D::Link>> Errand<D::Link, C, H> for Accepting<'a, D>
@@ -240,8 +240,8 @@ fn take_back<T>(it: &mut T)
     ensures { it.new ≡ it.old }
 {}
 
-/// Serves so many links of a door. The first seat is the background's, each further one a worker's, who has it
-/// for all links that it serves. Where no worker can be started the caller serves each link itself, on a
+/// Serves so many links of a door. The first seat is the background's, each further one a worker's, who has
+/// it for all links that it serves. Where no worker can be started the caller serves each link itself, on a
 /// worker's seat; where the background's work can't, the caller does a turn of it after each link that it
 /// accepts, on the background's seat. With one seat alone no thread is started, and the caller does both on
 /// it. All memory is taken before the first link is accepted.
@@ -252,7 +252,7 @@ pub fn serve<R: Threads + Wait + Sync, D: Door + Send, C: Clock + Send, H: Host<
     clock: &mut C,
     host: &H,
     seats: Vec<H::Seat>,
-    links: u32,
+    links: u64,
 ) -> Result<Result<(), Failed>, AllocError>
 where
     D::Link: Drop + Send,
@@ -273,8 +273,8 @@ where
     Ok(done)
 }
 
-/// The same, while helpers serve the links of a further door. It ends once these were served, too, or once their door
-/// failed.
+/// The same, while helpers serve the links of a further door. It ends once these were served, too, or once
+/// their door failed.
 pub fn serve_helped<
     R: Threads + Wait + Sync,
     D: Door + Send,
@@ -289,7 +289,7 @@ pub fn serve_helped<
     clock: &mut C,
     host: &H,
     seats: Vec<H::Seat>,
-    links: u32,
+    links: u64,
     helpers: &Helpers<E, K>,
 ) -> Result<Result<(), Failed>, AllocError>
 where

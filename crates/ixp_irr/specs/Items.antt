@@ -18,7 +18,8 @@ IsPatternText t p = PatternAnswer t (Ok p)
 
 -- an AS number, before which `AS` may stand
 abbrev pub IsAsnText : List ℕ → Asn → Type 0
-IsAsnText t a = AsnAnswer t (Ok a) ⊎ ((number : List ℕ) × (t ≡ codes "AS" ++ number) × AsnAnswer number (Ok a))
+IsAsnText t a = AsnAnswer t (Ok a)
+    ⊎ ((number : List ℕ) × (t ≡ codes "AS" ++ number) × AsnAnswer number (Ok a))
 
 -- the first and the last AS number of a range, with one blank between them
 abbrev pub IsRangeText : List ℕ → Asn × Asn → Type 0

@@ -31,16 +31,19 @@ module _ {A : Type 0} (says : List ℕ → Result A Misfit → Type 0) where
   abbrev pub IsFirstFault : List (List ℕ) → Misfit → ℕ → Type 0
   IsFirstFault all why n =
       (before after : List (List ℕ)) × (line : List ℕ) × (items : List A)
-      × (all ≡ before ++ line ∷ after) × Lists before items × (counts line ≡ true) × says line (Err why) × (n ≡ length before + 1)
+      × (all ≡ before ++ line ∷ after) × Lists before items × (counts line ≡ true) × says line (Err why)
+      × (n ≡ length before + 1)
 
   -- What a text of lines that end at a line feed, or a carriage return and a line feed, is: the list of its
   -- items in the order of their keys and each once; or its first faulty line; or, where there is none, too
   -- many items.
   abbrev pub ListAnswer : (A → List ℕ) → List ℕ → Result (List A) ListFault → Type 0
-  ListAnswer key t (Ok list) = (items : List A) × Lists (lines t) items × IsInOrder key items list × (length list ≤ 300000)
+  ListAnswer key t (Ok list) =
+      (items : List A) × Lists (lines t) items × IsInOrder key items list × (length list ≤ 300000)
   ListAnswer key t (Err (fault.Line n)) = IsFirstFault (lines t) misfit.Form n
   ListAnswer key t (Err (fault.Family n)) = IsFirstFault (lines t) misfit.Family n
-  ListAnswer key t (Err (fault.TooLong have)) = (items list : List A) × Lists (lines t) items × IsInOrder key items list × (have ≡ length list) × (300000 < have)
+  ListAnswer key t (Err (fault.TooLong have)) = (items list : List A) × Lists (lines t) items
+      × IsInOrder key items list × (have ≡ length list) × (300000 < have)
   ListAnswer key t (Err fault.NoMemory) = Unit {0}
 
   -- the same before the items are put in order and counted

@@ -31,7 +31,8 @@ date_text day = pad4 (year_of day) ++ (codes "-" ++ (pad2 (month_of day) ++ (cod
 
 -- `17:30:05`
 abbrev pub time_text : ℕ → List ℕ
-time_text second = pad2 (second / 3600) ++ (codes ":" ++ (pad2 (second / 60 % 60) ++ (codes ":" ++ pad2 (second % 60))))
+time_text second = pad2 (second / 3600) ++
+    (codes ":" ++ (pad2 (second / 60 % 60) ++ (codes ":" ++ pad2 (second % 60))))
 
 -- `2024-06-19T17:30:05Z`. A second behind the last one that has a date counts as that one.
 unfoldable pub moment_text : ℕ → List ℕ

@@ -109,10 +109,12 @@ abbrev pub connection_text : Registry → Member → Port → List ℕ
 connection_text r m p =
     single_member (codes "{") (codes "if_list") (port_text p)
     ++ (number_member (codes ",") (codes "ixp_id") r.site.ixp_id
-    ++ (list_member (codes ",") (codes "vlan_list") (interface_text m.as_macro) (interfaces_on r p) ++ codes "}"))
+    ++ (list_member (codes ",") (codes "vlan_list") (interface_text m.as_macro) (interfaces_on r p)
+    ++ codes "}"))
 
 unfoldable pub connections_member : Registry → Member → List ℕ
-connections_member r m = list_member (codes ",") (codes "connection_list") (connection_text r m) (ports_of r m)
+connections_member r m = list_member (codes ",") (codes "connection_list") (connection_text r m)
+    (ports_of r m)
 
 abbrev pub member_text : Registry → Member → List ℕ
 member_text r m =

@@ -25,12 +25,14 @@ SetsRow places id name body old new = SetsTree old new places.rows (put_row (row
 -- and its entry is put in the index
 abbrev pub AddsRow : Places → ℤ → RowName → List ℕ → View → View → Type 0
 AddsRow places id name body old new =
-    (mid : View) × SetsRow places id name body old mid × SetsTree mid new places.names (insert_entry (order_of (mid.shape places.names)) (entry_of name id))
+    (mid : View) × SetsRow places id name body old mid
+    × SetsTree mid new places.names (insert_entry (order_of (mid.shape places.names)) (entry_of name id))
 
 -- the entry goes, and then the row
 abbrev pub TakesRow : Places → ℤ → RowName → View → View → Type 0
 TakesRow places id name old new =
-    (mid : View) × SetsTree old mid places.names (remove_entry (order_of (old.shape places.names)) (entry_of name id)) × SetsTree mid new places.rows (without_rowid id)
+    (mid : View) × SetsTree old mid places.names (remove_entry (order_of (old.shape places.names))
+    (entry_of name id)) × SetsTree mid new places.rows (without_rowid id)
 
 -- While the store is open, its last commit stands. Where it is clean now, it was clean.
 pub record KeepsLast (old new : View) : Type 0 where

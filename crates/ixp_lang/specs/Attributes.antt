@@ -182,12 +182,14 @@ prepended _ r = r
 
 -- the community at the end, where it isn't there
 abbrev pub with_pair : Value → Route → Route
-with_pair (value.Pair a b) r = if list_any (λ p. p.0 == a && p.1 == b) r.pairs then r else record r { pairs = r.pairs ++ (a, b) ∷ [] }
+with_pair (value.Pair a b) r =
+    if list_any (λ p. p.0 == a && p.1 == b) r.pairs then r else record r { pairs = r.pairs ++ (a, b) ∷ [] }
 with_pair _ r = r
 
 abbrev pub with_triple : Value → Route → Route
 with_triple (value.Triple a b c) r =
-    if list_any (λ t. t.0 == a && t.1 == b && t.2 == c) r.triples then r else record r { triples = r.triples ++ (a, b, c) ∷ [] }
+    if list_any (λ t. t.0 == a && t.1 == b && t.2 == c) r.triples then r
+    else record r { triples = r.triples ++ (a, b, c) ∷ [] }
 with_triple _ r = r
 
 -- without each community that is in the set
@@ -196,5 +198,6 @@ without_pairs (value.Set (set.Pairs qs)) r = record r { pairs = filter (λ p. no
 without_pairs _ r = r
 
 abbrev pub without_triples : Value → Route → Route
-without_triples (value.Set (set.Triples us)) r = record r { triples = filter (λ t. not (in_triples t us)) r.triples }
+without_triples (value.Set (set.Triples us)) r =
+    record r { triples = filter (λ t. not (in_triples t us)) r.triples }
 without_triples _ r = r

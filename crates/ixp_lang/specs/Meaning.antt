@@ -91,7 +91,8 @@ value_named k ps n r next = given_or (find_named ps n) (λ v. next v r) (for_val
 
 -- a pair has parts of 16 bits (RFC 1997); the first part that hasn't is the fault
 abbrev pub pair_of : ℕ → ℕ → (Value → End) → End
-pair_of a b next = if nat_lt 65535 a then fails (pair_range a) else (if nat_lt 65535 b then fails (pair_range b) else next (value.Pair a b))
+pair_of a b next = if nat_lt 65535 a then fails (pair_range a)
+    else (if nat_lt 65535 b then fails (pair_range b) else next (value.Pair a b))
 
 module _ (env : Environment) (k : Known) (ps : Params) where
   abbrev mutual
@@ -101,15 +102,19 @@ module _ (env : Environment) (k : Known) (ps : Params) where
     means (named n) r next = value_named k ps n r next
     means (attribute a) r next = next (attribute_of env.from a r) r
     means (call n es) r next = means_all es [] r (λ vs r. for_value n (k.call n vs r) next)
-    means (roa_check t e f) r next = means e r (λ v r. means f r (λ w r. next (checked (roas_named env.roas t) v w) r))
-    means (pair e f) r next = means e r (λ v r. means f r (λ w r. pair_of (number v) (number w) (λ x. next x r)))
+    means (roa_check t e f) r next =
+        means e r (λ v r. means f r (λ w r. next (checked (roas_named env.roas t) v w) r))
+    means (pair e f) r next =
+        means e r (λ v r. means f r (λ w r. pair_of (number v) (number w) (λ x. next x r)))
     means (triple e f g) r next =
-        means e r (λ u r. means f r (λ v r. means g r (λ w r. next (value.Triple (number u) (number v) (number w)) r)))
+        means e r (λ u r. means f r (λ v r. means g r
+        (λ w r. next (value.Triple (number u) (number v) (number w)) r)))
     means (set_literal s) r next = next (value.Set s) r
     means (negation e) r next = means e r (λ v r. next (value.Bool (not (truth v))) r)
     means (conjunction es) r next = means_each es r next
     means (disjunction es) r next = means_some es r next
-    means (comparison o e f) r next = means e r (λ v r. means f r (λ w r. next (value.Bool (compares o v w)) r))
+    means (comparison o e f) r next =
+        means e r (λ v r. means f r (λ w r. next (value.Bool (compares o v w)) r))
 
     -- the values of a call's arguments, after those that are known
     pub means_all : ExprTrees → List Value → Route → (List Value → Route → End) → End
@@ -119,18 +124,21 @@ module _ (env : Environment) (k : Known) (ps : Params) where
     -- `&&` stops at the first false
     pub means_each : ExprTrees → Route → (Value → Route → End) → End
     means_each exprs_end r next = next (value.Bool true) r
-    means_each (exprs_more e es) r next = means e r (λ v r. if truth v then means_each es r next else next (value.Bool false) r)
+    means_each (exprs_more e es) r next =
+        means e r (λ v r. if truth v then means_each es r next else next (value.Bool false) r)
 
     -- `||` stops at the first true
     pub means_some : ExprTrees → Route → (Value → Route → End) → End
     means_some exprs_end r next = next (value.Bool false) r
-    means_some (exprs_more e es) r next = means e r (λ v r. if truth v then next (value.Bool true) r else means_some es r next)
+    means_some (exprs_more e es) r next =
+        means e r (λ v r. if truth v then next (value.Bool true) r else means_some es r next)
 
   abbrev mutual
     -- a statement, and then what comes next
     pub runs : StmtTree → Route → (Route → End) → End
     runs (block ss) r next = runs_all ss r next
-    runs (if_then e ss ts) r next = means e r (λ v r. if truth v then runs_all ss r next else runs_all ts r next)
+    runs (if_then e ss ts) r next =
+        means e r (λ v r. if truth v then runs_all ss r next else runs_all ts r next)
     runs (case_of e arms ss) r next = means e r (λ v r. runs_arms arms v r next (λ r. runs_all ss r next))
     runs (return_value e) r next = means e r (λ v r. returns v r)
     runs accept r next = accepts r
@@ -151,7 +159,8 @@ module _ (env : Environment) (k : Known) (ps : Params) where
     -- the first arm that has the value and no other, else the last one
     pub runs_arms : ArmTrees → Value → Route → (Route → End) → (Route → End) → End
     runs_arms arms_end v r next other = other r
-    runs_arms (arms_more ls ss arms) v r next other = if has_label ls v then runs_all ss r next else runs_arms arms v r next other
+    runs_arms (arms_more ls ss arms) v r next other =
+        if has_label ls v then runs_all ss r next else runs_arms arms v r next other
 
 -- how a body ends that is run on a route
 abbrev pub body_of : Environment → Known → Params → StmtTrees → Route → End
@@ -159,8 +168,12 @@ body_of env k ps ss r = runs_all env k ps ss r falls
 
 -- what is known after one more item
 abbrev pub after : Environment → ItemTree → Known → Known
-after env (define_item n e) k = record { value = λ m r. if same_name m n then means env k [] e r returns else k.value m r; call = k.call }
-after env (function_item n qs ss) k = record { value = k.value; call = λ m vs r. if same_name m n then body_of env k (bind qs vs) ss r else k.call m vs r }
+after env (define_item n e) k =
+    record { value = λ m r. if same_name m n then means env k [] e r returns else k.value m r; call = k.call }
+after env (function_item n qs ss) k = record {
+  value = k.value;
+  call = λ m vs r. if same_name m n then body_of env k (bind qs vs) ss r else k.call m vs r;
+}
 after env (router_id_item a) k = k
 after env (table_item t n) k = k
 after env (filter_item n ss) k = k
@@ -205,7 +218,8 @@ must_end n (accepts r) = Ok (Accept r)
 must_end n rejects = Ok Reject
 must_end n (fails f) = Err f
 
-abbrev pub filter_found : Environment → List ℕ → Option (List ItemTree × StmtTrees) → Route → Result Verdict Fault
+abbrev pub filter_found : Environment → List ℕ → Option (List ItemTree × StmtTrees) → Route
+    → Result Verdict Fault
 filter_found env n None r = Err (no_filter n)
 filter_found env n (Some f) r = must_end n (body_of env (known env f.0) [] f.1 r)
 
@@ -221,9 +235,11 @@ must_return n (accepts r) = Err ended
 must_return n rejects = Err ended
 must_return n (fails f) = Err (failed f)
 
-abbrev pub function_found : Environment → List ℕ → Option (List ItemTree × List (Ty × List ℕ) × StmtTrees) → ℕ → Route → Result Value CallFault
+abbrev pub function_found : Environment → List ℕ → Option (List ItemTree × List (Ty × List ℕ) × StmtTrees) → ℕ
+    → Route → Result Value CallFault
 function_found env n None m r = Err (failed (no_filter n))
-function_found env n (Some f) m r = must_return n (body_of env (known env f.0) (bind f.1 (value.Int m ∷ [])) f.2 r)
+function_found env n (Some f) m r =
+    must_return n (body_of env (known env f.0) (bind f.1 (value.Int m ∷ [])) f.2 r)
 
 -- what the function of the name gives for one number; the items are the last one first
 abbrev pub function_end : Environment → List ItemTree → List ℕ → ℕ → Route → Result Value CallFault

@@ -17,9 +17,11 @@ IsOfOneFamily r = r.net.family ≡ r.next_hop.family
 abbrev pub RouteAnswer : List ℕ → Result Route RouteFault → Type 0
 RouteAnswer t (Ok r) = IsRouteText r t × IsBounded r × IsOfOneFamily r
 RouteAnswer t (Err fault.Family) = (r : Route) × IsRouteText r t × IsBounded r × ¬ (IsOfOneFamily r)
-RouteAnswer t (Err (fault.Text at)) = (left : ℕ) × ReadsRoute t (Err (stop.Text left)) × (at ≡ length t - left)
+RouteAnswer t (Err (fault.Text at)) =
+    (left : ℕ) × ReadsRoute t (Err (stop.Text left)) × (at ≡ length t - left)
 RouteAnswer t (Err (fault.Set at)) = (left : ℕ) × ReadsRoute t (Err (stop.Set left)) × (at ≡ length t - left)
-RouteAnswer t (Err (fault.TooLong at)) = (left : ℕ) × ReadsRoute t (Err (stop.TooLong left)) × (at ≡ length t - left)
+RouteAnswer t (Err (fault.TooLong at)) =
+    (left : ℕ) × ReadsRoute t (Err (stop.TooLong left)) × (at ≡ length t - left)
 RouteAnswer t (Err fault.NoMemory) = Unit {0}
 
 -- a fault with its place

@@ -58,7 +58,8 @@ after_comma [] = None
 after_comma (c ∷ cs) = if c == 44 then Some cs else None
 
 -- the last item, or a comma and more items
-abbrev pub after_item : {A : Type 0} → (List ℕ → Result (List A × List ℕ) Stop) → A → List ℕ → Option (List ℕ) → Result (List A × List ℕ) Stop
+abbrev pub after_item : {A : Type 0} → (List ℕ → Result (List A × List ℕ) Stop) → A → List ℕ → Option (List ℕ)
+    → Result (List A × List ℕ) Stop
 after_item more x t None = Ok (x ∷ [], t)
 after_item more x t (Some rest) = more rest then λ q. Ok (x ∷ q.0, q.1)
 
@@ -101,14 +102,16 @@ begins_with b (c ∷ cs) = c == b
 -- beside a dot is a part of an IPv4 address and at most 255; one behind a slash is a length, and at most
 -- `bits`.
 abbrev pub is_above : ℕ → ℕ → Result (ℕ × List ℕ) ℕ → Bool
-is_above bits before (Ok p) = ((before == 46 || begins_with 46 p.1) && nat_lt 255 p.0) || (before == 47 && nat_lt bits p.0)
+is_above bits before (Ok p) =
+    ((before == 46 || begins_with 46 p.1) && nat_lt 255 p.0) || (before == 47 && nat_lt bits p.0)
 is_above bits before (Err left) = false
 
 -- where the first such number begins, in what follows the byte `before` from this place on
 abbrev pub first_above : ℕ → ℕ → ℕ → List ℕ → Option ℕ
 first_above bits before place [] = None
 first_above bits before place (c ∷ cs) =
-    if not (is_digit before) && is_above bits before (number_at (c ∷ cs)) then Some place else first_above bits c (place + 1) cs
+    if not (is_digit before) && is_above bits before (number_at (c ∷ cs)) then Some place
+    else first_above bits c (place + 1) cs
 
 -- the bits of an address, by whether a colon stands in it
 abbrev pub bits_in : List ℕ → ℕ
@@ -156,7 +159,8 @@ at_end (c ∷ cs) = Err (Text (suc (length cs)))
 -- behind a next hop: communities and large communities, and nothing more
 abbrev pub route_end : Prefix → List Asn → Addr → List ℕ → Result Route Stop
 route_end net path next_hop t =
-    after_blank t then λ a. list_at pair_item a then λ pairs. after_blank pairs.1 then λ b. list_at triple_item b then λ triples.
+    after_blank t then λ a. list_at pair_item a then λ pairs. after_blank pairs.1
+    then λ b. list_at triple_item b then λ triples.
     whole (record { net = net; path = path; next_hop = next_hop; pairs = pairs.0; triples = triples.0 }) triples.1
 
 -- the next hop, and what follows it
@@ -165,7 +169,8 @@ WithHop net path t result (Ok a) = Tells (λ r. r) result (route_end net path a 
 WithHop net path t result (Err f) = result ≡ Err (stop_at t f)
 
 abbrev pub FromHop : Prefix → List Asn → List ℕ → Result Route Stop → Type 0
-FromHop net path t result = (hop : Result Addr NumFault) × AddrAnswer (before_blank t) hop × WithHop net path t result hop
+FromHop net path t result = (hop : Result Addr NumFault) × AddrAnswer (before_blank t) hop
+    × WithHop net path t result hop
 
 -- memory ran out, or this holds
 abbrev pub Unless : Result Route Stop → Type 0 → Type 0
@@ -190,4 +195,5 @@ WithNet t result (Err f) = result ≡ Err (stop_at t f)
 
 -- the net, the path, the next hop, and the communities: the first that isn't there tells where reading stops
 abbrev pub ReadsRoute : List ℕ → Result Route Stop → Type 0
-ReadsRoute t result = (net : Result Prefix NumFault) × PrefixAnswer (before_blank t) net × WithNet t result net
+ReadsRoute t result = (net : Result Prefix NumFault) × PrefixAnswer (before_blank t) net
+    × WithNet t result net

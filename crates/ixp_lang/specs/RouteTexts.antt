@@ -16,7 +16,8 @@ IsPairText p t = (a b : List ℕ) × (t ≡ a ++ 58 ∷ b) × IsDecimal a p.0 ×
 
 -- `a:b:c`
 abbrev pub IsTripleText : ℕ × ℕ × ℕ → List ℕ → Type 0
-IsTripleText p t = (a b c : List ℕ) × (t ≡ a ++ 58 ∷ (b ++ 58 ∷ c)) × IsDecimal a p.0 × IsDecimal b p.1 × IsDecimal c p.2
+IsTripleText p t = (a b c : List ℕ) × (t ≡ a ++ 58 ∷ (b ++ 58 ∷ c)) × IsDecimal a p.0 × IsDecimal b p.1
+    × IsDecimal c p.2
 
 module _ {A : Type 0} (Is : A → List ℕ → Type 0) where
   -- items, each behind a comma
@@ -65,7 +66,8 @@ pub record IsBounded (r : Route) : Type 0 where
 -- the text but for its last `left` bytes is the beginning of a list
 abbrev pub BeginsList : {A : Type 0} → (A → List ℕ → Type 0) → (A → Type 0) → List ℕ → ℕ → Type 0
 BeginsList {A} Is Fits t left =
-    (front rest more : List ℕ) × (xs : List A) × (t ≡ front ++ rest) × (length rest ≡ left) × IsListText Is xs (front ++ more) × AllByRecursion Fits xs
+    (front rest more : List ℕ) × (xs : List A) × (t ≡ front ++ rest) × (length rest ≡ left)
+    × IsListText Is xs (front ++ more) × AllByRecursion Fits xs
 
 -- a text of a list whose numbers are within their bounds
 abbrev pub IsBoundedList : {A : Type 0} → (A → List ℕ → Type 0) → (A → Type 0) → List ℕ → Type 0
@@ -116,5 +118,6 @@ pub record NumberAbove (bits : ℕ) (bytes : List ℕ) (place : ℕ) : Type 0 wh
 -- item does
 abbrev pub IsLongList : {A : Type 0} → (A → List ℕ → Type 0) → (A → Type 0) → List ℕ → ℕ → Type 0
 IsLongList {A} Is Fits t left =
-    (front rest : List ℕ) × (xs : List A) × (t ≡ front ++ 44 ∷ rest) × (length rest ≡ left) × IsListText Is xs front × AllByRecursion Fits xs × (length xs ≡ 1000)
+    (front rest : List ℕ) × (xs : List A) × (t ≡ front ++ 44 ∷ rest) × (length rest ≡ left)
+    × IsListText Is xs front × AllByRecursion Fits xs × (length xs ≡ 1000)
     × (c : ℕ) × (cs more : List ℕ) × (x : A) × (rest ≡ c ∷ cs) × Is x (c ∷ more) × Fits x

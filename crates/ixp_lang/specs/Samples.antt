@@ -29,7 +29,8 @@ neighbour = record { family = V4; value = 167772161; fits = lit< tt }
 
 -- 203.0.113.0/24
 abbrev pub network : Prefix
-network = record { family = V4; value = 3405803776; len = 24; short = lit≤ tt; fits = lit< tt; no_host_bits = refl }
+network =
+    record { family = V4; value = 3405803776; len = 24; short = lit≤ tt; fits = lit< tt; no_host_bits = refl }
 
 abbrev pub environment : Environment
 environment = record { from = neighbour; roas = [] }
@@ -38,19 +39,23 @@ environment = record { from = neighbour; roas = [] }
 abbrev pub tests_pair : ItemTree
 tests_pair =
     function_item (codes "g") ((ty.Int, codes "p") ∷ [])
-    (stmts (without_else (comparison op.In (pair (int 0) (named (codes "p"))) (attribute attr.Pairs)) accept ∷ []))
+    (stmts (without_else (comparison op.In (pair (int 0) (named (codes "p"))) (attribute attr.Pairs)) accept
+    ∷ []))
 
 -- `function g(bool b) { if b then return true; }`
 abbrev pub returns_sometimes : ItemTree
-returns_sometimes = function_item (codes "g") ((ty.Bool, codes "b") ∷ []) (stmts (without_else (named (codes "b")) (return_value (truth_value true)) ∷ []))
+returns_sometimes = function_item (codes "g") ((ty.Bool, codes "b") ∷ [])
+    (stmts (without_else (named (codes "b")) (return_value (truth_value true)) ∷ []))
 
 -- `filter f { if g(false) then accept; reject; }`
 abbrev pub asks_false : ItemTree
-asks_false = filter_item (codes "f") (stmts (without_else (call (codes "g") (exprs (truth_value false ∷ []))) accept ∷ reject ∷ []))
+asks_false = filter_item (codes "f") (stmts
+    (without_else (call (codes "g") (exprs (truth_value false ∷ []))) accept ∷ reject ∷ []))
 
 -- `function h(int p) { accept; return p; }`
 abbrev pub accepts_first : ItemTree
-accepts_first = function_item (codes "h") ((ty.Int, codes "p") ∷ []) (stmts (accept ∷ return_value (named (codes "p")) ∷ []))
+accepts_first = function_item (codes "h") ((ty.Int, codes "p") ∷ [])
+    (stmts (accept ∷ return_value (named (codes "p")) ∷ []))
 
 -- `filter f { h(1); reject; }`
 abbrev pub calls_h : ItemTree
@@ -62,4 +67,5 @@ never_ends = filter_item (codes "f") (stmts (without_else (truth_value false) ac
 
 -- a route to the network from that neighbour with these communities
 abbrev pub route_with : List (ℕ × ℕ) → List (ℕ × ℕ × ℕ) → Route
-route_with pairs triples = record { net = network; path = []; next_hop = neighbour; pairs = pairs; triples = triples }
+route_with pairs triples =
+    record { net = network; path = []; next_hop = neighbour; pairs = pairs; triples = triples }

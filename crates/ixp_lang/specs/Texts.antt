@@ -25,7 +25,8 @@ triple_text t = decimal t.0 ++ codes ":" ++ decimal t.1 ++ codes ":" ++ decimal 
 -- path, next hop, communities, large communities
 abbrev pub attributes_text : Route → List ℕ
 attributes_text r =
-    list_text asn_text r.path ++ codes " " ++ addr_text r.next_hop ++ codes " " ++ list_text pair_text r.pairs ++ codes " "
+    list_text asn_text r.path ++ codes " " ++ addr_text r.next_hop ++ codes " " ++ list_text pair_text r.pairs
+    ++ codes " "
     ++ list_text triple_text r.triples
 
 -- the net, and the attributes
@@ -64,7 +65,8 @@ outcome_text rs r true sent = codes "passed\n" ++ all_sent_text sent
 
 abbrev pub table_text : Option Asn → Option Route → Bool → List (List ℕ × Option Route) → List ℕ
 table_text rs None passed sent = codes "dropped\n"
-table_text rs (Some r) passed sent = codes "tagged " ++ attributes_text r ++ codes "\n" ++ outcome_text rs r passed sent
+table_text rs (Some r) passed sent =
+    codes "tagged " ++ attributes_text r ++ codes "\n" ++ outcome_text rs r passed sent
 
 -- one line for the route in its own table, one for the pipe, and one for each other session; the number of
 -- the route server may be known

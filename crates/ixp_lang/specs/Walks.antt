@@ -51,7 +51,8 @@ pipe_from (p ∷ ps) table = if same_name p.peer table then Some p else pipe_fro
 -- the pipe between a primary table and a peer
 abbrev pub pipe_between : List Pipe → List ℕ → List ℕ → Option Pipe
 pipe_between [] primary peer = None
-pipe_between (p ∷ ps) primary peer = if same_name p.table primary && same_name p.peer peer then Some p else pipe_between ps primary peer
+pipe_between (p ∷ ps) primary peer =
+    if same_name p.table primary && same_name p.peer peer then Some p else pipe_between ps primary peer
 
 -- the route in no other table
 abbrev pub dropped : Fate
@@ -83,7 +84,8 @@ module _ (env : Environment) (items : List ItemTree) where
   -- what a session is sent of a route in the primary table: what the pipe to its table and its own export let
   -- through
   abbrev pub sent_through : List ℕ → Bgp → Route → Result (Option Route) Fault
-  sent_through primary receiver r = into_pipe receiver (pipe_between (pipes_of items) primary receiver.table) r
+  sent_through primary receiver r =
+      into_pipe receiver (pipe_between (pipes_of items) primary receiver.table) r
 
   -- what each session but the sender is sent
   abbrev pub sent_to : List ℕ → List ℕ → List Bgp → Route → Result (List (List ℕ × Option Route)) Fault
@@ -95,7 +97,8 @@ module _ (env : Environment) (items : List ItemTree) where
   abbrev pub in_primary : Bgp → Pipe → Route → Verdict → Result Fate Fault
   in_primary sender p r Reject = Ok (kept r)
   in_primary sender p r (Accept q) =
-      sent_to sender.name p.table (bgp_sessions items) q >>= λ xs. Ok (record { table = Some r; passed = true; sent = xs })
+      sent_to sender.name p.table (bgp_sessions items) q >>= λ xs. Ok
+      (record { table = Some r; passed = true; sent = xs })
 
   abbrev pub to_primary : Bgp → Option Pipe → Route → Result Fate Fault
   to_primary sender None r = Ok (kept r)
@@ -109,7 +112,8 @@ module _ (env : Environment) (items : List ItemTree) where
   abbrev pub brought : Bgp → Route → Result Fate Fault
   brought sender r = through sender.import r >>= in_table sender
 
-abbrev pub walk_from : List ItemTree → List (List ℕ × List Roa) → List ℕ → Option Bgp → Route → Result Fate Fault
+abbrev pub walk_from : List ItemTree → List (List ℕ × List Roa) → List ℕ → Option Bgp → Route
+    → Result Fate Fault
 walk_from items roas session None r = Err (no_filter session)
 walk_from items roas session (Some b) r = brought (record { from = b.neighbor; roas = roas }) items b r
 

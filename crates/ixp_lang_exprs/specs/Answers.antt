@@ -1,5 +1,5 @@
--- What the program's functions answer, against what is said of them; running out of memory is free where memory is
--- taken.
+-- What the program's functions answer, against what is said of them; running out of memory is free where
+-- memory is taken.
 use Rattle.std.specs.Prelude.{◌≡◌, ℕ, List, Option, Some, None, Result, Ok, Err}
 use Rattle.ixp_lang_tokens.specs.declared.fault.Cause.{Cause}
 use Rattle.ixp_lang_tokens.specs.declared.fault.Fault.{Fault}

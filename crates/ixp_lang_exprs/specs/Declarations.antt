@@ -34,4 +34,5 @@ is_free_in (Some declared) function = gives_way declared function
 
 -- the name of an item, which nothing has yet
 abbrev pub free_name : Names → Grammar (List ℕ)
-free_name names = here (λ left. sequence a_name (λ name. checks (unless_so (is_none (names name)) (Twice, left)) (gives name)))
+free_name names = here (λ left. sequence a_name
+    (λ name. checks (unless_so (is_none (names name)) (Twice, left)) (gives name)))

@@ -41,7 +41,8 @@ pub record Place : Type 0 where
 -- Words.
 
 abbrev pub truth_in : List ℕ → Option Bool
-truth_in word = if same_word word (codes "true") then Some true else (if same_word word (codes "false") then Some false else None)
+truth_in word = if same_word word (codes "true") then Some true
+    else (if same_word word (codes "false") then Some false else None)
 
 abbrev pub state_in : List ℕ → Option Validity
 state_in word =
@@ -92,7 +93,8 @@ word_in class _ = None
 
 abbrev pub literal_word : List ℕ → Option Operand
 literal_word word =
-    option_or (option_map (λ b. closed (literal (value.Bool b)) Truth) (truth_in word)) (option_map (λ s. closed (literal (value.Roa s)) State) (state_in word))
+    option_or (option_map (λ b. closed (literal (value.Bool b)) Truth) (truth_in word))
+    (option_map (λ s. closed (literal (value.Roa s)) State) (state_in word))
 
 abbrev pub literal_in : Kind → Option Operand
 literal_in (kind.Number number) = Some (closed (literal (value.Int number)) Int)
@@ -102,19 +104,22 @@ literal_in (kind.Word word) = literal_word word
 literal_in _ = None
 
 abbrev pub bare_attribute : Attr → Operand
-bare_attribute attr = record { tree = attribute attr; ty = attribute_type attr; is_open = has_parts attr; misfit = None }
+bare_attribute attr =
+    record { tree = attribute attr; ty = attribute_type attr; is_open = has_parts attr; misfit = None }
 
 -- an attribute, which a dot and a word make another one; neither stands where it is in vain
 abbrev pub attribute_form : Wanted → Attr → Grammar Operand
 attribute_form wanted attr =
     checks (in_vain wanted (bare_attribute attr))
-    (choice (only (has_parts attr) (sequence (the_mark mark.Dot) (λ tt. sequence (takes (word_in (part_in attr))) (λ part. gives (closed (attribute part) (attribute_type part))))))
+    (choice (only (has_parts attr) (sequence (the_mark mark.Dot) (λ tt. sequence
+    (takes (word_in (part_in attr))) (λ part. gives (closed (attribute part) (attribute_type part))))))
     (gives (bare_attribute attr)))
 
 -- Why a name that is no value stands in vain. What a definition calls is no name of the wrong sort: no text
 -- calls there.
 abbrev pub no_value : Place → List ℕ → ℕ → Cause × ℕ
-no_value at name left = if is_define at.scope && is_some (function_of (at.names name)) then (Unexpected, left) else (Unknown, left)
+no_value at name left = if is_define at.scope && is_some (function_of (at.names name)) then (Unexpected, left)
+    else (Unknown, left)
 
 abbrev pub type_or : Option ValueType → ValueType
 type_or (Some ty) = ty
@@ -122,7 +127,8 @@ type_or None = Truth
 
 abbrev pub named_value : Place → List ℕ → ℕ → Grammar Operand
 named_value at name left =
-    checks (if_missing (value_of at.scope (at.names name)) (no_value at name left)) (gives (closed (named name) (type_or (value_of at.scope (at.names name)))))
+    checks (if_missing (value_of at.scope (at.names name)) (no_value at name left))
+    (gives (closed (named name) (type_or (value_of at.scope (at.names name)))))
 
 -- What stands in parentheses: one expression or a tuple; a call's arguments, by their types; the two values
 -- of `roa_check`.
@@ -152,8 +158,10 @@ part_end_in shape index token =
 -- the argument has its parameter's type, and is the last one where that one is
 abbrev pub fits_argument : List ValueType → ℕ → Bool → Operand → ℕ → Option (Cause × ℕ)
 fits_argument [] index is_last part place = Some (misfit_at place)
-fits_argument (wanted ∷ []) zero is_last part place = option_or (fits part wanted place) (unless_so is_last (misfit_at place))
-fits_argument (wanted ∷ other ∷ others) zero is_last part place = option_or (fits part wanted place) (unless_so (not is_last) (misfit_at place))
+fits_argument (wanted ∷ []) zero is_last part place =
+    option_or (fits part wanted place) (unless_so is_last (misfit_at place))
+fits_argument (wanted ∷ other ∷ others) zero is_last part place =
+    option_or (fits part wanted place) (unless_so (not is_last) (misfit_at place))
 fits_argument (wanted ∷ others) (suc index) is_last part place = fits_argument others index is_last part place
 
 -- the parts so far, how many tokens were left at the first one, and the last one's type
@@ -166,7 +174,11 @@ abbrev pub no_parts : ℕ → Parts
 no_parts left = record { trees = []; first = left; ty = Truth }
 
 abbrev pub with_part : Parts → Operand → Parts
-with_part parts operand = record { trees = parts.trees ++ operand.tree ∷ []; first = parts.first; ty = operand.ty }
+with_part parts operand = record {
+  trees = parts.trees ++ operand.tree ∷ [];
+  first = parts.first;
+  ty = operand.ty;
+}
 
 abbrev pub too_great_if : Option ℕ → ℕ → Option (Cause × ℕ)
 too_great_if = part_too_great
@@ -179,14 +191,17 @@ fits_pair tree left = too_great_if (literal_number tree) left
 abbrev pub fits_plain : List ExprTree → ℕ → Bool → Operand → ℕ → ℕ → Option (Cause × ℕ)
 fits_plain [] first true part left place = settled part
 fits_plain [] first false part left place = fits part Int place
-fits_plain (a ∷ []) first true part left place = option_or (fits_pair a first) (option_or (fits_pair part.tree left) (fits part Int place))
+fits_plain (a ∷ []) first true part left place =
+    option_or (fits_pair a first) (option_or (fits_pair part.tree left) (fits part Int place))
 fits_plain (a ∷ []) first false part left place = fits part Int place
 fits_plain (a ∷ b ∷ others) first is_last part left place = fits part Int place
 
 -- the next part fits, at which so many tokens were left; misfits are at the place
 abbrev pub fits_next : Shape → Parts → Bool → Operand → ℕ → ℕ → Option (Cause × ℕ)
-fits_next (arguments params) before is_last part left place = fits_argument params (length before.trees) is_last part place
-fits_next roa_values before is_last part left place = fits part (if length before.trees == 0 then Prefix else Int) place
+fits_next (arguments params) before is_last part left place =
+    fits_argument params (length before.trees) is_last part place
+fits_next roa_values before is_last part left place =
+    fits part (if length before.trees == 0 then Prefix else Int) place
 fits_next plain before is_last part left place = fits_plain before.trees before.first is_last part left place
 
 abbrev pub ends_with : Bool → Parts → Step Parts Parts
@@ -197,7 +212,8 @@ ends_with false parts = onward parts
 abbrev pub part_ending : Shape → ℕ → ℕ → Parts → Operand → Grammar (Step Parts Parts)
 part_ending shape place left before operand =
     sequence (takes (part_end_in shape (length before.trees))) (λ is_last.
-    checks (fits_next shape before is_last operand left place) (gives (ends_with is_last (with_part before operand))))
+    checks (fits_next shape before is_last operand left place)
+    (gives (ends_with is_last (with_part before operand))))
 
 -- what is wanted of the argument of this index
 abbrev pub argument_wanted : List ValueType → ℕ → ℕ → Wanted
@@ -214,14 +230,16 @@ wanted_part roa_values index place = one_type (if index == 0 then Prefix else In
 -- one part, and what ends it
 abbrev pub part_form : (Wanted → Grammar Operand) → Shape → ℕ → Parts → Grammar (Step Parts Parts)
 part_form expression shape place before =
-    here (λ left. sequence (expression (wanted_part shape (length before.trees) place)) (λ operand. part_ending shape place left before operand))
+    here (λ left. sequence (expression (wanted_part shape (length before.trees) place))
+    (λ operand. part_ending shape place left before operand))
 
 abbrev pub some_parts : (Wanted → Grammar Operand) → Shape → ℕ → Grammar Parts
 some_parts expression shape place = here (λ left. rounds (part_form expression shape place) (no_parts left))
 
 -- what an operand may begin with, as far as the first token tells
 abbrev pub is_front_word : List ℕ → Bool
-is_front_word word = is_some (truth_in word) || is_some (state_in word) || is_some (attribute_in word) || same_word word (codes "roa_check")
+is_front_word word = is_some (truth_in word) || is_some (state_in word) || is_some (attribute_in word)
+    || same_word word (codes "roa_check")
 
 abbrev pub is_front_mark : Mark → Bool
 is_front_mark mark.Open = true
@@ -243,14 +261,17 @@ is_operand_name at name = is_some (value_of at.scope (at.names name)) || is_some
 -- the first token of an operand
 abbrev pub front : Place → Grammar (Unit {0})
 front at =
-    choice (takes front_in) (here (λ left. sequence a_name (λ name. checks (unless_so (is_operand_name at name) (no_value at name left)) (gives tt))))
+    choice (takes front_in) (here (λ left. sequence a_name
+    (λ name. checks (unless_so (is_operand_name at name) (no_value at name left)) (gives tt))))
 
 -- what is enclosed, up to the end of the parenthesis; a function without parameters has nothing there
 abbrev pub enclosed : Place → (Wanted → Grammar Operand) → Shape → ℕ → Grammar Parts
 enclosed at expression (arguments []) place =
-    here (λ left. choice (ended mark.Close (no_parts left)) (sequence (front at) (λ tt. checks (Some (misfit_at place)) (gives (no_parts left)))))
+    here (λ left. choice (ended mark.Close (no_parts left))
+    (sequence (front at) (λ tt. checks (Some (misfit_at place)) (gives (no_parts left)))))
 enclosed at expression (arguments (p ∷ ps)) place =
-    choice (sequence (the_mark mark.Close) (λ tt. checks (Some (misfit_at place)) (gives (no_parts 0)))) (some_parts expression (arguments (p ∷ ps)) place)
+    choice (sequence (the_mark mark.Close) (λ tt. checks (Some (misfit_at place)) (gives (no_parts 0))))
+    (some_parts expression (arguments (p ∷ ps)) place)
 enclosed at expression plain place = some_parts expression plain place
 enclosed at expression roa_values place = some_parts expression roa_values place
 
@@ -277,7 +298,8 @@ no_roa_table (Some (Table table)) left place = unless_so table.is_roa (misfit_at
 no_roa_table (Some _) left place = Some (misfit_at place)
 
 abbrev pub roa_table : Place → ℕ → Grammar (List ℕ)
-roa_table at place = here (λ left. sequence a_name (λ name. checks (no_roa_table (at.names name) left place) (gives name)))
+roa_table at place =
+    here (λ left. sequence a_name (λ name. checks (no_roa_table (at.names name) left place) (gives name)))
 
 -- the function that an expression may call by this name
 abbrev pub called : Place → List ℕ → Option Signature
@@ -313,7 +335,12 @@ part_misfit part place = option_or part.misfit (if same_type part.ty Truth then 
 
 abbrev pub chained : (ExprTrees → ExprTree) → Chain → Operand → Operand
 chained joined chain last =
-    record { tree = joined (exprs (chain.parts ++ last.tree ∷ [])); ty = Truth; is_open = false; misfit = part_misfit last chain.place }
+    record {
+      tree = joined (exprs (chain.parts ++ last.tree ∷ []));
+      ty = Truth;
+      is_open = false;
+      misfit = part_misfit last chain.place;
+    }
 
 -- what follows a part: the joint before one more, or the end of the chain; the other joint can't stand there
 abbrev pub part_joint : Mark → Mark → (ExprTrees → ExprTree) → Chain → Operand → Grammar (Step Chain Operand)
@@ -321,7 +348,8 @@ part_joint joint other joined chain part =
     here (λ place.
     bars (is_next (is_mark other)) Mixed
     (choice
-    (sequence (the_mark joint) (λ tt. checks (option_map misfit_at (part_misfit part chain.place)) (gives (onward (longer chain part place)))))
+    (sequence (the_mark joint) (λ tt. checks (option_map misfit_at (part_misfit part chain.place))
+    (gives (onward (longer chain part place)))))
     (gives (done (chained joined chain part)))))
 
 -- Over what stands alone at a level, `unary`, where an expression that begins with it is wanted.
@@ -335,17 +363,20 @@ module _ (unary : Wanted → Grammar Operand) where
       choice
       (sequence (takes operator_in) (λ op.
       checks (option_or (fits_left op left place) (no_truth wanted))
-      (sequence (unary anything) (λ right. checks (refused_now op left right place) (gives (compared_operand op left right place))))))
+      (sequence (unary anything) (λ right. checks (refused_now op left right place)
+      (gives (compared_operand op left right place))))))
       (gives left))))
 
   -- one more part of a chain, and whether the chain goes on
   abbrev pub chain_part : Mark → Mark → (ExprTrees → ExprTree) → Chain → Grammar (Step Chain Operand)
-  chain_part joint other joined chain = sequence (comparison_of (one_type Truth chain.place)) (λ part. part_joint joint other joined chain part)
+  chain_part joint other joined chain =
+      sequence (comparison_of (one_type Truth chain.place)) (λ part. part_joint joint other joined chain part)
 
   -- the chain of these joints that goes on from this part
   abbrev pub chain_of : Mark → Mark → (ExprTrees → ExprTree) → Operand → ℕ → Grammar Operand
   chain_of joint other joined first place =
-      sequence (the_mark joint) (λ tt. checks (fits first Truth place) (rounds (chain_part joint other joined) (begun_with first place)))
+      sequence (the_mark joint) (λ tt. checks (fits first Truth place)
+      (rounds (chain_part joint other joined) (begun_with first place)))
 
   -- a comparison or an operand, or a chain of them
   abbrev pub expression_of : Wanted → Grammar Operand
@@ -379,7 +410,8 @@ negation_form inner =
 -- an expression in parentheses, a pair or a triple
 abbrev pub plain_form : Place → Deeper → Grammar Operand
 plain_form at inner =
-    opened mark.Open inner (λ unary. sequence (enclosed at (expression_of unary) plain at.statement) (λ parts. gives (plain_operand parts)))
+    opened mark.Open inner (λ unary. sequence (enclosed at (expression_of unary) plain at.statement)
+    (λ parts. gives (plain_operand parts)))
 
 abbrev pub call_form : Place → Deeper → List ℕ → ℕ → Signature → Grammar Operand
 call_form at inner name place signature =
@@ -409,14 +441,17 @@ checked_form at inner place =
     opened mark.Open inner (λ unary.
     sequence (roa_table at place) (λ table.
     sequence (the_mark mark.Comma) (λ tt.
-    sequence (enclosed at (expression_of unary) roa_values place) (λ parts. gives (closed (check_tree table parts.trees) State)))))
+    sequence (enclosed at (expression_of unary) roa_values place)
+    (λ parts. gives (closed (check_tree table parts.trees) State)))))
 
 abbrev pub check_form : Place → Deeper → Grammar Operand
-check_form at inner = here (λ place. sequence (takes (word_in (outside_define at check_word))) (λ tt. checked_form at inner place))
+check_form at inner = here (λ place. sequence (takes (word_in (outside_define at check_word)))
+    (λ tt. checked_form at inner place))
 
 abbrev pub set_form : Place → Deeper → Grammar Operand
 set_form at inner =
-    sequence (the_mark mark.SetOpen) (λ tt. sequence (elements at.names (is_left inner)) (λ s. gives (closed (set_literal s.0) s.1)))
+    sequence (the_mark mark.SetOpen) (λ tt. sequence (elements at.names (is_left inner))
+    (λ s. gives (closed (set_literal s.0) s.1)))
 
 -- what stands alone
 unfoldable pub operand_form : Place → Deeper → Wanted → Grammar Operand
@@ -435,7 +470,7 @@ unary_form at zero = operand_form at nothing
 unary_form at (suc levels) = operand_form at (deeper (unary_form at levels))
 
 -- An expression, with so many levels below it at most. Its first operand alone is tested against what is
--- wanted of it, as far as no token behind could help, an attribute before a dot is read; what may stand behind the expression is tested before
--- its type is.
+-- wanted of it, as far as no token behind could help, an attribute before a dot is read; what may stand
+-- behind the expression is tested before its type is.
 abbrev pub expression_form : Place → ℕ → Wanted → Grammar Operand
 expression_form at levels wanted = expression_of (unary_form at levels) wanted

@@ -95,8 +95,10 @@ finishing opened r = r >>= finished_read opened
 
 -- what is read where a group may have no part: None where its parts have to be read
 abbrev pub partless : Place → Shape → ℕ → List Kind → Option (Read Parts)
-partless at (arguments []) place tokens = Some (read (enclosed at (λ wanted. never) (arguments []) place) tokens)
-partless at (arguments (p ∷ ps)) place tokens = if is_next (is_mark mark.Close) tokens then Some (Err (misfit_at place)) else None
+partless at (arguments []) place tokens =
+    Some (read (enclosed at (λ wanted. never) (arguments []) place) tokens)
+partless at (arguments (p ∷ ps)) place tokens =
+    if is_next (is_mark mark.Close) tokens then Some (Err (misfit_at place)) else None
 partless at plain place tokens = None
 partless at roa_values place tokens = None
 
@@ -109,10 +111,12 @@ abbrev pub below : Place → ℕ → Deeper
 below at depth = below_if (depth == 0) (unary_form at (depth - 1))
 
 abbrev pub set_in : Place → Bool → Grammar Operand
-set_in at is_level_left = sequence (the_mark mark.SetOpen) (λ tt. sequence (elements at.names is_level_left) (λ s. gives (closed (set_literal s.0) s.1)))
+set_in at is_level_left = sequence (the_mark mark.SetOpen)
+    (λ tt. sequence (elements at.names is_level_left) (λ s. gives (closed (set_literal s.0) s.1)))
 
 abbrev pub attribute_or_set : Place → Wanted → Bool → Grammar Operand
-attribute_or_set at wanted is_level_left = choice (sequence (takes (word_in (outside_define at attribute_in))) (attribute_form wanted)) (set_in at is_level_left)
+attribute_or_set at wanted is_level_left = choice (sequence (takes (word_in (outside_define at attribute_in)))
+    (attribute_form wanted)) (set_in at is_level_left)
 
 -- literals, attributes and sets
 abbrev pub leaf_form : Place → Wanted → Bool → Grammar Operand
@@ -121,7 +125,8 @@ leaf_form at wanted is_level_left = choice (takes literal_in) (attribute_or_set 
 -- the same, or the name of a value
 abbrev pub atom_form : Place → Wanted → Bool → Grammar Operand
 atom_form at wanted is_level_left =
-    choice (here (λ place. sequence a_name (λ name. named_value at name place))) (leaf_form at wanted is_level_left)
+    choice (here (λ place. sequence a_name (λ name. named_value at name place)))
+    (leaf_form at wanted is_level_left)
 
 -- the function that is next, where an expression may call one
 abbrev pub call_in : Place → List Kind → Option (List ℕ × Signature × List Kind)
@@ -145,4 +150,5 @@ plain_or at wanted inner = choice (plain_form at inner) (check_or at wanted inne
 abbrev pub from_opening : Place → Wanted → ℕ → List Kind → Option Opened → Read Operand
 from_opening at wanted depth tokens None = read (atom_form at wanted (nat_lt 0 depth)) tokens
 from_opening at wanted depth tokens (Some opened) =
-    finishing opened.opening (read (enclosed at (expression_form at (depth - 1)) (shape_of (shape_in opened.opening)) opened.place) (kinds opened.behind.now))
+    finishing opened.opening (read (enclosed at (expression_form at (depth - 1))
+    (shape_of (shape_in opened.opening)) opened.place) (kinds opened.behind.now))

@@ -31,11 +31,13 @@ joined_by Or = disjunction
 
 -- the joint that is next
 abbrev pub joint_in : List Kind → Option Joint
-joint_in tokens = if is_next (is_mark mark.And) tokens then Some And else (if is_next (is_mark mark.Or) tokens then Some Or else None)
+joint_in tokens = if is_next (is_mark mark.And) tokens then Some And
+    else (if is_next (is_mark mark.Or) tokens then Some Or else None)
 
 -- what follows the joint, if it is next; the other one can't stand there
 abbrev pub joined_behind : Joint → List Kind → Read (Option (List Kind))
-joined_behind joint tokens = if is_next (is_mark (other_mark joint)) tokens then stop Mixed tokens else Ok (behind (is_mark (joint_mark joint)) tokens, [])
+joined_behind joint tokens = if is_next (is_mark (other_mark joint)) tokens then stop Mixed tokens
+    else Ok (behind (is_mark (joint_mark joint)) tokens, [])
 
 -- the chain that is held
 abbrev pub chain_of : HeldChain → Chain
@@ -43,7 +45,12 @@ chain_of chain = record { parts = exprs_view chain.parts.items; place = chain.pl
 
 -- and the operand that it is at its end
 abbrev pub ended_chain : HeldChain → Operand
-ended_chain chain = record { tree = joined_by chain.joint (exprs (exprs_view chain.parts.items)); ty = Truth; is_open = false; misfit = chain.misfit }
+ended_chain chain = record {
+  tree = joined_by chain.joint (exprs (exprs_view chain.parts.items));
+  ty = Truth;
+  is_open = false;
+  misfit = chain.misfit;
+}
 
 abbrev pub linked : Bool → HeldChain → Step Chain Operand
 linked true chain = done (ended_chain chain)

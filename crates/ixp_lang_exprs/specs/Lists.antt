@@ -26,7 +26,8 @@ ended mark v = sequence (the_mark mark) (λ tt. gives v)
 
 -- one item behind those before it, and a comma where another one follows
 abbrev pub list_round : {A : Type 0} → (List A → Grammar A) → List A → Grammar (Step (List A) (List A))
-list_round item items = sequence (item items) (λ x. choice (ended Comma (onward (items ++ x ∷ []))) (gives (done (items ++ x ∷ []))))
+list_round item items = sequence (item items)
+    (λ x. choice (ended Comma (onward (items ++ x ∷ []))) (gives (done (items ++ x ∷ []))))
 
 -- one or more with commas between; each may depend on those before it
 abbrev pub listed : {A : Type 0} → (List A → Grammar A) → Grammar (List A)

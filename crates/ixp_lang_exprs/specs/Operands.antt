@@ -26,7 +26,8 @@ pub record Operand : Type 0 where
   pub misfit : Option ℕ
 
 abbrev pub operand_of : Typed → Operand
-operand_of typed = record { tree = expr_view typed.expr; ty = typed.ty; is_open = typed.is_open; misfit = typed.misfit }
+operand_of typed =
+    record { tree = expr_view typed.expr; ty = typed.ty; is_open = typed.is_open; misfit = typed.misfit }
 
 abbrev pub closed : ExprTree → ValueType → Operand
 closed tree ty = record { tree = tree; ty = ty; is_open = false; misfit = None }
@@ -40,7 +41,8 @@ settled operand = option_map misfit_at operand.misfit
 
 -- the same, or that the type isn't the one that is wanted
 abbrev pub fits : Operand → ValueType → ℕ → Option (Cause × ℕ)
-fits operand wanted place = option_or (settled operand) (unless_so (same_type operand.ty wanted) (misfit_at place))
+fits operand wanted place = option_or (settled operand)
+    (unless_so (same_type operand.ty wanted) (misfit_at place))
 
 -- the operator at the place takes the operand on its left
 abbrev pub fits_left : Op → Operand → ℕ → Option (Cause × ℕ)
@@ -58,7 +60,8 @@ one_type ty place = record { expected = One ty; place = place }
 -- numbers, or what compares it.
 abbrev pub may_become : Expected → Operand → Bool
 may_become expected first =
-    is_expected expected first.ty || ((first.is_open && is_expected expected Int) || (is_compared first.ty && is_expected expected Truth))
+    is_expected expected first.ty || ((first.is_open && is_expected expected Int)
+    || (is_compared first.ty && is_expected expected Truth))
 
 -- with its first operand the expression can be of no type that is wanted
 abbrev pub in_vain : Wanted → Operand → Option (Cause × ℕ)
@@ -71,7 +74,8 @@ no_truth wanted = unless_so (is_expected wanted.expected Truth) (misfit_at wante
 -- the operator at the place takes neither the operand on its right nor a part of it, which is a number
 abbrev pub refused_now : Op → Operand → Operand → ℕ → Option (Cause × ℕ)
 refused_now op left right place =
-    unless_so (takes_right op left.ty right.ty || (right.is_open && takes_right op left.ty Int)) (misfit_at place)
+    unless_so (takes_right op left.ty right.ty
+    || (right.is_open && takes_right op left.ty Int)) (misfit_at place)
 
 -- Trees of what was read.
 

@@ -38,13 +38,15 @@ or_zero None = 0
 -- a number, or the name of a defined one
 abbrev pub numeral : Names → Grammar ℕ
 numeral names =
-    choice a_number (here (λ left. sequence a_name (λ name. checks (if_missing (number_of (names name)) (Unknown, left)) (gives (or_zero (number_of (names name)))))))
+    choice a_number (here (λ left. sequence a_name (λ name. checks
+    (if_missing (number_of (names name)) (Unknown, left)) (gives (or_zero (number_of (names name)))))))
 
 -- a number, or a range of numbers
 abbrev pub range : Names → Grammar (ℕ × ℕ)
 range names =
     sequence (numeral names) (λ low.
-    choice (sequence (the_mark Range) (λ tt. sequence (numeral names) (λ high. gives (low, high)))) (gives (low, low)))
+    choice (sequence (the_mark Range) (λ tt. sequence (numeral names) (λ high. gives (low, high))))
+    (gives (low, low)))
 
 abbrev pub prefix_in : Kind → Option Prefix
 prefix_in (kind.Prefix prefix) = Some prefix
@@ -56,7 +58,8 @@ made_pattern prefix low high = record { prefix = prefix; low = low; high = high 
 -- a length from the lowest one to the highest one that is lawful there
 abbrev pub bounded_length : ℕ → ℕ → Grammar ℕ
 bounded_length lowest highest =
-    here (λ left. sequence a_number (λ n. checks (unless_so (nat_le lowest n && nat_le n highest) (Number, left)) (gives n)))
+    here (λ left. sequence a_number (λ n. checks
+    (unless_so (nat_le lowest n && nat_le n highest) (Number, left)) (gives n)))
 
 -- the bounds in braces behind a prefix
 abbrev pub bounds : Prefix → Grammar Pattern
@@ -94,7 +97,8 @@ has_great_part first second = nat_lt 65535 first || nat_lt 65535 second
 -- the end of a pair of these parts, at whose places so many tokens were left
 abbrev pub pair_end : ℕ → ℕ → Option ℕ → ℕ → Grammar Tuple
 pair_end first at second at_second =
-    sequence (the_mark Close) (λ tt. checks (too_great first at) (checks (part_too_great second at_second) (gives (tuple.Pair first second))))
+    sequence (the_mark Close) (λ tt. checks (too_great first at)
+    (checks (part_too_great second at_second) (gives (tuple.Pair first second))))
 
 -- the third part of a triple, and its end
 abbrev pub triple_end : Names → ℕ → ℕ → Grammar Tuple
@@ -132,7 +136,8 @@ tuple_end names wanted first at =
 -- a tuple; its parenthesis is a level
 abbrev pub tuple_form : Names → Bool → Option Arity → Grammar Tuple
 tuple_form names is_level_left wanted =
-    deepened is_level_left Open (here (λ at. sequence (numeral names) (λ first. sequence (the_mark Comma) (λ tt. tuple_end names wanted first at))))
+    deepened is_level_left Open (here (λ at. sequence (numeral names)
+    (λ first. sequence (the_mark Comma) (λ tt. tuple_end names wanted first at))))
 
 -- which tuples a set has, by those read so far
 abbrev pub arity_of : List Tuple → Option Arity
@@ -161,12 +166,15 @@ abbrev pub addr_set : Grammar (SetLit × ValueType)
 addr_set = sequence (listed (λ before. an_addr)) (λ addrs. ended SetClose (set.Ips addrs, IpSet))
 
 abbrev pub pattern_set : Grammar (SetLit × ValueType)
-pattern_set = sequence (listed (λ before. set_pattern_form)) (λ ts. ended SetClose (set.Prefixes ts, PrefixSet))
+pattern_set = sequence (listed (λ before. set_pattern_form))
+    (λ ts. ended SetClose (set.Prefixes ts, PrefixSet))
 
 abbrev pub tuple_set : Names → Bool → Grammar (SetLit × ValueType)
 tuple_set names is_level_left =
-    sequence (listed (λ before. tuple_form names is_level_left (arity_of before))) (λ ts. ended SetClose (tuples_set (arity_of ts) ts))
+    sequence (listed (λ before. tuple_form names is_level_left (arity_of before)))
+    (λ ts. ended SetClose (tuples_set (arity_of ts) ts))
 
 -- the elements of a set and its end, with the set's type
 abbrev pub elements : Names → Bool → Grammar (SetLit × ValueType)
-elements names is_level_left = choice (range_set names) (choice addr_set (choice pattern_set (tuple_set names is_level_left)))
+elements names is_level_left =
+    choice (range_set names) (choice addr_set (choice pattern_set (tuple_set names is_level_left)))

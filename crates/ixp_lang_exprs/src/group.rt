@@ -395,7 +395,8 @@ fn call_opening_at<'e, 't>(
     depth: u32,
     tokens: &'t [Token],
 ) -> Result<Option<Opened<'e, 't>>, Fault>
-    ensures reads { (wanted : Wanted) → Leads (from_opening (place_of cx.entry) wanted depth (kinds tokens.now)) result
+    ensures reads { (wanted : Wanted) →
+        Leads (from_opening (place_of cx.entry) wanted depth (kinds tokens.now)) result
         (read (call_or (place_of cx.entry) wanted (below (place_of cx.entry) depth)) (kinds tokens.now)) }
     ensures deep { IfOk result (λ o. IfSome o (λ _. 0 < depth)) }
     ensures shorter { IfOk result (λ o. IfSome o (λ x. length x.behind.now < length tokens.now)) }
@@ -432,7 +433,8 @@ fn check_opening_at<'e, 't>(
     depth: u32,
     tokens: &'t [Token],
 ) -> Result<Option<Opened<'e, 't>>, Fault>
-    ensures reads { (wanted : Wanted) → Leads (from_opening (place_of cx.entry) wanted depth (kinds tokens.now)) result
+    ensures reads { (wanted : Wanted) →
+        Leads (from_opening (place_of cx.entry) wanted depth (kinds tokens.now)) result
         (read (check_or (place_of cx.entry) wanted (below (place_of cx.entry) depth)) (kinds tokens.now)) }
     ensures deep { IfOk result (λ o. IfSome o (λ _. 0 < depth)) }
     ensures shorter { IfOk result (λ o. IfSome o (λ x. length x.behind.now < length tokens.now)) }
@@ -456,7 +458,8 @@ pub(crate) fn opening_at<'e, 't>(
     depth: u32,
     tokens: &'t [Token],
 ) -> Result<Option<Opened<'e, 't>>, Fault>
-    ensures reads { (wanted : Wanted) → Leads (from_opening (place_of cx.entry) wanted depth (kinds tokens.now)) result
+    ensures reads { (wanted : Wanted) →
+        Leads (from_opening (place_of cx.entry) wanted depth (kinds tokens.now)) result
         (read (plain_or (place_of cx.entry) wanted (below (place_of cx.entry) depth)) (kinds tokens.now)) }
     ensures deep { IfOk result (λ o. IfSome o (λ _. 0 < depth)) }
     ensures shorter { IfOk result (λ o. IfSome o (λ x. length x.behind.now < length tokens.now)) }

@@ -1,5 +1,5 @@
 -- The sets that a text spells fit.
-use Rattle.std.proofs.Common.{◌≡◌, ℕ, ◌≤◌, Bool, true, false, ◌&&◌, ◌||◌, nat_le, List, [], ◌∷◌, Option, Some, None, refl, arith, le-leb}
+use Rattle.std.proofs.Common.{◌≡◌, ℕ, ◌≤◌, Bool, true, false, ◌&&◌, ◌||◌, nat_le, List, [], ◌∷◌, Option, Some, None, refl, arith}
 use Rattle.std.specs.List.{list_all}
 use Rattle.ixp_num.specs.declared.prefix.Prefix.{Prefix}
 use Rattle.ixp_num.specs.declared.pattern.Pattern.{Pattern}
@@ -15,6 +15,7 @@ use Rattle.ixp_lang_exprs.proofs.SetTuples.{SetTuple, of_two, of_three}
 use Rattle.ixp_lang_laws.specs.Sound.{is_left, set_type, is_lawful, is_small, is_small_pair, set_fits}
 use Rattle.ixp_lang_laws.proofs.SaidBasics.{both, all_pass, is_so}
 use Rattle.ixp_lang_laws.proofs.Saying.{Says, Any, says_gives, says_token, says_sequence, says_then, says_choice, says_checks, says_bars, says_here, says_mark, says_number, says_name, says_never, says_only, says_ended, AreAll, AreSome, says_listed}
+use Rattle.ixp_lang_laws.proofs.Sets.{both_le}
 
 -- Tuples.
 
@@ -70,9 +71,6 @@ says_length lowest highest = says_here (λ left. says_then says_number (λ n. sa
 abbrev IsLawful : Pattern → Type 0
 IsLawful p = is_lawful p ≡ true
 
-ordered : (a b c : ℕ) → a ≤ b → b ≤ c → (nat_le a b && nat_le b c) ≡ true
-ordered a b c p q = both (le-leb a b p) (le-leb b c q)
-
 says_bounds : (p : Prefix) → Says (bounds p) IsLawful
 says_bounds p =
     says_sequence (says_length 0 (bits_of p.family)) (λ low one.
@@ -83,9 +81,9 @@ says_pattern =
     says_then (says_token _) (λ p.
     let short : p.len ≤ bits_of p.family = p.short in
     says_choice (says_then (says_mark mark.BlockOpen) (λ x. says_bounds p))
-    (says_choice (says_ended mark.Plus (ordered p.len (bits_of p.family) (bits_of p.family) short (omega arith)))
-    (says_choice (says_ended mark.Minus (ordered 0 p.len (bits_of p.family) (omega arith) short))
-    (says_gives (ordered p.len p.len (bits_of p.family) (omega arith) short)))))
+    (says_choice (says_ended mark.Plus (both_le p.len (bits_of p.family) (bits_of p.family) short (omega arith)))
+    (says_choice (says_ended mark.Minus (both_le 0 p.len (bits_of p.family) (omega arith) short))
+    (says_gives (both_le p.len p.len (bits_of p.family) (omega arith) short)))))
 
 -- Sets.
 

@@ -1,7 +1,7 @@
 -- The statements that a text spells fit.
 use Rattle.std.proofs.Common.{◌≡◌, ℕ, zero, suc, Bool, true, false, ◌&&◌, ◌||◌, not, List, [], ◌∷◌, ◌++◌, Option, Some, None, refl, sym, ap, ◌∙◌, subst, if◌then◌else◌}
 use Rattle.std.specs.List.{list_all}
-use Rattle.std.proofs.lemmas.Bool.{and_from, and_parts}
+use Rattle.std.proofs.lemmas.Bool.{and_parts}
 use Rattle.ixp_lang.specs.Trees.{ExprTree, StmtTree, block, if_then, case_of, return_value, add_pair, delete_pairs, add_triple, delete_triples, stmts, exprs}
 use Rattle.ixp_lang.specs.declared.stmt.Label.{Label}
 use Rattle.ixp_lang_tokens.specs.declared.token.Mark.TheVariants as mark
@@ -22,6 +22,7 @@ use Rattle.ixp_lang_laws.proofs.Saying.{Says, says_gives, says_token, says_seque
 use Rattle.ixp_lang_laws.proofs.SaidExpressions.{Whole, Sound, Of, of_type}
 use Rattle.ixp_lang_laws.proofs.SaidParentheses.{says_arguments}
 use Rattle.ixp_lang_laws.proofs.SaidOperands.{says_expression}
+use Rattle.ixp_lang_laws.proofs.Statements.{any_type}
 
 -- What is returned until then, where a written type is left out: nothing, up to the first `return`.
 abbrev pub kept : Bool → Returned → Returned
@@ -31,10 +32,6 @@ kept true r = record { ty = if r.is_met then r.ty else None; is_met = r.is_met }
 kept_met : (is_written : Bool) (t : ValueType) → met t ≡ kept is_written (met t)
 kept_met true t = refl
 kept_met false t = refl
-
-any_type : (of_values : Bool) (c : Bool) (ty : Option ValueType) (t : ValueType) → (of_values && same_as ty t) ≡ true → (of_values && same_as (if c then ty else None) t) ≡ true
-any_type of_values true ty t e = e
-any_type of_values false ty t e = and_from of_values true (and_parts of_values (same_as ty t) e).0 refl
 
 kept_may : (is_written : Bool) (r : Returned) (t : ValueType) → may_meet r t ≡ true → may_meet (kept is_written r) t ≡ true
 kept_may false r t e = e

@@ -40,7 +40,7 @@ addr_again a rest = (refl, refl)
 abbrev Lawful : Pattern → Type 0
 Lawful p = ((nat_le 0 p.low && nat_le p.low (bits_of p.prefix.family)) ≡ true) × ((nat_le p.low p.high && nat_le p.high (bits_of p.prefix.family)) ≡ true)
 
-both_le : (a b c : ℕ) → a ≤ b → b ≤ c → (nat_le a b && nat_le b c) ≡ true
+pub both_le : (a b c : ℕ) → a ≤ b → b ≤ c → (nat_le a b && nat_le b c) ≡ true
 both_le a b c p q = and_from (nat_le a b) (nat_le b c) (le-leb a b p) (le-leb b c q)
 
 bounded_is : (low high n : ℕ) (ts rest : List Kind) → Took (bounded_length low high) n ts rest → (nat_le low n && nat_le n high) ≡ true

@@ -27,7 +27,7 @@ kept_met : (w : Bool) (t : ValueType) → met t ≡ kept w (met t)
 kept_met true t = refl
 kept_met false t = refl
 
-any_type : (of_values : Bool) (c : Bool) (ty : Option ValueType) (t : ValueType) → (of_values && same_as ty t) ≡ true → (of_values && same_as (if c then ty else None) t) ≡ true
+pub any_type : (of_values : Bool) (c : Bool) (ty : Option ValueType) (t : ValueType) → (of_values && same_as ty t) ≡ true → (of_values && same_as (if c then ty else None) t) ≡ true
 any_type of_values true ty t e = e
 any_type of_values false ty t e = and_from of_values true (and_parts of_values (same_as ty t) e).0 refl
 

@@ -1,6 +1,5 @@
 -- Operands that are single tokens, attributes and sets: what says them at all, says them by their canonical tokens.
 use Rattle.std.proofs.Common.{◌≡◌, ℕ, ◌⊎◌, inl, inr, Bool, true, false, List, ◌∷◌, codes, Option, Some, None, option_map, refl, ap, ◌∙◌, if◌then◌else◌}
-use Rattle.std.specs.Option.{option_or}
 use Rattle.ixp_lang_tokens.specs.declared.token.Kind.{Kind}
 use Rattle.ixp_lang_tokens.specs.declared.token.Kind.TheVariants as kind
 use Rattle.ixp_lang_tokens.specs.declared.token.Mark.TheVariants as mark
@@ -24,16 +23,13 @@ use Rattle.ixp_lang_exprs.specs.Expressions.{Place, word_in, truth_in, state_in,
 use Rattle.ixp_print.specs.Texts.{bool_text, state_text}
 use Rattle.ixp_lang_laws.specs.Canonical.{value_tokens, attr_tokens}
 use Rattle.ixp_lang_laws.proofs.Basics.{sound, never_took, Begins, attribute_hope, part_hope}
+use Rattle.ixp_lang_laws.proofs.SaidBasics.{either_some}
 
 -- Literals.
 
 pub mapped : {A : Type 0} (f : A → Operand) (x : Option A) (o : Operand) → option_map f x ≡ Some o → (a : A) × (o ≡ f a)
 mapped f None o e = absurd cc
 mapped f (Some a) o e = (a, (let h : o ≡ f a = cc in h))
-
-pub either_some : {A : Type 0} (x y : Option A) (a : A) → option_or x y ≡ Some a → (x ≡ Some a) ⊎ (y ≡ Some a)
-either_some None y a e = inr e
-either_some (Some b) y a e = inl e
 
 -- a literal of one token
 abbrev pub OneToken : Operand → Type 0

@@ -20,7 +20,8 @@ use Rattle.ixp_lang_exprs.specs.Expressions.{Place, truth_in, state_in, literal_
 use Rattle.ixp_print.specs.Texts.{is_chain, is_compound}
 use Rattle.ixp_lang_laws.specs.Canonical.{sign, expr_tokens, exprs_tokens, more_exprs_tokens, chain_tokens, more_chain_tokens}
 use Rattle.ixp_lang_laws.specs.Printed.{IsWritten}
-use Rattle.ixp_lang_laws.proofs.Tokens.{mapped, either_some}
+use Rattle.ixp_lang_laws.proofs.SaidBasics.{either_some}
+use Rattle.ixp_lang_laws.proofs.Tokens.{mapped}
 use Rattle.ixp_lang_laws.proofs.Keeping.{Keeps, Any, Kept, keeps_gives, keeps_takes, keeps_token, keeps_sequence, keeps_then, keeps_choice, keeps_checks, keeps_bars, keeps_here, keeps_rounds, keeps_mark, keeps_never, keeps_only, keeps_ended, IsNumber, IsName, keeps_name, AreAll, all_more, Writes, wrapped_writes}
 use Rattle.ixp_lang_laws.proofs.WrittenSets.{NumbersFit, pair_writes, triple_writes, keeps_elements}
 

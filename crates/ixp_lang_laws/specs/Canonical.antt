@@ -59,7 +59,8 @@ attr_tokens attr.Len rest = word (codes "bgp_path") (sign mark.Dot (word (codes 
 attr_tokens attr.Pairs rest = word (codes "bgp_community") rest
 attr_tokens attr.PairsLen rest = word (codes "bgp_community") (sign mark.Dot (word (codes "len") rest))
 attr_tokens attr.Triples rest = word (codes "bgp_large_community") rest
-attr_tokens attr.TriplesLen rest = word (codes "bgp_large_community") (sign mark.Dot (word (codes "len") rest))
+attr_tokens attr.TriplesLen rest =
+    word (codes "bgp_large_community") (sign mark.Dot (word (codes "len") rest))
 
 abbrev pub operator : Op → Mark
 operator op.Eq = mark.Equal
@@ -94,7 +95,8 @@ abbrev pub pair_tokens : ℕ × Option ℕ → Before
 pair_tokens p rest = sign mark.Open (number p.0 (sign mark.Comma (part_tokens p.1 (sign mark.Close rest))))
 
 abbrev pub triple_tokens : ℕ × ℕ × Option ℕ → Before
-triple_tokens t rest = sign mark.Open (number t.0 (sign mark.Comma (number t.1 (sign mark.Comma (part_tokens t.2 (sign mark.Close rest))))))
+triple_tokens t rest = sign mark.Open (number t.0
+    (sign mark.Comma (number t.1 (sign mark.Comma (part_tokens t.2 (sign mark.Close rest))))))
 
 abbrev pub elements_tokens : SetLit → Before
 elements_tokens (set.Ints rs) rest = list_of range_tokens rs rest
@@ -130,16 +132,20 @@ abbrev mutual
   expr_tokens (attribute a) rest = attr_tokens a rest
   expr_tokens (call n es) rest = name n (sign mark.Open (exprs_tokens es (sign mark.Close rest)))
   expr_tokens (roa_check t e f) rest =
-      word (codes "roa_check") (sign mark.Open (name t (sign mark.Comma (expr_tokens e (sign mark.Comma (expr_tokens f (sign mark.Close rest)))))))
-  expr_tokens (pair e f) rest = sign mark.Open (expr_tokens e (sign mark.Comma (expr_tokens f (sign mark.Close rest))))
+      word (codes "roa_check") (sign mark.Open (name t
+      (sign mark.Comma (expr_tokens e (sign mark.Comma (expr_tokens f (sign mark.Close rest)))))))
+  expr_tokens (pair e f) rest =
+      sign mark.Open (expr_tokens e (sign mark.Comma (expr_tokens f (sign mark.Close rest))))
   expr_tokens (triple e f g) rest =
-      sign mark.Open (expr_tokens e (sign mark.Comma (expr_tokens f (sign mark.Comma (expr_tokens g (sign mark.Close rest))))))
+      sign mark.Open (expr_tokens e (sign mark.Comma
+      (expr_tokens f (sign mark.Comma (expr_tokens g (sign mark.Close rest))))))
   expr_tokens (set_literal s) rest = set_tokens s rest
   expr_tokens (negation e) rest = sign mark.Not (wrapped (is_compound e) (expr_tokens e) rest)
   expr_tokens (conjunction es) rest = chain_tokens mark.And es rest
   expr_tokens (disjunction es) rest = chain_tokens mark.Or es rest
   expr_tokens (comparison o e f) rest =
-      wrapped (is_compound e) (expr_tokens e) (sign (operator o) (wrapped (is_compound f) (expr_tokens f) rest))
+      wrapped (is_compound e) (expr_tokens e)
+      (sign (operator o) (wrapped (is_compound f) (expr_tokens f) rest))
 
   -- the arguments of a call
   pub exprs_tokens : ExprTrees → Before
@@ -153,8 +159,10 @@ abbrev mutual
   -- the parts of a chain: a chain among them stands in parentheses
   pub chain_tokens : Mark → ExprTrees → Before
   chain_tokens joint exprs_end rest = rest
-  chain_tokens joint (exprs_more e es) rest = wrapped (is_chain e) (expr_tokens e) (more_chain_tokens joint es rest)
+  chain_tokens joint (exprs_more e es) rest =
+      wrapped (is_chain e) (expr_tokens e) (more_chain_tokens joint es rest)
 
   pub more_chain_tokens : Mark → ExprTrees → Before
   more_chain_tokens joint exprs_end rest = rest
-  more_chain_tokens joint (exprs_more e es) rest = sign joint (wrapped (is_chain e) (expr_tokens e) (more_chain_tokens joint es rest))
+  more_chain_tokens joint (exprs_more e es) rest =
+      sign joint (wrapped (is_chain e) (expr_tokens e) (more_chain_tokens joint es rest))

@@ -43,19 +43,22 @@ last_tokens e rest = expr_tokens e (sign mark.Semicolon rest)
 -- `list.change(e);`
 abbrev pub change_tokens : List ℕ → List ℕ → ExprTree → Before
 change_tokens list change e rest =
-    word list (sign mark.Dot (word change (sign mark.Open (expr_tokens e (sign mark.Close (sign mark.Semicolon rest))))))
+    word list (sign mark.Dot (word change
+    (sign mark.Open (expr_tokens e (sign mark.Close (sign mark.Semicolon rest))))))
 
 abbrev mutual
   pub stmt_tokens : StmtTree → Before
   stmt_tokens (block ss) rest = sign mark.BlockOpen (stmts_tokens ss (sign mark.BlockClose rest))
   stmt_tokens (if_then e ss ts) rest =
-      word (codes "if") (expr_tokens e (word (codes "then") (sign mark.BlockOpen (stmts_tokens ss (sign mark.BlockClose (else_tokens ts rest))))))
+      word (codes "if") (expr_tokens e (word (codes "then")
+      (sign mark.BlockOpen (stmts_tokens ss (sign mark.BlockClose (else_tokens ts rest))))))
   stmt_tokens (case_of e arms ts) rest =
       word (codes "case") (expr_tokens e (sign mark.BlockOpen (arms_tokens arms (other_tokens ts (sign mark.BlockClose rest)))))
   stmt_tokens (return_value e) rest = word (codes "return") (last_tokens e rest)
   stmt_tokens accept rest = word (codes "accept") (sign mark.Semicolon rest)
   stmt_tokens reject rest = word (codes "reject") (sign mark.Semicolon rest)
-  stmt_tokens (call_statement n es) rest = name n (sign mark.Open (exprs_tokens es (sign mark.Close (sign mark.Semicolon rest))))
+  stmt_tokens (call_statement n es) rest =
+      name n (sign mark.Open (exprs_tokens es (sign mark.Close (sign mark.Semicolon rest))))
   stmt_tokens (set_next_hop e) rest = word (codes "bgp_next_hop") (sign mark.Equal (last_tokens e rest))
   stmt_tokens (prepend e) rest = change_tokens (codes "bgp_path") (codes "prepend") e rest
   stmt_tokens (add_pair e) rest = change_tokens (codes "bgp_community") (codes "add") e rest
@@ -70,16 +73,19 @@ abbrev mutual
   -- what an `if` does else, where it does something
   pub else_tokens : StmtTrees → Before
   else_tokens stmts_end rest = rest
-  else_tokens (stmts_more s ss) rest = word (codes "else") (sign mark.BlockOpen (stmt_tokens s (stmts_tokens ss (sign mark.BlockClose rest))))
+  else_tokens (stmts_more s ss) rest =
+      word (codes "else") (sign mark.BlockOpen (stmt_tokens s (stmts_tokens ss (sign mark.BlockClose rest))))
 
   -- what a `case` does where no arm has the value
   pub other_tokens : StmtTrees → Before
   other_tokens stmts_end rest = rest
-  other_tokens (stmts_more s ss) rest = word (codes "else") (sign mark.Colon (stmt_tokens s (stmts_tokens ss rest)))
+  other_tokens (stmts_more s ss) rest =
+      word (codes "else") (sign mark.Colon (stmt_tokens s (stmts_tokens ss rest)))
 
   pub arms_tokens : ArmTrees → Before
   arms_tokens arms_end rest = rest
-  arms_tokens (arms_more ls ss arms) rest = list_of label_tokens ls (sign mark.Colon (stmts_tokens ss (arms_tokens arms rest)))
+  arms_tokens (arms_more ls ss arms) rest =
+      list_of label_tokens ls (sign mark.Colon (stmts_tokens ss (arms_tokens arms rest)))
 
 -- Items.
 
@@ -104,7 +110,8 @@ use_tokens Nothing rest = word (codes "none") (sign mark.Semicolon rest)
 use_tokens (Named n) rest = word (codes "filter") (name n (sign mark.Semicolon rest))
 
 abbrev pub ways_tokens : Use → Use → Before
-ways_tokens inward outward rest = word (codes "import") (use_tokens inward (word (codes "export") (use_tokens outward rest)))
+ways_tokens inward outward rest =
+    word (codes "import") (use_tokens inward (word (codes "export") (use_tokens outward rest)))
 
 abbrev pub table_tokens : List ℕ → Before
 table_tokens n rest = word (codes "table") (name n (sign mark.Semicolon rest))
@@ -116,7 +123,8 @@ head_tokens kind n rest = word (codes "protocol") (word kind (name n (sign mark.
 abbrev pub pipe_tokens : Pipe → Before
 pipe_tokens p rest =
     head_tokens (codes "pipe") p.name
-    (table_tokens p.table (word (codes "peer") (table_tokens p.peer (ways_tokens p.import p.export (sign mark.BlockClose rest)))))
+    (table_tokens p.table (word (codes "peer")
+    (table_tokens p.peer (ways_tokens p.import p.export (sign mark.BlockClose rest)))))
 
 abbrev pub asn_tokens : ℕ → Before
 asn_tokens n rest = word (codes "as") (number n (sign mark.Semicolon rest))
@@ -137,7 +145,8 @@ password_tokens (Some p) rest = word (codes "password") (Text p ∷ sign mark.Se
 abbrev pub limit_tokens : Option ℕ → Before
 limit_tokens None rest = rest
 limit_tokens (Some n) rest =
-    word (codes "import") (word (codes "limit") (number n (word (codes "action") (word (codes "block") (sign mark.Semicolon rest)))))
+    word (codes "import") (word (codes "limit")
+    (number n (word (codes "action") (word (codes "block") (sign mark.Semicolon rest)))))
 
 -- the channel of a session
 abbrev pub channel_tokens : Bgp → Before
@@ -150,18 +159,23 @@ bgp_tokens b rest =
     head_tokens (codes "bgp") b.name
     (word (codes "local") (local_tokens b.local (asn_tokens b.own.0
     (word (codes "neighbor") (addr_tokens b.neighbor (asn_tokens b.asn.0
-    (client_tokens b.rs_client (password_tokens b.password (channel_tokens b (sign mark.BlockClose rest))))))))))
+    (client_tokens b.rs_client (password_tokens b.password
+    (channel_tokens b (sign mark.BlockClose rest))))))))))
 
 abbrev pub device_tokens : Option (List ℕ) → Before
-device_tokens None rest = word (codes "protocol") (word (codes "device") (sign mark.BlockOpen (sign mark.BlockClose rest)))
+device_tokens None rest = word (codes "protocol")
+    (word (codes "device") (sign mark.BlockOpen (sign mark.BlockClose rest)))
 device_tokens (Some n) rest = head_tokens (codes "device") n (sign mark.BlockClose rest)
 
 abbrev pub item_tokens : ItemTree → Before
-item_tokens (router_id_item a) rest = word (codes "router") (word (codes "id") (addr_tokens a (sign mark.Semicolon rest)))
-item_tokens (table_item k n) rest = word (kind_text k) (word (codes "table") (name n (sign mark.Semicolon rest)))
+item_tokens (router_id_item a) rest =
+    word (codes "router") (word (codes "id") (addr_tokens a (sign mark.Semicolon rest)))
+item_tokens (table_item k n) rest =
+    word (kind_text k) (word (codes "table") (name n (sign mark.Semicolon rest)))
 item_tokens (define_item n e) rest = word (codes "define") (name n (sign mark.Equal (last_tokens e rest)))
 item_tokens (function_item n ps ss) rest =
-    word (codes "function") (name n (sign mark.Open (params_tokens ps (sign mark.Close (body_tokens ss rest)))))
+    word (codes "function")
+    (name n (sign mark.Open (params_tokens ps (sign mark.Close (body_tokens ss rest)))))
 item_tokens (filter_item n ss) rest = word (codes "filter") (name n (body_tokens ss rest))
 item_tokens (device_item n) rest = device_tokens n rest
 item_tokens (pipe_item p) rest = pipe_tokens p rest

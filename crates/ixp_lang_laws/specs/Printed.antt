@@ -9,7 +9,8 @@ use Rattle.ixp_lang_tokens.specs.Tokens.{word_kind}
 -- A name has 1 to 64 letters, digits and `_`, begins with no digit and is no keyword; a number has 32 bits; a
 -- string is printable, without quotes, and has 64 bytes at most.
 abbrev pub IsWritten : Kind → Type 0
-IsWritten (kind.Name n) = (begins_with is_letter n ≡ true) × (list_all is_word_byte n ≡ true) × (word_kind n ≡ kind.Name n)
+IsWritten (kind.Name n) = (begins_with is_letter n ≡ true) × (list_all is_word_byte n ≡ true)
+    × (word_kind n ≡ kind.Name n)
 IsWritten (kind.Number n) = n < 2 ^ 32
 IsWritten (kind.Text said) = (list_all is_text_byte said ≡ true) × (length said ≤ 64)
 IsWritten _ = Unit {0}

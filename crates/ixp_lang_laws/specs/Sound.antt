@@ -123,17 +123,22 @@ module _ (names : Names) (scope : Scope) where
     fits n (literal v) = value_fits n v
     fits n (named x) = is_none (function_of (names x)) && is_some (value_of scope (names x))
     fits n (attribute a) = not (is_define scope)
-    fits n (call x es) = not (is_define scope) && is_some (returned (function_of (names x))) && deeper n (λ m. arguments_fit m (params_of (function_of (names x))) es)
+    fits n (call x es) = not (is_define scope) && is_some (returned (function_of (names x)))
+        && deeper n (λ m. arguments_fit m (params_of (function_of (names x))) es)
     fits n (roa_check t e f) =
-        not (is_define scope) && is_roa_table (names t) && same_type (type_of e) Prefix && same_type (type_of f) Int && deeper n (λ m. fits m e && fits m f)
+        not (is_define scope) && is_roa_table (names t) && same_type (type_of e) Prefix
+        && same_type (type_of f) Int && deeper n (λ m. fits m e && fits m f)
     fits n (pair e f) =
-        not (is_some (literal_number e) && is_some (literal_number f)) && is_small (literal_number e) && is_small (literal_number f)
+        not (is_some (literal_number e) && is_some (literal_number f)) && is_small (literal_number e)
+        && is_small (literal_number f)
         && same_type (type_of e) Int && same_type (type_of f) Int && deeper n (λ m. fits m e && fits m f)
     fits n (triple e f g) =
         not (is_some (literal_number e) && is_some (literal_number f) && is_some (literal_number g))
-        && same_type (type_of e) Int && same_type (type_of f) Int && same_type (type_of g) Int && deeper n (λ m. fits m e && fits m f && fits m g)
+        && same_type (type_of e) Int && same_type (type_of f) Int && same_type (type_of g) Int
+        && deeper n (λ m. fits m e && fits m f && fits m g)
     fits n (set_literal s) = set_fits n s
-    fits n (negation e) = same_type (type_of e) Truth && deeper n (λ m. wrapped (is_compound e) m (λ k. fits k e))
+    fits n (negation e) = same_type (type_of e) Truth
+        && deeper n (λ m. wrapped (is_compound e) m (λ k. fits k e))
     fits n (conjunction es) = two_or_more es && parts_fit n es
     fits n (disjunction es) = two_or_more es && parts_fit n es
     fits n (comparison o e f) =
@@ -149,4 +154,5 @@ module _ (names : Names) (scope : Scope) where
     -- parts of a chain
     pub parts_fit : ℕ → ExprTrees → Bool
     parts_fit n exprs_end = true
-    parts_fit n (exprs_more e es) = same_type (type_of e) Truth && wrapped (is_chain e) n (λ k. fits k e) && parts_fit n es
+    parts_fit n (exprs_more e es) =
+        same_type (type_of e) Truth && wrapped (is_chain e) n (λ k. fits k e) && parts_fit n es

@@ -36,11 +36,13 @@ use_fits names (Named n) = is_filter (names n)
 -- what names stand for with these parameters
 abbrev pub with_params : ℕ → Names → List (Ty × List ℕ) → Names
 with_params number names [] = names
-with_params number names (p ∷ ps) = with_params number (standing names p.1 (declared.Parameter number (written_type p.0))) ps
+with_params number names (p ∷ ps) =
+    with_params number (standing names p.1 (declared.Parameter number (written_type p.0))) ps
 
 abbrev pub params_fit : ℕ → Names → List (Ty × List ℕ) → Bool
 params_fit number names [] = true
-params_fit number names (p ∷ ps) = is_free_in (names p.1) number && params_fit number (standing names p.1 (declared.Parameter number (written_type p.0))) ps
+params_fit number names (p ∷ ps) = is_free_in (names p.1) number
+    && params_fit number (standing names p.1 (declared.Parameter number (written_type p.0))) ps
 
 -- what a session or pipe leaves of the tables
 abbrev pub with_table : Owner → Names → List ℕ → Names
@@ -54,7 +56,8 @@ inside number names n ps = with_params number (standing names n declared.Begun) 
 abbrev pub names_behind : ℕ → Names → ItemTree → Names
 names_behind number names (router_id_item a) = names
 names_behind number names (table_item k n) = standing names n (declared.Table (unowned k))
-names_behind number names (define_item n e) = standing names n (declared.Define (type_of names scope.Define e) (defined_number names e))
+names_behind number names (define_item n e) =
+    standing names n (declared.Define (type_of names scope.Define e) (defined_number names e))
 names_behind number names (function_item n ps ss) =
     standing (inside number names n ps) n (declared.Function (record {
       params = map (λ p. written_type p.0) ps;
@@ -63,7 +66,8 @@ names_behind number names (function_item n ps ss) =
 names_behind number names (filter_item n ss) = standing names n declared.Filter
 names_behind number names (device_item None) = names
 names_behind number names (device_item (Some n)) = standing names n declared.Protocol
-names_behind number names (pipe_item p) = standing (with_table peer_pipe (with_table filler names p.table) p.peer) p.name declared.Protocol
+names_behind number names (pipe_item p) =
+    standing (with_table peer_pipe (with_table filler names p.table) p.peer) p.name declared.Protocol
 names_behind number names (bgp_item b) = standing (with_table session names b.table) b.name declared.Protocol
 
 abbrev pub item_fits : ℕ → Names → ItemTree → Bool
@@ -73,19 +77,24 @@ item_fits number names (define_item n e) = is_none (names n) && fits names scope
 item_fits number names (function_item n ps ss) =
     is_none (names n) && params_fit number (standing names n declared.Begun) ps
     && stmts_fit (inside number names n ps) (scope.Function number) levels_inside (as_written None) ss
-item_fits number names (filter_item n ss) = is_none (names n) && stmts_fit names scope.Filter levels_inside (as_written None) ss
+item_fits number names (filter_item n ss) =
+    is_none (names n) && stmts_fit names scope.Filter levels_inside (as_written None) ss
 item_fits number names (device_item None) = true
 item_fits number names (device_item (Some n)) = is_none (names n)
 item_fits number names (pipe_item p) =
-    is_none (names p.name) && is_free_table filler (table_of (names p.table)) && is_free_table peer_pipe (table_of (with_table filler names p.table p.peer))
-    && use_fits (with_table peer_pipe (with_table filler names p.table) p.peer) p.import && use_fits (with_table peer_pipe (with_table filler names p.table) p.peer) p.export
+    is_none (names p.name) && is_free_table filler (table_of (names p.table))
+    && is_free_table peer_pipe (table_of (with_table filler names p.table p.peer))
+    && use_fits (with_table peer_pipe (with_table filler names p.table) p.peer) p.import
+    && use_fits (with_table peer_pipe (with_table filler names p.table) p.peer) p.export
 item_fits number names (bgp_item b) =
     is_none (names b.name) && is_free_table session (table_of (names b.table))
-    && use_fits (with_table session names b.table) b.import && use_fits (with_table session names b.table) b.export
+    && use_fits (with_table session names b.table) b.import
+    && use_fits (with_table session names b.table) b.export
 
 abbrev pub items_fit : ℕ → Names → List ItemTree → Bool
 items_fit number names [] = true
-items_fit number names (i ∷ is) = item_fits number names i && items_fit (suc number) (names_behind number names i) is
+items_fit number names (i ∷ is) =
+    item_fits number names i && items_fit (suc number) (names_behind number names i) is
 
 -- a text can spell the configuration
 abbrev pub is_sound : List ItemTree → Bool

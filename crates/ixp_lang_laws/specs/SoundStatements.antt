@@ -44,14 +44,18 @@ module _ (names : Names) (scope : Scope) where
   abbrev mutual
     pub stmt_fits : ℕ → Returned → StmtTree → Bool
     stmt_fits n r (block ss) = deeper n (λ m. stmts_fit m r ss)
-    stmt_fits n r (if_then e ss ts) = is_of Truth n e && deeper n (λ m. stmts_fit m r ss && stmts_fit m (returned_in r ss) ts)
+    stmt_fits n r (if_then e ss ts) =
+        is_of Truth n e && deeper n (λ m. stmts_fit m r ss && stmts_fit m (returned_in r ss) ts)
     stmt_fits n r (case_of e arms ts) =
         (same_type (type_of names scope e) Int || same_type (type_of names scope e) State)
-        && deeper n (λ m. fits names scope m e && arms_fit m (is_state (type_of names scope e)) r arms && stmts_fit m (returned_arms r arms) ts)
-    stmt_fits n r (return_value e) = may_return scope && fits names scope n e && may_meet r (type_of names scope e)
+        && deeper n (λ m. fits names scope m e && arms_fit m (is_state (type_of names scope e)) r arms
+        && stmts_fit m (returned_arms r arms) ts)
+    stmt_fits n r (return_value e) =
+        may_return scope && fits names scope n e && may_meet r (type_of names scope e)
     stmt_fits n r accept = true
     stmt_fits n r reject = true
-    stmt_fits n r (call_statement x es) = is_some (function_of (names x)) && arguments_fit names scope n (params_of (function_of (names x))) es
+    stmt_fits n r (call_statement x es) =
+        is_some (function_of (names x)) && arguments_fit names scope n (params_of (function_of (names x))) es
     stmt_fits n r (set_next_hop e) = is_of Ip n e
     stmt_fits n r (prepend e) = is_of Int n e
     stmt_fits n r (add_pair e) = is_of Pair n e
@@ -65,4 +69,6 @@ module _ (names : Names) (scope : Scope) where
 
     pub arms_fit : ℕ → Bool → Returned → ArmTrees → Bool
     arms_fit n states r arms_end = true
-    arms_fit n states r (arms_more ls ss arms) = some_of ls && list_all (label_fits states) ls && stmts_fit n r ss && arms_fit n states (returned_in r ss) arms
+    arms_fit n states r (arms_more ls ss arms) =
+        some_of ls && list_all (label_fits states) ls && stmts_fit n r ss
+        && arms_fit n states (returned_in r ss) arms

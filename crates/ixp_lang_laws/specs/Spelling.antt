@@ -18,7 +18,8 @@ use Rattle.ixp_lang_exprs.specs.Expressions.{expression_form}
 abbrev pub Spells : Names → Scope → ℕ → ℕ → Wanted → ExprTree → ValueType → List Kind → List Kind → Type 0
 Spells names scope levels statement wanted tree ty tokens rest =
     (o : Operand) × (o.tree ≡ tree) × (o.ty ≡ ty) × (o.misfit ≡ None)
-    × Took (expression_form (record { names = names; scope = scope; statement = statement }) levels wanted) o tokens rest
+    × Took (expression_form
+    (record { names = names; scope = scope; statement = statement }) levels wanted) o tokens rest
 
 -- neither `&&` nor `||` is next
 abbrev pub EndsChains : List Kind → Type 0

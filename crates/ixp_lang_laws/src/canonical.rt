@@ -26,7 +26,8 @@ ghost use Rattle.ixp_lang_laws.specs.SoundItems.{is_sound};
 pub fn canonical_tokens_spell_their_expression()
     ensures { (names : Names) (scope : Scope) (e : ExprTree) (t : ValueType) (levels more statement other : ℕ)
         (wanted needed : Wanted) (tokens rest behind : List Kind) →
-        levels ≤ more → is_expected needed.expected t ≡ true → Spells names scope levels statement wanted e t tokens rest → EndsChains behind →
+        levels ≤ more → is_expected needed.expected t ≡ true →
+        Spells names scope levels statement wanted e t tokens rest → EndsChains behind →
         Spells names scope more other needed e t (expr_tokens e behind) behind }
 {}
 

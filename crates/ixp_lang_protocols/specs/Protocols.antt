@@ -31,10 +31,12 @@ is_filter (Some declared.Filter) = true
 is_filter _ = false
 
 abbrev pub filter_name : Names → Grammar (List ℕ)
-filter_name names = here (λ left. sequence a_name (λ name. checks (unless_so (is_filter (names name)) (Unknown, left)) (gives name)))
+filter_name names = here (λ left. sequence a_name
+    (λ name. checks (unless_so (is_filter (names name)) (Unknown, left)) (gives name)))
 
 abbrev pub named_use : Names → Grammar Use
-named_use names = sequence (the_word (codes "filter")) (λ tt. sequence (filter_name names) (λ name. ended Semicolon (Named name)))
+named_use names = sequence (the_word (codes "filter"))
+    (λ tt. sequence (filter_name names) (λ name. ended Semicolon (Named name)))
 
 -- `all`, `none` or a filter, and the semicolon
 abbrev pub use_form : Names → Grammar Use
@@ -99,10 +101,12 @@ abbrev pub device_end : Names → Grammar Declares
 device_end names =
     choice (sequence (the_mark BlockOpen) (λ tt. ended BlockClose (device_item None, names)))
     (sequence (free_name names) (λ name.
-    sequence (the_mark BlockOpen) (λ tt. ended BlockClose (device_item (Some name), standing names name declared.Protocol))))
+    sequence (the_mark BlockOpen) (λ tt. ended BlockClose
+    (device_item (Some name), standing names name declared.Protocol))))
 
 abbrev pub pipe_with : List ℕ → List ℕ → List ℕ → Ways → Pipe
-pipe_with name table peer ways = record { name = name; table = table; peer = peer; «import» = ways.inward; export = ways.outward }
+pipe_with name table peer ways =
+    record { name = name; table = table; peer = peer; «import» = ways.inward; export = ways.outward }
 
 -- the two tables of a pipe, and what names stand for behind them
 pub record Ends : Type 0 where
@@ -116,21 +120,25 @@ ends_with table peer = record { table = table; peer = peer.name; names = peer.na
 abbrev pub ends_form : Names → Grammar Ends
 ends_form names =
     sequence (owned_table filler names) (λ table.
-    sequence (the_word (codes "peer")) (λ tt. sequence (owned_table peer_pipe table.names) (λ peer. gives (ends_with table.name peer))))
+    sequence (the_word (codes "peer")) (λ tt. sequence (owned_table peer_pipe table.names)
+    (λ peer. gives (ends_with table.name peer))))
 
 abbrev pub piped : List ℕ → Ends → Ways → Declares
-piped name ends ways = (pipe_item (pipe_with name ends.table ends.peer ways), standing ends.names name declared.Protocol)
+piped name ends ways =
+    (pipe_item (pipe_with name ends.table ends.peer ways), standing ends.names name declared.Protocol)
 
 -- what follows `protocol pipe`
 abbrev pub pipe_end : Names → Grammar Declares
 pipe_end names =
     sequence (free_name names) (λ name.
     sequence (the_mark BlockOpen) (λ tt.
-    sequence (ends_form names) (λ ends. sequence (ways_form ends.names) (λ ways. ended BlockClose (piped name ends ways)))))
+    sequence (ends_form names) (λ ends. sequence (ways_form ends.names)
+    (λ ways. ended BlockClose (piped name ends ways)))))
 
 -- `as NUM;`
 abbrev pub as_number_form : Grammar Asn
-as_number_form = sequence (the_word (codes "as")) (λ tt. sequence a_number (λ n. ended Semicolon (record { 0 = n })))
+as_number_form = sequence (the_word (codes "as"))
+    (λ tt. sequence a_number (λ n. ended Semicolon (record { 0 = n })))
 
 -- this end of a session, with or without its address
 pub record Local : Type 0 where
@@ -143,7 +151,8 @@ local_with addr asn = record { addr = addr; asn = asn }
 abbrev pub local_form : Grammar Local
 local_form =
     sequence (the_word (codes "local")) (λ tt.
-    choice (sequence an_addr (λ addr. sequence as_number_form (λ asn. gives (local_with (Some addr) asn)))) (sequence as_number_form (λ asn. gives (local_with None asn))))
+    choice (sequence an_addr (λ addr. sequence as_number_form (λ asn. gives (local_with (Some addr) asn))))
+    (sequence as_number_form (λ asn. gives (local_with None asn))))
 
 pub record Neighbor : Type 0 where
   pub addr : Addr
@@ -151,17 +160,20 @@ pub record Neighbor : Type 0 where
 
 abbrev pub neighbor_form : Grammar Neighbor
 neighbor_form =
-    sequence (the_word (codes "neighbor")) (λ tt. sequence an_addr (λ addr. sequence as_number_form (λ asn. gives (record { addr = addr; asn = asn }))))
+    sequence (the_word (codes "neighbor")) (λ tt. sequence an_addr
+    (λ addr. sequence as_number_form (λ asn. gives (record { addr = addr; asn = asn }))))
 
 abbrev pub client_form : Grammar Bool
-client_form = choice (sequence (the_word (codes "rs")) (λ tt. sequence (the_word (codes "client")) (λ tt. ended Semicolon true))) (gives false)
+client_form = choice (sequence (the_word (codes "rs"))
+    (λ tt. sequence (the_word (codes "client")) (λ tt. ended Semicolon true))) (gives false)
 
 abbrev pub string_in : Kind → Option (List ℕ)
 string_in (kind.Text text) = Some text
 string_in _ = None
 
 abbrev pub password_form : Grammar (Option (List ℕ))
-password_form = choice (sequence (the_word (codes "password")) (λ tt. sequence (takes string_in) (λ text. ended Semicolon (Some text)))) (gives None)
+password_form = choice (sequence (the_word (codes "password"))
+    (λ tt. sequence (takes string_in) (λ text. ended Semicolon (Some text)))) (gives None)
 
 abbrev pub limit_form : Grammar (Option ℕ)
 limit_form =
@@ -174,7 +186,8 @@ limit_form =
     (gives None)
 
 abbrev pub family_form : Grammar Family
-family_form = choice (sequence (the_word (codes "ipv4")) (λ tt. gives V4)) (sequence (the_word (codes "ipv6")) (λ tt. gives V6))
+family_form = choice (sequence (the_word (codes "ipv4")) (λ tt. gives V4))
+    (sequence (the_word (codes "ipv6")) (λ tt. gives V6))
 
 -- a session's channel, and what names stand for behind it
 pub record Channel : Type 0 where
@@ -206,7 +219,8 @@ peering_form =
     sequence local_form (λ here_.
     sequence neighbor_form (λ there.
     sequence client_form (λ rs_client.
-    sequence password_form (λ password. gives (record { here_ = here_; there = there; rs_client = rs_client; password = password })))))
+    sequence password_form (λ password. gives
+    (record { here_ = here_; there = there; rs_client = rs_client; password = password })))))
 
 abbrev pub session_with : List ℕ → Peering → Channel → Bgp
 session_with name peering channel = record {
@@ -225,14 +239,16 @@ session_with name peering channel = record {
 }
 
 abbrev pub peered : List ℕ → Peering → Channel → Declares
-peered name peering channel = (bgp_item (session_with name peering channel), standing channel.names name declared.Protocol)
+peered name peering channel =
+    (bgp_item (session_with name peering channel), standing channel.names name declared.Protocol)
 
 -- what follows `protocol bgp`
 abbrev pub bgp_end : Names → Grammar Declares
 bgp_end names =
     sequence (free_name names) (λ name.
     sequence (the_mark BlockOpen) (λ tt.
-    sequence peering_form (λ peering. sequence (channel_form names) (λ channel. ended BlockClose (peered name peering channel)))))
+    sequence peering_form (λ peering. sequence (channel_form names)
+    (λ channel. ended BlockClose (peered name peering channel)))))
 
 -- what follows `protocol`
 abbrev pub protocol_end : Names → Grammar Declares

@@ -37,7 +37,9 @@ abbrev pub neighbor_of : Neighbor → grammar.Neighbor
 neighbor_of n = record { addr = n.addr; asn = n.asn }
 
 abbrev pub peering_of : Peering → grammar.Peering
-peering_of p = record { here_ = local_of p.local; there = neighbor_of p.neighbor; rs_client = p.rs_client; password = p.password }
+peering_of p =
+    record { here_ = local_of p.local; there = neighbor_of p.neighbor; rs_client = p.rs_client; password = p.password }
 
 abbrev pub channel_of : Channel → Names → grammar.Channel
-channel_of c names = record { family = c.family; table = c.table; ways = ways_of c.ways; limit = c.limit; names = names }
+channel_of c names =
+    record { family = c.family; table = c.table; ways = ways_of c.ways; limit = c.limit; names = names }

@@ -82,12 +82,14 @@ params_of None = []
 abbrev pub call_end : Place → ℕ → List ℕ → Grammar StmtTree
 call_end at levels name =
     sequence (the_mark Open) (λ tt.
-    sequence (enclosed at (expression_form at levels) (arguments (params_of (function_of (at.names name)))) at.statement) (λ parts.
+    sequence (enclosed at (expression_form at levels)
+    (arguments (params_of (function_of (at.names name)))) at.statement) (λ parts.
     ended Semicolon (call_statement name (exprs parts.trees))))
 
 abbrev pub call_form : Place → ℕ → Grammar StmtTree
 call_form at levels =
-    sequence a_name (λ name. checks (if_missing (function_of (at.names name)) (Unknown, at.statement)) (call_end at levels name))
+    sequence a_name (λ name. checks (if_missing (function_of (at.names name)) (Unknown, at.statement))
+    (call_end at levels name))
 
 -- what is wanted of a returned value
 abbrev pub returned_wanted : Returned → ℕ → Wanted
@@ -103,25 +105,31 @@ return_end at levels returned =
 
 abbrev pub return_form : Place → ℕ → Returned → Grammar (Said StmtTree)
 return_form at levels returned =
-    sequence (the_word (codes "return")) (λ tt. checks (unless_so (may_return at.scope) (misfit_at at.statement)) (return_end at levels returned))
+    sequence (the_word (codes "return")) (λ tt. checks
+    (unless_so (may_return at.scope) (misfit_at at.statement)) (return_end at levels returned))
 
 -- what follows `bgp_next_hop`
 abbrev pub next_hop_end : Place → ℕ → Grammar StmtTree
-next_hop_end at levels = sequence (the_mark Equal) (λ tt. sequence (value_end at levels Ip) (λ value. gives (set_next_hop value)))
+next_hop_end at levels = sequence (the_mark Equal)
+    (λ tt. sequence (value_end at levels Ip) (λ value. gives (set_next_hop value)))
 
 -- what follows `bgp_path`
 abbrev pub prepend_end : Place → ℕ → Grammar StmtTree
 prepend_end at levels =
     sequence (the_mark Dot) (λ tt.
-    sequence (the_word (codes "prepend")) (λ tt. sequence (enclosed_end at levels Int) (λ value. gives (prepend value))))
+    sequence (the_word (codes "prepend"))
+    (λ tt. sequence (enclosed_end at levels Int) (λ value. gives (prepend value))))
 
 -- `.add(..)` of one and `.delete(..)` of a set, behind the list's name
-abbrev pub change_end : Place → ℕ → ValueType → (ExprTree → StmtTree) → ValueType → (ExprTree → StmtTree) → Grammar StmtTree
+abbrev pub change_end : Place → ℕ → ValueType → (ExprTree → StmtTree) → ValueType → (ExprTree → StmtTree)
+    → Grammar StmtTree
 change_end at levels one add many delete =
     sequence (the_mark Dot) (λ tt.
     choice
-    (sequence (the_word (codes "add")) (λ tt. sequence (enclosed_end at levels one) (λ value. gives (add value))))
-    (sequence (the_word (codes "delete")) (λ tt. sequence (enclosed_end at levels many) (λ value. gives (delete value)))))
+    (sequence (the_word (codes "add")) (λ tt. sequence (enclosed_end at levels one)
+    (λ value. gives (add value))))
+    (sequence (the_word (codes "delete"))
+    (λ tt. sequence (enclosed_end at levels many) (λ value. gives (delete value)))))
 
 abbrev pub pairs_end : Place → ℕ → Grammar StmtTree
 pairs_end at levels = change_end at levels Pair add_pair PairSet delete_pairs
@@ -155,17 +163,20 @@ abbrev pub number_label : Bool → ℕ → Grammar Label
 number_label is_of_states place =
     sequence a_number (λ low.
     checks (unless_so (not is_of_states) (misfit_at place))
-    (choice (sequence (the_mark Range) (λ tt. sequence a_number (λ high. gives (Between low high)))) (gives (Between low low))))
+    (choice (sequence (the_mark Range) (λ tt. sequence a_number (λ high. gives (Between low high))))
+    (gives (Between low low))))
 
 abbrev pub state_label : Bool → ℕ → Grammar Label
 state_label is_of_states place =
-    sequence (takes (word_in state_in)) (λ state. checks (unless_so is_of_states (misfit_at place)) (gives (IsState state)))
+    sequence (takes (word_in state_in)) (λ state. checks (unless_so is_of_states (misfit_at place))
+    (gives (IsState state)))
 
 abbrev pub label_form : Bool → ℕ → Grammar Label
 label_form is_of_states place = choice (number_label is_of_states place) (state_label is_of_states place)
 
 abbrev pub labels_form : Bool → ℕ → Grammar (List Label)
-labels_form is_of_states place = sequence (listed (λ before. label_form is_of_states place)) (λ labels. ended Colon labels)
+labels_form is_of_states place =
+    sequence (listed (λ before. label_form is_of_states place)) (λ labels. ended Colon labels)
 
 abbrev pub is_state : ValueType → Bool
 is_state ty = same_type ty State
@@ -184,9 +195,11 @@ abbrev pub with_statement : Said (List StmtTree) → Said StmtTree → Said (Lis
 with_statement before one = said one.returned (before.it ++ one.it ∷ [])
 
 -- one statement more behind those before it, if there is one
-abbrev pub statement_round : Statements → Bool → Said (List StmtTree) → Grammar (Step (Said (List StmtTree)) (Said (List StmtTree)))
+abbrev pub statement_round : Statements → Bool → Said (List StmtTree)
+    → Grammar (Step (Said (List StmtTree)) (Said (List StmtTree)))
 statement_round statement in_arm before =
-    choice (sequence (statement in_arm before.returned) (λ one. gives (onward (with_statement before one)))) (gives (done before))
+    choice (sequence (statement in_arm before.returned) (λ one. gives (onward (with_statement before one))))
+    (gives (done before))
 
 -- as many statements as there are
 abbrev pub statements_of : Statements → Bool → Returned → Grammar (Said (List StmtTree))
@@ -194,7 +207,8 @@ statements_of statement in_arm returned = rounds (statement_round statement in_a
 
 -- the statements of a block and its end
 abbrev pub block_end : Statements → Returned → Grammar (Said (List StmtTree))
-block_end statement returned = sequence (statements_of statement false returned) (λ body. ended BlockClose body)
+block_end statement returned =
+    sequence (statements_of statement false returned) (λ body. ended BlockClose body)
 
 -- the statements one level deeper, if a level is left
 pub data Deeper : Type 1 where
@@ -213,7 +227,8 @@ is_there None test = false
 
 -- an `else` with a colon behind it, which in an arm is the `case`'s
 abbrev pub is_case_else : Bool → List Kind → Bool
-is_case_else in_arm tokens = in_arm && is_there (behind (is_word (codes "else")) tokens) (is_next (is_mark Colon))
+is_case_else in_arm tokens =
+    in_arm && is_there (behind (is_word (codes "else")) tokens) (is_next (is_mark Colon))
 
 -- an `else` that is the nearest `if`'s
 abbrev pub is_if_else : Bool → List Kind → Bool
@@ -221,7 +236,8 @@ is_if_else in_arm tokens = is_else tokens && not (is_case_else in_arm tokens)
 
 abbrev pub block_form : Deeper → Returned → Grammar (Said StmtTree)
 block_form (deeper levels statement) returned =
-    sequence (the_mark BlockOpen) (λ tt. sequence (block_end statement returned) (λ body. gives (said body.returned (block (stmts body.it)))))
+    sequence (the_mark BlockOpen) (λ tt. sequence (block_end statement returned)
+    (λ body. gives (said body.returned (block (stmts body.it)))))
 block_form nothing returned = bars is_block Deep never
 
 -- the words with which a statement begins that holds others or returns
@@ -231,7 +247,8 @@ begins_control word = same_word word (codes "if") || same_word word (codes "case
 -- or that changes the route
 abbrev pub begins_change : List ℕ → Bool
 begins_change word =
-    same_word word (codes "bgp_next_hop") || same_word word (codes "bgp_path") || same_word word (codes "bgp_community") || same_word word (codes "bgp_large_community")
+    same_word word (codes "bgp_next_hop") || same_word word (codes "bgp_path")
+    || same_word word (codes "bgp_community") || same_word word (codes "bgp_large_community")
 
 abbrev pub is_verdict : List ℕ → Bool
 is_verdict word = same_word word (codes "accept") || same_word word (codes "reject")
@@ -244,15 +261,18 @@ abbrev pub statement_word : List ℕ → Option (List ℕ)
 statement_word word = if begins_statement word then Some word else None
 
 abbrev pub deep_word : Scope → List ℕ → ℕ → Cause × ℕ
-deep_word s word place = if same_word word (codes "return") && not (may_return s) then misfit_at place else (Deep, place)
+deep_word s word place = if same_word word (codes "return") && not (may_return s) then misfit_at place
+    else (Deep, place)
 
 -- no branch stands here, one level too deep; what begins no statement is refused as such
 abbrev pub no_branch : {A : Type 0} → Frame → Grammar A
 no_branch frame =
     bars is_block Deep
     (choice
-    (here (λ place. sequence a_name (λ name. checks (option_or (if_missing (function_of (frame.names name)) (Unknown, place)) (Some (Deep, place))) never)))
-    (here (λ place. sequence (takes (word_in statement_word)) (λ word. checks (Some (deep_word frame.scope word place)) never))))
+    (here (λ place. sequence a_name (λ name. checks (option_or
+    (if_missing (function_of (frame.names name)) (Unknown, place)) (Some (Deep, place))) never)))
+    (here (λ place. sequence (takes (word_in statement_word))
+    (λ word. checks (Some (deep_word frame.scope word place)) never))))
 
 -- a branch of an `if`: a block's statements, or one statement
 abbrev pub branch_form : Frame → Deeper → Bool → Returned → Grammar (Said (List StmtTree))
@@ -285,7 +305,8 @@ if_end at frame levels inner in_arm returned =
 
 abbrev pub if_form : Frame → ℕ → Deeper → Bool → Returned → Grammar (Said StmtTree)
 if_form frame levels inner in_arm returned =
-    here (λ statement. sequence (the_word (codes "if")) (λ tt. if_end (place_in frame statement) frame levels inner in_arm returned))
+    here (λ statement. sequence (the_word (codes "if"))
+    (λ tt. if_end (place_in frame statement) frame levels inner in_arm returned))
 
 -- the arms of a `case` so far, from the first one on
 abbrev pub Arms : Type 0
@@ -303,16 +324,19 @@ abbrev pub arm_round : Statements → Bool → ℕ → Arms → Grammar (Step Ar
 arm_round statement is_of_states place before =
     choice
     (sequence (labels_form is_of_states place) (λ labels.
-    sequence (statements_of statement true before.returned) (λ body. gives (onward (with_arm before labels body)))))
+    sequence (statements_of statement true before.returned)
+    (λ body. gives (onward (with_arm before labels body)))))
     (gives (done before))
 
 abbrev pub arms_form : Statements → Bool → ℕ → Returned → Grammar Arms
-arms_form statement is_of_states place returned = rounds (arm_round statement is_of_states place) (said returned [])
+arms_form statement is_of_states place returned =
+    rounds (arm_round statement is_of_states place) (said returned [])
 
 -- what a `case` does where no arm has the value, and its end
 abbrev pub case_end : Statements → Returned → Grammar (Said (List StmtTree))
 case_end statement returned =
-    choice (sequence (the_word (codes "else")) (λ tt. sequence (the_mark Colon) (λ tt. block_end statement returned)))
+    choice (sequence (the_word (codes "else"))
+    (λ tt. sequence (the_mark Colon) (λ tt. block_end statement returned)))
     (ended BlockClose (said returned []))
 
 -- what a `case` is about: its tree, and whether it is a state
@@ -331,7 +355,8 @@ subject_wanted place = record { expected = NumberOrState; place = place }
 abbrev pub subject_end : Place → ℕ → Grammar Subject
 subject_end at levels =
     sequence (expression_form at levels (subject_wanted at.statement)) (λ on.
-    sequence (the_mark BlockOpen) (λ tt. checks (option_or (settled on) (no_case on.ty at.statement)) (gives (subject_of on))))
+    sequence (the_mark BlockOpen) (λ tt. checks (option_or (settled on) (no_case on.ty at.statement))
+    (gives (subject_of on))))
 
 -- what follows `case`
 abbrev pub case_body : Place → ℕ → Statements → Returned → Grammar (Said StmtTree)
@@ -357,7 +382,8 @@ statement_with frame levels inner in_arm returned =
 -- a statement, with so many levels below it at most
 abbrev pub statement_form : Frame → ℕ → Statements
 statement_form frame zero = statement_with frame zero nothing
-statement_form frame (suc levels) = statement_with frame (suc levels) (deeper levels (statement_form frame levels))
+statement_form frame (suc levels) =
+    statement_with frame (suc levels) (deeper levels (statement_form frame levels))
 
 -- the statements one level deeper, where so many levels are left
 abbrev pub below : Frame → ℕ → Deeper

@@ -24,7 +24,8 @@ use Rattle.ixp_lang_stmts.specs.declared.body.Returned.{Returned as HeldReturned
 
 -- the label that begins with this number
 abbrev pub range_end : ℕ → Grammar Label
-range_end low = choice (sequence (the_mark Range) (λ tt. sequence a_number (λ high. gives (Between low high)))) (gives (Between low low))
+range_end low = choice (sequence (the_mark Range)
+    (λ tt. sequence a_number (λ high. gives (Between low high)))) (gives (Between low low))
 
 -- a `case` at the place about a value of this type
 abbrev pub case_for : ValueType → ℕ → Case
@@ -59,9 +60,11 @@ abbrev pub behind_else : Bool → List Kind → Option (List Kind)
 behind_else in_arm tokens = unless_colon in_arm (behind (is_word (codes "else")) tokens)
 
 -- what is read of what an `if` does else, where this follows its `else`
-abbrev pub else_read : Frame → Deeper → Bool → Returned → List Kind → Option (List Kind) → Read (Said (List StmtTree))
+abbrev pub else_read : Frame → Deeper → Bool → Returned → List Kind → Option (List Kind)
+    → Read (Said (List StmtTree))
 else_read frame inner in_arm returned tokens None = Ok (said returned [], tokens)
-else_read frame inner in_arm returned tokens (Some others) = read (branch_form frame inner in_arm returned) others
+else_read frame inner in_arm returned tokens (Some others) =
+    read (branch_form frame inner in_arm returned) others
 
 -- what a `case` is about
 abbrev pub subject_view : HeldSubject → Subject

@@ -43,4 +43,5 @@ begins_with test (b ∷ bs) = test b
 
 -- The longest run of bytes of the class at the front of the text is this, and the rest is behind it.
 abbrev pub Run : Class → List ℕ → List ℕ → List ℕ → Type 0
-Run class text run rest = (text ≡ run ++ rest) × (list_all (is_in class) run ≡ true) × (begins_with (is_in class) rest ≡ false)
+Run class text run rest = (text ≡ run ++ rest) × (list_all (is_in class) run ≡ true)
+    × (begins_with (is_in class) rest ≡ false)

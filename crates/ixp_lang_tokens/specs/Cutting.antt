@@ -57,7 +57,8 @@ behind_number mark (b ∷ bs) = if b == mark then behind_digits bs else None
 
 -- what is behind four numbers with dots
 unfoldable pub behind_dotted : List ℕ → Option (List ℕ)
-behind_dotted text = option_and_then (behind_number 46) (option_and_then (behind_number 46) (option_and_then (behind_number 46) (behind_digits text)))
+behind_dotted text = option_and_then (behind_number 46)
+    (option_and_then (behind_number 46) (option_and_then (behind_number 46) (behind_digits text)))
 
 abbrev pub is_colon : ℕ → Bool
 is_colon b = b == 58
@@ -133,7 +134,8 @@ mark_piece b (c ∷ rest) = double_piece b c rest (double_mark b c)
 
 abbrev pub text_with : List ℕ → List ℕ → List ℕ → Piece
 text_with bs run [] = piece shape.Stray [] bs
-text_with bs run (b ∷ behind) = if b == 34 && nat_le (length run) 64 then piece shape.Text run behind else piece shape.Stray [] bs
+text_with bs run (b ∷ behind) =
+    if b == 34 && nat_le (length run) 64 then piece shape.Text run behind else piece shape.Stray [] bs
 
 -- what is left of a string behind its opening quote
 unfoldable pub text_piece : List ℕ → Piece
@@ -160,11 +162,13 @@ piece_at text = piece_with text (behind_address text)
 
 -- No IPv6 address begins at a rest of the text of which more than `plain` bytes are left.
 abbrev pub Plain : List ℕ → ℕ → Type 0
-Plain text plain = (front rest : List ℕ) → text ≡ front ++ rest → plain < length rest → is_colon_text rest ≡ false
+Plain text plain = (front rest : List ℕ) → text ≡ front ++ rest → plain < length rest
+    → is_colon_text rest ≡ false
 
 -- the same number behind the first token of the text: where that ends within the run of an address, none
 -- begins in the rest of the run
 abbrev pub plain_behind : List ℕ → List ℕ → ℕ → ℕ
 plain_behind text after plain =
-    if nat_le (length text) plain && not (begins_with (λ b. b == 46) text) && nat_lt (length (behind_run class.Address text)) (length after)
+    if nat_le (length text) plain && not (begins_with (λ b. b == 46) text)
+    && nat_lt (length (behind_run class.Address text)) (length after)
     then length (behind_run class.Address text) else plain

@@ -18,7 +18,8 @@ abbrev pub Blank : List ℕ → List ℕ → Type 0
 Blank text rest =
     ((b : ℕ) × (is_blank b ≡ true) × (text ≡ b ∷ rest))
     ⊎ ((behind line : List ℕ) × (text ≡ 35 ∷ behind) × Run Line behind line rest)
-    ⊎ ((comment : List ℕ) × (text ≡ 47 ∷ 42 ∷ (comment ++ (42 ∷ 47 ∷ rest))) × ¬ (HasEnd (comment ++ (42 ∷ []))))
+    ⊎ ((comment : List ℕ) × (text ≡ 47 ∷ 42 ∷ (comment ++ (42 ∷ 47 ∷ rest)))
+    × ¬ (HasEnd (comment ++ (42 ∷ []))))
 
 -- so many of them
 abbrev pub Blanks : ℕ → List ℕ → List ℕ → Type 0

@@ -33,16 +33,19 @@ pub data Grammar : Type 0 → Type 1 where
   here : {A : Type 0} → (ℕ → Grammar A) → Grammar A
 
 -- n rounds that go on, and one that is the last
-abbrev pub Rounds : {S A : Type 0} → (S → Step S A → List Kind → List Kind → Type 0) → ℕ → S → A → List Kind → List Kind → Type 0
+abbrev pub Rounds : {S A : Type 0} → (S → Step S A → List Kind → List Kind → Type 0) → ℕ → S → A → List Kind
+    → List Kind → Type 0
 Rounds R zero s v tokens rest = R s (done v) tokens rest
-Rounds {S} R (suc n) s v tokens rest = (t : S) × (mid : List Kind) × R s (onward t) tokens mid × Rounds R n t v mid rest
+Rounds {S} R (suc n) s v tokens rest =
+    (t : S) × (mid : List Kind) × R s (onward t) tokens mid × Rounds R n t v mid rest
 
 -- A text of the grammar that says v stands at the front of the tokens, and the rest is behind it.
 abbrev pub Took : {A : Type 0} → Grammar A → A → List Kind → List Kind → Type 0
 Took (gives w) v tokens rest = (v ≡ w) × (tokens ≡ rest)
 Took (takes class) v [] rest = ⊥
 Took (takes class) v (token ∷ tokens) rest = (class token ≡ Some v) × (tokens ≡ rest)
-Took (sequence {A = B} f g) v tokens rest = (b : B) × (mid : List Kind) × Took f b tokens mid × Took (g b) v mid rest
+Took (sequence {A = B} f g) v tokens rest =
+    (b : B) × (mid : List Kind) × Took f b tokens mid × Took (g b) v mid rest
 Took (choice f g) v tokens rest = Took f v tokens rest ⊎ Took g v tokens rest
 Took (rounds f s) v tokens rest = (n : ℕ) × Rounds (λ t. Took (f t)) n s v tokens rest
 Took (checks fault f) v tokens rest = (fault ≡ None) × Took f v tokens rest

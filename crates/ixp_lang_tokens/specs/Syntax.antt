@@ -17,7 +17,8 @@ abbrev pub spot : ℕ → List Kind → Spot
 spot number tokens = (number, tokens)
 
 -- n rounds that go on, and one that is the last
-abbrev pub FineRounds : {S A : Type 0} → (S → Step S A → Spot → Spot → Type 0) → ℕ → S → A → Spot → Spot → Type 0
+abbrev pub FineRounds : {S A : Type 0} → (S → Step S A → Spot → Spot → Type 0) → ℕ → S → A → Spot → Spot
+    → Type 0
 FineRounds R zero s v x y = R s (done v) x y
 FineRounds {S} R (suc n) s v x y = (t : S) × (z : Spot) × R s (onward t) x z × FineRounds R n t v z y
 
@@ -126,7 +127,8 @@ pub record StopsAt (Longer Text : List Kind → Type 0) (tokens : List Kind) (le
   pub parts : tokens ≡ front ++ rest
   pub left_is : left ≡ length rest
   pub begins : (more : List Kind) × Longer (front ++ more)
-  pub no_more : (token : Kind) (others more : List Kind) → rest ≡ token ∷ others → ¬ (Text (front ++ token ∷ more))
+  pub no_more : (token : Kind) (others more : List Kind) → rest ≡ token ∷ others
+      → ¬ (Text (front ++ token ∷ more))
   pub not_in : ¬ (Text tokens)
 
 -- A check refuses a reading where `rest` is next. What is before that place is, with the token that stands
@@ -136,5 +138,6 @@ pub record RefusedAt {A : Type 0} (g : Grammar A) (tokens : List Kind) : Type 0 
   pub rest : List Kind
   pub parts : tokens ≡ front ++ rest
   pub refuses : scan g (spot (length tokens) tokens) ≡ refused rest
-  pub no_more : (token : Kind) (others more : List Kind) → rest ≡ token ∷ others → ¬ (IsLawfulText g (length tokens) (front ++ token ∷ more))
+  pub no_more : (token : Kind) (others more : List Kind) → rest ≡ token ∷ others
+      → ¬ (IsLawfulText g (length tokens) (front ++ token ∷ more))
   pub not_in : ¬ (IsLawfulText g (length tokens) tokens)

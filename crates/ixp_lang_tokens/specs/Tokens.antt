@@ -67,33 +67,41 @@ AreDotted text =
 -- An IPv6 address stands at the front, well formed or not: the longest run of hexadecimal digits, `:` and
 -- `.`, if it has two colons or more and doesn't begin with a dot.
 abbrev pub ColonRun : List ℕ → List ℕ → List ℕ → Type 0
-ColonRun text run rest = Run class.Address text run rest × (begins_with (λ b. b == 46) text ≡ false) × (2 ≤ colons run)
+ColonRun text run rest = Run class.Address text run rest × (begins_with (λ b. b == 46) text ≡ false)
+    × (2 ≤ colons run)
 
 -- An address stands at the front: that, or else four numbers with dots.
 abbrev pub AddressRun : List ℕ → List ℕ → List ℕ → Type 0
 AddressRun text run rest =
     ColonRun text run rest
-    ⊎ (((other behind : List ℕ) → ¬ (ColonRun text other behind)) × (text ≡ run ++ rest) × AreDotted run × (begins_with is_digit rest ≡ false))
+    ⊎ (((other behind : List ℕ) → ¬ (ColonRun text other behind)) × (text ≡ run ++ rest) × AreDotted run
+    × (begins_with is_digit rest ≡ false))
 
 abbrev pub NoAddress : List ℕ → Type 0
 NoAddress text = (run rest : List ℕ) → ¬ (AddressRun text run rest)
 
 -- a slash and digits, the longest run of them
 abbrev pub LengthRun : List ℕ → List ℕ → List ℕ → Type 0
-LengthRun text run rest = (behind digits : List ℕ) × (text ≡ 47 ∷ behind) × (run ≡ 47 ∷ digits) × (0 < length digits) × Run class.Digit behind digits rest
+LengthRun text run rest = (behind digits : List ℕ) × (text ≡ 47 ∷ behind) × (run ≡ 47 ∷ digits)
+    × (0 < length digits) × Run class.Digit behind digits rest
 
 -- How a text is cut: a piece of this shape stands at its front, and the rest is behind it. A string's piece
 -- is what stands between the quotes; of a mark the shape says all, and the piece is empty.
 abbrev pub Cut : Shape → List ℕ → List ℕ → List ℕ → Type 0
-Cut shape.Address text piece rest = AddressRun text piece rest × ((run behind : List ℕ) → ¬ (LengthRun rest run behind))
-Cut shape.Prefix text piece rest = (addr mid run : List ℕ) × AddressRun text addr mid × LengthRun mid run rest × (piece ≡ addr ++ run)
+Cut shape.Address text piece rest =
+    AddressRun text piece rest × ((run behind : List ℕ) → ¬ (LengthRun rest run behind))
+Cut shape.Prefix text piece rest =
+    (addr mid run : List ℕ) × AddressRun text addr mid × LengthRun mid run rest × (piece ≡ addr ++ run)
 Cut shape.Number text piece rest = NoAddress text × (0 < length piece) × Run class.Digit text piece rest
-Cut shape.Word text piece rest = NoAddress text × (begins_with is_letter text ≡ true) × Run class.Word text piece rest
-Cut shape.Text text piece rest = (text ≡ 34 ∷ (piece ++ (34 ∷ rest))) × (list_all (is_in class.Text) piece ≡ true) × (length piece ≤ 64)
+Cut shape.Word text piece rest =
+    NoAddress text × (begins_with is_letter text ≡ true) × Run class.Word text piece rest
+Cut shape.Text text piece rest =
+    (text ≡ 34 ∷ (piece ++ (34 ∷ rest))) × (list_all (is_in class.Text) piece ≡ true) × (length piece ≤ 64)
 -- the longest mark
 Cut (shape.Mark m) text piece rest =
     NoAddress text × (piece ≡ []) × (text ≡ mark_text m ++ rest)
-    × ((other : Mark) (behind : List ℕ) → text ≡ mark_text other ++ behind → length (mark_text other) ≤ length (mark_text m))
+    × ((other : Mark) (behind : List ℕ) → text ≡ mark_text other ++ behind
+    → length (mark_text other) ≤ length (mark_text m))
 -- this one is cut where no other is
 Cut shape.Stray text piece rest = ⊥
 
@@ -111,12 +119,15 @@ number_kind (Err fault) = kind.BadNumber
 
 -- a word of 1 to 64 bytes is a keyword or a name
 abbrev pub word_kind : List ℕ → Kind
-word_kind word = if is_name word then (if is_keyword word then kind.Word word else kind.Name word) else kind.BadByte
+word_kind word = if is_name word then (if is_keyword word then kind.Word word else kind.Name word)
+    else kind.BadByte
 
 -- What a piece says. A number is at most 4294967295 and has no leading zero, as an AS number has none.
 abbrev pub Says : Shape → List ℕ → Kind → Type 0
-Says shape.Address piece k = (answer : Result Addr NumFault) × AddrAnswer piece answer × (k ≡ addr_kind answer)
-Says shape.Prefix piece k = (answer : Result Prefix NumFault) × PrefixAnswer piece answer × (k ≡ prefix_kind answer)
+Says shape.Address piece k =
+    (answer : Result Addr NumFault) × AddrAnswer piece answer × (k ≡ addr_kind answer)
+Says shape.Prefix piece k = (answer : Result Prefix NumFault) × PrefixAnswer piece answer
+    × (k ≡ prefix_kind answer)
 Says shape.Number piece k = (answer : Result Asn NumFault) × AsnAnswer piece answer × (k ≡ number_kind answer)
 Says shape.Word piece k = k ≡ word_kind piece
 Says shape.Text piece k = k ≡ kind.Text piece
@@ -129,7 +140,8 @@ Stray text = (text ≢ []) × ((s : Shape) (piece rest : List ℕ) → ¬ (Cut s
 
 -- This token stands at the front of the text, and the rest is behind it.
 abbrev pub Stands : Kind → List ℕ → List ℕ → Type 0
-Stands k text rest = ((s : Shape) × (piece : List ℕ) × Cut s text piece rest × Says s piece k) ⊎ (Stray text × (k ≡ kind.BadByte))
+Stands k text rest = ((s : Shape) × (piece : List ℕ) × Cut s text piece rest × Says s piece k)
+    ⊎ (Stray text × (k ≡ kind.BadByte))
 
 -- no token follows one that stands in no text: a byte that begins none, a number without a value, `/`
 abbrev pub is_last : Kind → Bool

@@ -6,10 +6,12 @@ abbrev pub profile_words : List (List ℕ)
 profile_words =
     -- items
     codes "router" ∷ codes "id" ∷ codes "table" ∷ codes "ipv4" ∷ codes "ipv6" ∷ codes "roa4" ∷ codes "roa6"
-    ∷ codes "define" ∷ codes "function" ∷ codes "filter" ∷ codes "protocol" ∷ codes "device" ∷ codes "pipe" ∷ codes "bgp"
+    ∷ codes "define" ∷ codes "function" ∷ codes "filter" ∷ codes "protocol" ∷ codes "device" ∷ codes "pipe"
+    ∷ codes "bgp"
     -- what stands in a protocol
     ∷ codes "peer" ∷ codes "import" ∷ codes "export" ∷ codes "all" ∷ codes "none" ∷ codes "local" ∷ codes "as"
-    ∷ codes "neighbor" ∷ codes "rs" ∷ codes "client" ∷ codes "password" ∷ codes "limit" ∷ codes "action" ∷ codes "block"
+    ∷ codes "neighbor" ∷ codes "rs" ∷ codes "client" ∷ codes "password" ∷ codes "limit" ∷ codes "action"
+    ∷ codes "block"
     -- types
     ∷ codes "int" ∷ codes "bool" ∷ codes "ip" ∷ codes "prefix" ∷ codes "pair" ∷ codes "lc" ∷ codes "set"
     -- statements

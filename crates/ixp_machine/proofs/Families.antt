@@ -1,17 +1,11 @@
 -- Prefixes of a family.
-use Rattle.std.proofs.Common.{◌≡◌, true, List, [], ◌∷◌, refl}
+use Rattle.std.proofs.Common.{◌≡◌, true, List, [], ◌∷◌}
 use Rattle.std.specs.List.{AllByRecursion, list_all}
 use Rattle.std.proofs.lemmas.Bool.{and_parts}
 use Rattle.ixp_num.specs.declared.family.Family.{Family}
-use Rattle.ixp_num.specs.declared.family.Family.TheVariants.{V4, V6}
 use Rattle.ixp_num.specs.declared.prefix.Prefix.{Prefix}
 use Rattle.ixp_num.specs.Families.{same_family}
-
-one_family : (f g : Family) → same_family f g ≡ true → f ≡ g
-one_family V4 V4 e = refl
-one_family V4 V6 e = absurd (let h : ⊥ = cc in h)
-one_family V6 V4 e = absurd (let h : ⊥ = cc in h)
-one_family V6 V6 e = refl
+use Rattle.ixp_plan.proofs.Prefixes.{one_family}
 
 pub of_family : (f : Family) (ps : List Prefix) → list_all (λ p. same_family p.family f) ps ≡ true → AllByRecursion (λ p. p.family ≡ f) ps
 of_family f [] e = tt

@@ -36,4 +36,5 @@ IsFor owner d = Unit {0}
 -- after how many accepted requests one with the number was accepted
 abbrev pub place_of : State → Owner → ℕ → Option ℕ
 place_of s owner n =
-    if_there (find kept_key (n ∷ []) (kept_of s.kept owner).numbers) (if nat_lt n (kept_of s.kept owner).floor then Some s.accepted else None) (λ k. Some k.place)
+    if_there (find kept_key (n ∷ []) (kept_of s.kept owner).numbers) (if nat_lt n (kept_of s.kept owner).floor
+    then Some s.accepted else None) (λ k. Some k.place)

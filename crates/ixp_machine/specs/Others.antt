@@ -11,4 +11,5 @@ use Rattle.ixp_machine_steps.specs.Views.{view}
 pub record LeavesOthers (m : ℕ) (s t : State) : Type 0 where
   pub members : (n : ℕ) → (n == m) ≡ false → view t n ≡ view s n
   pub staff : (n : ℕ) → kept_of t.kept (Staff n) ≡ kept_of s.kept (Staff n)
-  pub rest : ◌≡◌ {A = Registry} (record t.registry { members = s.registry.members; contacts = s.registry.contacts; rules = s.registry.rules }) s.registry
+  pub rest : ◌≡◌ {A = Registry}
+      (record t.registry { members = s.registry.members; contacts = s.registry.contacts; rules = s.registry.rules }) s.registry

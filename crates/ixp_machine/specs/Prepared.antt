@@ -1,7 +1,7 @@
 -- What becomes of a state by a request that is accepted.
 use Rattle.std.specs.Prelude.{◌≡◌, ◌+◌, None}
 use Rattle.ixp_num_tables.specs.Tables.{find}
-use Rattle.ixp_machine_effects.specs.Changes.{with_change}
+use Rattle.ixp_registry_change.specs.Changes.{with_change}
 use Rattle.ixp_machine_steps.specs.declared.state.State.{State}
 use Rattle.ixp_machine_steps.specs.Kept.{kept_key, kept_of, noted_for}
 use Rattle.ixp_machine.specs.declared.preparing.Prepared.{Prepared}

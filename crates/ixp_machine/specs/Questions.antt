@@ -46,7 +46,8 @@ unless_known r Dump = None
 
 -- why a question is refused that asks for a right: X0, X1 or X4
 abbrev pub refusal_without : Registry → List ℕ → Query → Right → Option Refusal
-refusal_without r secret q right = if_there (owner_of r secret) (Some NoKey) (λ owner. if has_right owner right then unless_known r q else Some (Denied right))
+refusal_without r secret q right = if_there (owner_of r secret) (Some NoKey)
+    (λ owner. if has_right owner right then unless_known r q else Some (Denied right))
 
 -- why a question is refused
 abbrev pub ask_refusal : Registry → List ℕ → Query → Option Refusal
@@ -54,7 +55,8 @@ ask_refusal r secret q = if_there (right_asked q) None (refusal_without r secret
 
 -- what a question that isn't refused is answered
 abbrev pub IsAnswer : Registry → Query → Answer → Type 0
-IsAnswer r (OfMember m) a = (row : Member) × (find member_key (m ∷ []) r.members ≡ Some row) × (a ≡ answer.Member row)
+IsAnswer r (OfMember m) a = (row : Member) × (find member_key (m ∷ []) r.members ≡ Some row)
+    × (a ≡ answer.Member row)
 IsAnswer r (Contacts m) a = a ≡ answer.Contacts (filter (λ c. c.member == m) r.contacts)
 IsAnswer r (Rules m) a = a ≡ answer.Rules (if_there (find rules_key (m ∷ []) r.rules) [] (λ l. l.rules))
 IsAnswer r (Use vlan f) a = (t : List ℕ) × IsReport r vlan f t × (a ≡ answer.Text t)

@@ -3,9 +3,10 @@ ghost use Rattle.std.specs.Prelude.{◌≡◌, ◌<◌, ◌-◌, ◌^◌, IfOk, 
 ghost use Rattle.ixp_members.specs.Owners.{owner_of};
 ghost use Rattle.ixp_machine_steps.specs.States.{ValidState};
 ghost use Rattle.ixp_machine_steps.specs.Steps.{Accepted, verdict, step};
+ghost use Rattle.ixp_machine.specs.Prepared as spec;
 
 use crate::decision::Reply;
-use crate::preparing::{carry_out, prepare};
+use crate::preparing::{Prepared, carry_out, prepare};
 use ixp_io::{Change, KeepFault, Keeper, Row, RowName};
 use ixp_machine_steps::{Entry, State};
 use ixp_members::rights;
@@ -40,6 +41,24 @@ impl Keeper for NoStore {
     }
 }
 
+/// Makes a request that was made ready, without a store. Where memory runs out, the state is as before.
+pub fn apply_prepared(
+    alloc: Global,
+    state: &mut State,
+    prepared: Prepared,
+) -> Result<Reply, AllocError>
+    requires room { state.old.accepted < 2 ^ 64 - 1 }
+    requires fresh { spec.IsFresh state.old prepared }
+    ensures ok { OnOk result (state.new ≡ spec.prepared state.old prepared) }
+    ensures reply { IfOk result (λ r. r.number ≡ prepared.kept.number) }
+    ensures err { OnErr result (state.new ≡ state.old) }
+{
+    match carry_out(alloc, state, prepared, &mut NoStore, &[]) {
+        Ok(reply) => Ok(reply),
+        Err(_) => Err(AllocError),
+    }
+}
+
 /// Makes the edit of an owner's request that is accepted, and keeps its number. Where memory runs out, the
 /// state is as before.
 pub(crate) fn apply_for(
@@ -57,10 +76,7 @@ pub(crate) fn apply_for(
     ensures err { OnErr result (state.new ≡ state.old) }
 {
     let prepared = prepare(alloc, state, owner, entry)?;
-    match carry_out(alloc, state, prepared, &mut NoStore, &[]) {
-        Ok(reply) => Ok(reply),
-        Err(_) => Err(AllocError),
-    }
+    apply_prepared(alloc, state, prepared)
 }
 
 /// Makes the edit of a request that is accepted, and keeps its number. Where memory runs out, the state is as

@@ -8,9 +8,8 @@ ghost use Rattle.ixp_registry.specs.declared.members.Owner.{Owner as By};
 
 use crate::decision::{Decision, Reply};
 use crate::kept::{floor_of, kept_number};
-use crate::kinds::{kind_of, same_kind};
 use crate::rights::{has_right, right_of};
-use crate::subjects::{is_about, key_of};
+use crate::subjects::{is_repeat, key_of};
 use ixp_machine_refusals::refusal;
 use ixp_machine_steps::{Entry, KeptNumber, State};
 use ixp_members::rights;
@@ -22,7 +21,7 @@ fn repeated(kept: &KeptNumber, entry: &Entry) -> Decision
     ensures decision { Says entry.now.number (kept_says entry.now.edit kept.now) result }
     ensures unmade { (owner : Option By) → IsFor owner result }
 {
-    if same_kind(kept.kind, kind_of(&entry.edit)) && is_about(&kept.subject, &entry.edit) {
+    if is_repeat(kept, &entry.edit) {
         return Decision::Repeated(Reply {
             number: entry.number,
         });

@@ -14,18 +14,20 @@ ghost use Rattle.std.specs.Prelude.{
   IfSome,
   IfNone,
 };
-ghost use Rattle.ixp_machine_effects.specs.Changes.{with_change};
+ghost use Rattle.ixp_registry_change.specs.Changes.{with_change};
 ghost use Rattle.ixp_machine_effects.specs.Saving.{Saves};
 ghost use Rattle.ixp_machine.specs.Keeping.{trimmed};
 ghost use Rattle.ixp_registry.specs.Words.{owner_numbers};
 ghost use Rattle.ixp_machine_steps.specs.Kept.{kept_key, kept_of, kept_owner_key, noted, noted_for};
 ghost use Rattle.ixp_num_tables.specs.Tables.{Ascends, find, place};
 
+use crate::preparing::Prepared;
 use ixp_io::{Change, KeepFault, Keeper};
-use ixp_machine_effects::{RegistryChange, make};
+use ixp_machine_effects::make;
 use ixp_machine_steps::{KeptNumber, KeptOwner};
 use ixp_num_tables::{Row, Table};
 use ixp_registry::{Owner, Registry};
+use ixp_registry_change::RegistryChange;
 use std::alloc::Global;
 use std::cmp::Ordering;
 use std::mem;
@@ -104,29 +106,28 @@ fn carry_new<P: Keeper>(
     alloc: Global,
     registry: &mut Registry,
     kept: &mut Table<KeptOwner>,
-    owner: Owner,
-    number: KeptNumber,
-    change: RegistryChange,
+    prepared: Prepared,
     keeper: &mut P,
     batch: &[Change],
 ) -> Result<(), KeepFault>
-    requires { find kept_owner_key (owner_numbers owner) kept.old ≡ None }
-    ensures registry { OnOk result (registry.new ≡ with_change registry.old change) }
-    ensures kept { OnOk result (kept.new ≡ noted_for owner number kept.old) }
+    requires { find kept_owner_key (owner_numbers prepared.owner) kept.old ≡ None }
+    ensures registry { OnOk result (registry.new ≡ with_change registry.old prepared.change) }
+    ensures kept { OnOk result (kept.new ≡ noted_for prepared.owner prepared.kept kept.old) }
     ensures no_change { OnErr result (registry.new ≡ registry.old) }
     ensures no_row { OnErr result (kept.new ≡ kept.old) }
     ensures saved { Saves batch.now (P.table keeper.old) (P.table keeper.new) (P.faults keeper.old)
         (P.faults keeper.new) result }
     ensures counts { P.faults keeper.old ≤ P.faults keeper.new }
 {
+    let owner = prepared.owner;
     let mut numbers = Table::new(alloc);
-    numbers.put(number)?;
+    numbers.put(prepared.kept)?;
     kept.put(KeptOwner {
         owner,
         floor: 0,
         numbers,
     })?;
-    match make(alloc, registry, change, keeper, batch) {
+    match make(alloc, registry, prepared.change, keeper, batch) {
         Ok(()) => Ok(()),
         Err(fault) => {
             kept.take_out(&owner);
@@ -140,31 +141,29 @@ pub(crate) fn carry<P: Keeper>(
     alloc: Global,
     registry: &mut Registry,
     kept: &mut Table<KeptOwner>,
-    owner: Owner,
-    number: KeptNumber,
-    change: RegistryChange,
+    prepared: Prepared,
     keeper: &mut P,
     batch: &[Change],
 ) -> Result<(), KeepFault>
-    requires { find kept_key (kept_key number) (kept_of kept.old owner).numbers ≡ None }
-    ensures registry { OnOk result (registry.new ≡ with_change registry.old change) }
-    ensures kept { OnOk result (kept.new ≡ noted_for owner number kept.old) }
+    requires { find kept_key (kept_key prepared.kept) (kept_of kept.old prepared.owner).numbers ≡ None }
+    ensures registry { OnOk result (registry.new ≡ with_change registry.old prepared.change) }
+    ensures kept { OnOk result (kept.new ≡ noted_for prepared.owner prepared.kept kept.old) }
     ensures no_change { OnErr result (registry.new ≡ registry.old) }
     ensures no_row { OnErr result (kept.new ≡ kept.old) }
     ensures saved { Saves batch.now (P.table keeper.old) (P.table keeper.new) (P.faults keeper.old)
         (P.faults keeper.new) result }
     ensures counts { P.faults keeper.old ≤ P.faults keeper.new }
 {
-    let Some(at) = place_of(kept.as_slice(), owner) else {
-        return carry_new(alloc, registry, kept, owner, number, change, keeper, batch);
+    let Some(at) = place_of(kept.as_slice(), prepared.owner) else {
+        return carry_new(alloc, registry, kept, prepared, keeper, batch);
     };
     let mut rows = mem::replace(kept, Table::new(alloc)).into_rows();
     let outcome = carry_known(
         alloc,
         registry,
         &mut rows[at],
-        number,
-        change,
+        prepared.kept,
+        prepared.change,
         keeper,
         batch,
     );

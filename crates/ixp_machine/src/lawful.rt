@@ -1,4 +1,5 @@
-//! An edit keeps what the types of its fields keep.
+//! An edit keeps what the types of its fields keep. Nothing here does anything: the fields are read for
+//! proofs alone, since a proof knows what a type keeps of a value once the value is read.
 ghost use Rattle.std.specs.Prelude.{◌≡◌, true};
 ghost use Rattle.ixp_machine_edits.specs.declared.edit.Edit.TheVariants.{
   PutContact,
@@ -12,10 +13,11 @@ ghost use Rattle.ixp_registry.specs.Widths.{IsNumber, owner_number};
 ghost use Rattle.ixp_machine_steps.specs.Requests.{has_family};
 
 use crate::widths::{Fits, read_all};
-use ixp_machine_edits::{Edit, PublicList, RouterSettings};
+use ixp_machine_edits::{Edit, RouterSettings};
 use ixp_num::{Asn, Family, Prefix};
 use ixp_num_sorted::Sorted;
 use ixp_registry::Owner;
+use ixp_registry_change::PublicList;
 
 fn read_owner(owner: Owner)
     ensures { IsNumber (owner_number owner) }

@@ -23,7 +23,8 @@ pub fn members_ask_of_their_own()
         view s m ≡ view t m → ask_refusal s.registry a q ≡ ask_refusal t.registry b q }
     ensures answer { (s t : State) (m : ℕ) (secret : List ℕ) (q : Query) (right : Right) (x : Answer)
         → owner_of s.registry secret ≡ Some (Member m) →
-        right_asked q ≡ Some right → ask_refusal s.registry secret q ≡ None → view s m ≡ view t m → IsAnswer s.registry q x → IsAnswer t.registry q x }
+        right_asked q ≡ Some right → ask_refusal s.registry secret q ≡ None → view s m ≡ view t m
+        → IsAnswer s.registry q x → IsAnswer t.registry q x }
     ensures export { (s t : State) (second : ℕ) (x : Answer)
         → exchange_tree s.registry ≡ exchange_tree t.registry
         → members_tree s.registry ≡ members_tree t.registry →

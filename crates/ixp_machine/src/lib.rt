@@ -4,8 +4,9 @@
 //! `specs/Steps.antt` of `ixp_machine_steps` says what is decided of a request and which state comes after
 //! it, `specs/Questions.antt` here what a question is answered. [`apply`] changes a state in place. Where
 //! requests are stored, [`prepare`] and [`carry_out`] do so, with the store's batch between them: it is
-//! stored and the state changed, or neither. [`request`] decides requests to a valid state one after the
-//! other, makes each that is accepted, and leaves a valid state.
+//! stored and the state changed, or neither. [`prepare`] gives the change of one table that the edit comes
+//! to; nothing that is done with it later reads the edit. [`request`] decides requests to a valid state one
+//! after the other, makes each that is accepted, and leaves a valid state.
 #![tactic(auto)]
 
 mod applying;
@@ -14,7 +15,6 @@ mod deciding;
 mod decision;
 mod keeping;
 mod kept;
-mod kinds;
 mod lawful;
 mod laws;
 mod preparing;
@@ -24,7 +24,7 @@ mod subjects;
 mod turn;
 mod widths;
 
-pub use applying::apply;
+pub use applying::{apply, apply_prepared};
 pub use asking::ask;
 pub use deciding::decide;
 pub use decision::{Decision, Reply};

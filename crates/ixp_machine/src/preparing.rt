@@ -1,5 +1,6 @@
 //! Requests that are accepted, ready to be made.
 ghost use Rattle.std.specs.Prelude.{◌≡◌, ◌≤◌, ◌<◌, ◌-◌, ◌^◌, IfOk, OnOk, OnErr, Some, true};
+ghost use Rattle.ixp_machine_edits.specs.Edits.{change};
 ghost use Rattle.ixp_machine_effects.specs.Names.{has_name};
 ghost use Rattle.ixp_machine_effects.specs.Saving.{Saves};
 ghost use Rattle.ixp_machine.specs.Prepared as spec;
@@ -9,13 +10,13 @@ ghost use Rattle.ixp_machine_steps.specs.Steps.{Accepted, verdict, kept_entry, s
 
 use crate::decision::Reply;
 use crate::keeping::carry;
-use crate::kinds::kind_of;
-use crate::subjects::subject_of;
+use crate::subjects::said_of;
 use ixp_io::{Change, KeepFault, Keeper};
-use ixp_machine_effects::{RegistryChange, change_of};
+use ixp_machine_effects::change_of;
 use ixp_machine_refusals::{prefixes_after, weight_after};
 use ixp_machine_steps::{Entry, KeptNumber, State};
 use ixp_registry::Owner;
+use ixp_registry_change::RegistryChange;
 use std::alloc::{AllocError, Global};
 
 /// What becomes of the state by a request that is accepted.
@@ -35,10 +36,11 @@ fn kept_entry(alloc: Global, entry: &Entry, place: u64) -> Result<KeptNumber, Al
     requires { has_name entry.now.edit ≡ true }
     ensures { IfOk result (λ k. k ≡ kept_entry entry.now place) }
 {
+    let (kind, subject) = said_of(alloc, &entry.edit)?;
     Ok(KeptNumber {
         number: entry.number,
-        kind: kind_of(&entry.edit),
-        subject: subject_of(alloc, &entry.edit)?,
+        kind,
+        subject,
         place,
     })
 }
@@ -56,13 +58,14 @@ pub fn prepare(
     requires accepted { verdict state.now entry ≡ Accepted }
     requires room { state.now.accepted < 2 ^ 64 - 1 }
     ensures step { IfOk result (λ p. spec.prepared state.now p ≡ step state.now entry) }
+    ensures change { IfOk result (λ p. p.change ≡ change state.now.registry entry.edit) }
     ensures number { IfOk result (λ p. p.kept.number ≡ entry.number) }
     ensures fresh { IfOk result (spec.IsFresh state.now) }
 {
-    let weight = weight_after(alloc, &state.registry, state.weight, &entry.edit)?;
-    let prefixes = prefixes_after(&state.registry, state.prefixes, &entry.edit);
     let kept = kept_entry(alloc, &entry, state.accepted + 1)?;
     let change = change_of(alloc, &state.registry, entry.into_edit())?;
+    let weight = weight_after(&state.registry, state.weight, &change);
+    let prefixes = prefixes_after(&state.registry, state.prefixes, &change);
     Ok(Prepared {
         owner,
         kept,
@@ -90,18 +93,18 @@ pub fn carry_out<P: Keeper>(
     ensures counts { P.faults keeper.old ≤ P.faults keeper.new }
 {
     let number = prepared.kept.number;
+    let weight = prepared.weight;
+    let prefixes = prepared.prefixes;
     carry(
         alloc,
         &mut state.registry,
         &mut state.kept,
-        prepared.owner,
-        prepared.kept,
-        prepared.change,
+        prepared,
         keeper,
         batch,
     )?;
     state.accepted += 1;
-    state.weight = prepared.weight;
-    state.prefixes = prepared.prefixes;
+    state.weight = weight;
+    state.prefixes = prefixes;
     Ok(Reply { number })
 }

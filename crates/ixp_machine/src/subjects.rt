@@ -1,15 +1,23 @@
-//! What edits are about.
-ghost use Rattle.std.specs.Prelude.{◌≡◌, true, IfOk};
+//! Of which kind edits are, and what they are about.
+ghost use Rattle.std.specs.Prelude.{◌≡◌, ◌&&◌, true, IfOk};
 ghost use Rattle.ixp_machine_effects.specs.Names.{has_name};
 ghost use Rattle.ixp_num.specs.AddressForms.{version_of};
 ghost use Rattle.ixp_machine_steps.specs.declared.subject.Subject.TheVariants as form;
-ghost use Rattle.ixp_machine_steps.specs.Subjects.{subject_of, same_subject, public_place, public_kind};
+ghost use Rattle.ixp_machine_steps.specs.Subjects.{
+  kind_of,
+  subject_of,
+  same_kind,
+  same_subject,
+  public_place,
+  public_kind,
+};
 ghost use Rattle.ixp_machine.specs.Decisions.{Names};
 
-use ixp_machine_edits::{Edit, PublicList};
-use ixp_machine_steps::Subject;
+use ixp_machine_edits::Edit;
+use ixp_machine_steps::{KeptNumber, Subject};
 use ixp_num::{Family, Name};
-use ixp_registry::{Handle, PublicKind, RowKey};
+use ixp_registry::{EditKind, Handle, PublicKind, RowKey};
+use ixp_registry_change::PublicList;
 use std::alloc::{AllocError, Global};
 
 fn version_of(family: Family) -> u32
@@ -79,41 +87,96 @@ fn is_public(subject: &Subject, kind: PublicKind) -> bool
     }
 }
 
-/// Whether the edit is about this.
-pub(crate) fn is_about(subject: &Subject, edit: &Edit) -> bool
-    ensures { result ≡ same_subject subject.now (subject_of edit.now) }
+fn is_kind(kept: &KeptNumber, kind: EditKind) -> bool
+    ensures { result ≡ same_kind kept.now.kind kind }
+{
+    kept.kind.word().as_bytes() == kind.word().as_bytes()
+}
+
+fn says_number(kept: &KeptNumber, kind: EditKind, number: u32) -> bool
+    ensures { result
+        ≡ (same_kind kept.now.kind kind && same_subject kept.now.subject (form.Number number)) }
+{
+    is_kind(kept, kind) && is_number(&kept.subject, number)
+}
+
+fn says_pair(kept: &KeptNumber, kind: EditKind, first: u32, second: u32) -> bool
+    ensures { result
+        ≡ (same_kind kept.now.kind kind && same_subject kept.now.subject (form.Pair first second)) }
+{
+    is_kind(kept, kind) && is_pair(&kept.subject, first, second)
+}
+
+fn says_handle(kept: &KeptNumber, kind: EditKind, handle: &[u8]) -> bool
+    ensures { result
+        ≡ (same_kind kept.now.kind kind && same_subject kept.now.subject (form.Handle handle.now)) }
+{
+    is_kind(kept, kind) && is_handle(&kept.subject, handle)
+}
+
+fn says_public(kept: &KeptNumber, kind: EditKind, list: PublicKind) -> bool
+    ensures { result
+        ≡ (same_kind kept.now.kind kind && same_subject kept.now.subject (form.Public list)) }
+{
+    is_kind(kept, kind) && is_public(&kept.subject, list)
+}
+
+/// Whether the edit is of the kind and about what the kept number says.
+pub(crate) fn is_repeat(kept: &KeptNumber, edit: &Edit) -> bool
+    ensures { result ≡ (same_kind kept.now.kind (kind_of edit.now)
+        && same_subject kept.now.subject (subject_of edit.now)) }
 {
     match edit {
-        Edit::AddMember { number, .. } => is_number(subject, *number),
-        Edit::RenameMember { member, .. } => is_number(subject, *member),
-        Edit::MoveStatus { member, .. } => is_number(subject, *member),
-        Edit::SetMacro { member, .. } => is_number(subject, *member),
-        Edit::PutContact { member, place, .. } => is_pair(subject, *member, *place),
-        Edit::DropContact { member, place } => is_pair(subject, *member, *place),
-        Edit::AddKey { number, .. } => is_number(subject, *number),
-        Edit::DropKey { key } => is_number(subject, *key),
-        Edit::AddSwitch { number, .. } => is_number(subject, *number),
-        Edit::DropSwitch { switch } => is_number(subject, *switch),
-        Edit::AddPort { number, .. } => is_number(subject, *number),
-        Edit::AssignPort { port, .. } => is_number(subject, *port),
-        Edit::FreePort { port } => is_number(subject, *port),
-        Edit::DropPort { port } => is_number(subject, *port),
-        Edit::AddVlan { number, .. } => is_number(subject, *number),
-        Edit::DropVlan { vlan } => is_number(subject, *vlan),
-        Edit::AddInterface { number, .. } => is_number(subject, *number),
+        Edit::AddMember { number, .. } => says_number(kept, EditKind::AddMember, *number),
+        Edit::RenameMember { member, .. } => says_number(kept, EditKind::RenameMember, *member),
+        Edit::MoveStatus { member, .. } => says_number(kept, EditKind::MoveStatus, *member),
+        Edit::SetMacro { member, .. } => says_number(kept, EditKind::SetMacro, *member),
+        Edit::PutContact { member, place, .. } => says_pair(
+            kept,
+            EditKind::PutContact,
+            *member,
+            *place,
+        ),
+        Edit::DropContact { member, place } => says_pair(
+            kept,
+            EditKind::DropContact,
+            *member,
+            *place,
+        ),
+        Edit::AddKey { number, .. } => says_number(kept, EditKind::AddKey, *number),
+        Edit::DropKey { key } => says_number(kept, EditKind::DropKey, *key),
+        Edit::AddSwitch { number, .. } => says_number(kept, EditKind::AddSwitch, *number),
+        Edit::DropSwitch { switch } => says_number(kept, EditKind::DropSwitch, *switch),
+        Edit::AddPort { number, .. } => says_number(kept, EditKind::AddPort, *number),
+        Edit::AssignPort { port, .. } => says_number(kept, EditKind::AssignPort, *port),
+        Edit::FreePort { port } => says_number(kept, EditKind::FreePort, *port),
+        Edit::DropPort { port } => says_number(kept, EditKind::DropPort, *port),
+        Edit::AddVlan { number, .. } => says_number(kept, EditKind::AddVlan, *number),
+        Edit::DropVlan { vlan } => says_number(kept, EditKind::DropVlan, *vlan),
+        Edit::AddInterface { number, .. } => says_number(kept, EditKind::AddInterface, *number),
         Edit::SetAddress {
             interface,
             family,
             ..
-        } => is_pair(subject, *interface, version_of(*family)),
-        Edit::DropInterface { interface } => is_number(subject, *interface),
-        Edit::AddRouter { handle, .. } => is_handle(subject, handle.as_slice()),
-        Edit::SetRouter { handle, .. } => is_handle(subject, handle.as_bytes()),
-        Edit::DropRouter { handle } => is_handle(subject, handle.as_bytes()),
-        Edit::PutIrr { member, family, .. } => is_pair(subject, *member, version_of(*family)),
-        Edit::PutOrigins { member, family, .. } => is_pair(subject, *member, version_of(*family)),
-        Edit::SetRules { member, .. } => is_number(subject, *member),
-        Edit::PutPublic { list } => is_public(subject, public_kind(list)),
+        } => says_pair(kept, EditKind::SetAddress, *interface, version_of(*family)),
+        Edit::DropInterface { interface } => says_number(kept, EditKind::DropInterface, *interface),
+        Edit::AddRouter { handle, .. } => says_handle(kept, EditKind::AddRouter, handle.as_slice()),
+        Edit::SetRouter { handle, .. } => says_handle(kept, EditKind::SetRouter, handle.as_bytes()),
+        Edit::DropRouter { handle } => says_handle(kept, EditKind::DropRouter, handle.as_bytes()),
+        Edit::PutIrr { member, family, .. } => says_pair(
+            kept,
+            EditKind::PutIrr,
+            *member,
+            version_of(*family),
+        ),
+        Edit::PutOrigins { member, family, .. } => says_pair(
+            kept,
+            EditKind::PutOrigins,
+            *member,
+            version_of(*family),
+        ),
+        Edit::SetRules { member, .. } => says_number(kept, EditKind::SetRules, *member),
+        Edit::PutPublic { list } => says_public(kept, EditKind::PutPublic, public_kind(list)),
     }
 }
 
@@ -129,44 +192,69 @@ pub(crate) fn key_of(subject: &Subject) -> RowKey
     }
 }
 
-/// What the edit is about.
-pub(crate) fn subject_of(alloc: Global, edit: &Edit) -> Result<Subject, AllocError>
+/// The kind of the edit, and what the edit is about.
+pub(crate) fn said_of(alloc: Global, edit: &Edit) -> Result<(EditKind, Subject), AllocError>
     requires { has_name edit.now ≡ true }
-    ensures { IfOk result (λ s. s ≡ subject_of edit.now) }
+    ensures kind { IfOk result (λ s. s.0 ≡ kind_of edit.now) }
+    ensures subject { IfOk result (λ s. s.1 ≡ subject_of edit.now) }
 {
     match edit {
-        Edit::AddMember { number, .. } => Ok(Subject::Number(*number)),
-        Edit::RenameMember { member, .. } => Ok(Subject::Number(*member)),
-        Edit::MoveStatus { member, .. } => Ok(Subject::Number(*member)),
-        Edit::SetMacro { member, .. } => Ok(Subject::Number(*member)),
-        Edit::PutContact { member, place, .. } => Ok(Subject::Pair(*member, *place)),
-        Edit::DropContact { member, place } => Ok(Subject::Pair(*member, *place)),
-        Edit::AddKey { number, .. } => Ok(Subject::Number(*number)),
-        Edit::DropKey { key } => Ok(Subject::Number(*key)),
-        Edit::AddSwitch { number, .. } => Ok(Subject::Number(*number)),
-        Edit::DropSwitch { switch } => Ok(Subject::Number(*switch)),
-        Edit::AddPort { number, .. } => Ok(Subject::Number(*number)),
-        Edit::AssignPort { port, .. } => Ok(Subject::Number(*port)),
-        Edit::FreePort { port } => Ok(Subject::Number(*port)),
-        Edit::DropPort { port } => Ok(Subject::Number(*port)),
-        Edit::AddVlan { number, .. } => Ok(Subject::Number(*number)),
-        Edit::DropVlan { vlan } => Ok(Subject::Number(*vlan)),
-        Edit::AddInterface { number, .. } => Ok(Subject::Number(*number)),
+        Edit::AddMember { number, .. } => Ok((EditKind::AddMember, Subject::Number(*number))),
+        Edit::RenameMember { member, .. } => Ok((EditKind::RenameMember, Subject::Number(*member))),
+        Edit::MoveStatus { member, .. } => Ok((EditKind::MoveStatus, Subject::Number(*member))),
+        Edit::SetMacro { member, .. } => Ok((EditKind::SetMacro, Subject::Number(*member))),
+        Edit::PutContact { member, place, .. } => Ok((
+            EditKind::PutContact,
+            Subject::Pair(*member, *place),
+        )),
+        Edit::DropContact { member, place } => Ok((
+            EditKind::DropContact,
+            Subject::Pair(*member, *place),
+        )),
+        Edit::AddKey { number, .. } => Ok((EditKind::AddKey, Subject::Number(*number))),
+        Edit::DropKey { key } => Ok((EditKind::DropKey, Subject::Number(*key))),
+        Edit::AddSwitch { number, .. } => Ok((EditKind::AddSwitch, Subject::Number(*number))),
+        Edit::DropSwitch { switch } => Ok((EditKind::DropSwitch, Subject::Number(*switch))),
+        Edit::AddPort { number, .. } => Ok((EditKind::AddPort, Subject::Number(*number))),
+        Edit::AssignPort { port, .. } => Ok((EditKind::AssignPort, Subject::Number(*port))),
+        Edit::FreePort { port } => Ok((EditKind::FreePort, Subject::Number(*port))),
+        Edit::DropPort { port } => Ok((EditKind::DropPort, Subject::Number(*port))),
+        Edit::AddVlan { number, .. } => Ok((EditKind::AddVlan, Subject::Number(*number))),
+        Edit::DropVlan { vlan } => Ok((EditKind::DropVlan, Subject::Number(*vlan))),
+        Edit::AddInterface { number, .. } => Ok((EditKind::AddInterface, Subject::Number(*number))),
         Edit::SetAddress {
             interface,
             family,
             ..
-        } => Ok(Subject::Pair(*interface, version_of(*family))),
-        Edit::DropInterface { interface } => Ok(Subject::Number(*interface)),
+        } => Ok((
+            EditKind::SetAddress,
+            Subject::Pair(*interface, version_of(*family)),
+        )),
+        Edit::DropInterface { interface } => Ok((
+            EditKind::DropInterface,
+            Subject::Number(*interface),
+        )),
         Edit::AddRouter { handle, .. } => {
             let name = Name::new(alloc, handle.as_slice())?;
-            Ok(Subject::Handle(name))
+            Ok((EditKind::AddRouter, Subject::Handle(name)))
         }
-        Edit::SetRouter { handle, .. } => Ok(Subject::Handle(handle.copied(alloc)?)),
-        Edit::DropRouter { handle } => Ok(Subject::Handle(handle.copied(alloc)?)),
-        Edit::PutIrr { member, family, .. } => Ok(Subject::Pair(*member, version_of(*family))),
-        Edit::PutOrigins { member, family, .. } => Ok(Subject::Pair(*member, version_of(*family))),
-        Edit::SetRules { member, .. } => Ok(Subject::Number(*member)),
-        Edit::PutPublic { list } => Ok(Subject::Public(public_kind(list))),
+        Edit::SetRouter { handle, .. } => Ok((
+            EditKind::SetRouter,
+            Subject::Handle(handle.copied(alloc)?),
+        )),
+        Edit::DropRouter { handle } => Ok((
+            EditKind::DropRouter,
+            Subject::Handle(handle.copied(alloc)?),
+        )),
+        Edit::PutIrr { member, family, .. } => Ok((
+            EditKind::PutIrr,
+            Subject::Pair(*member, version_of(*family)),
+        )),
+        Edit::PutOrigins { member, family, .. } => Ok((
+            EditKind::PutOrigins,
+            Subject::Pair(*member, version_of(*family)),
+        )),
+        Edit::SetRules { member, .. } => Ok((EditKind::SetRules, Subject::Number(*member))),
+        Edit::PutPublic { list } => Ok((EditKind::PutPublic, Subject::Public(public_kind(list)))),
     }
 }

@@ -12,3 +12,4 @@ pub mod AddressEdits
 pub mod RouterEdits
 pub mod ListEdits
 pub mod AllEdits
+pub mod EditChanges

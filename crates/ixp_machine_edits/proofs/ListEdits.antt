@@ -24,11 +24,12 @@ use Rattle.ixp_registry.specs.Words.{is_action_of, is_lawful, pattern_has_bounds
 use Rattle.ixp_registry_laws.proofs.LineForms.{first_all}
 use Rattle.ixp_registry_laws.proofs.Truths.{holds as true_where}
 use Rattle.ixp_machine_edits.specs.declared.edit.NewRule.{NewRule}
-use Rattle.ixp_machine_edits.specs.declared.edit.PublicList.{PublicList}
-use Rattle.ixp_machine_edits.specs.declared.edit.PublicList.TheVariants.{Bogons, BogonAs, Transit, Roas}
+use Rattle.ixp_registry_change.specs.declared.change.PublicList.{PublicList}
+use Rattle.ixp_registry_change.specs.declared.change.PublicList.TheVariants.{Bogons, BogonAs, Transit, Roas}
 use Rattle.ixp_machine_edits.specs.Edits.{NewRuleFits, IsPublicList}
 use Rattle.ixp_machine_edits.specs.Tests.{first_refused}
-use Rattle.ixp_machine_edits.specs.Lists.{put_unless_empty, with_prefixes, prefixes_in, put_irr_tests, with_origins, put_origins_tests, placed, with_rules, is_bad, set_rules_tests, with_public, put_public_tests}
+use Rattle.ixp_machine_edits.specs.Lists.{put_unless_empty, with_prefixes, prefixes_in, put_irr_tests, with_origins, put_origins_tests, placed, with_rules, is_bad, set_rules_tests, put_public_tests}
+use Rattle.ixp_registry_change.specs.Changes.{with_public}
 use Rattle.ixp_machine_edits.proofs.Passing.{no_refusal, holds as allowed, unmapped, is_there, is_within, is_light}
 use Rattle.ixp_machine_edits.proofs.Frames.{irr_on, origins_on, rules_on, public_on}
 

@@ -19,7 +19,8 @@ use Rattle.ixp_machine_edits.specs.Tests.{Tests, refused, unless_there, taken_by
 
 -- AddKey
 abbrev pub with_key : ℕ → List ℕ → Owner → List ApiKey → List ApiKey
-with_key number secret owner ks = put api_key_key (record { number = number; owner = owner; secret = secret }) ks
+with_key number secret owner ks =
+    put api_key_key (record { number = number; owner = owner; secret = secret }) ks
 
 -- staff owners have no row
 abbrev pub unless_owner_there : List Member → Owner → Option Refusal

@@ -38,8 +38,10 @@ add_vlan_tests r v =
     ∷ refused (not (is_of V4 v.v4)) (OtherFamily V4)
     ∷ refused (not (is_of V6 v.v6)) (OtherFamily V6)
     ∷ exists (λ u. Number u.number) (find vlan_key (v.number ∷ []) r.vlans)
-    ∷ option_map (λ u. Overlap u.number) (first_with (λ u. list_any (overlaps_any (vlan_prefixes u)) (vlan_prefixes v)) r.vlans)
-    ∷ refused (v.number == 0 || not (list_all is_vlan_length (vlan_prefixes v) && nat_le 1 v.tag && nat_le v.tag 4094)) (BadRule 0)
+    ∷ option_map (λ u. Overlap u.number)
+    (first_with (λ u. list_any (overlaps_any (vlan_prefixes u)) (vlan_prefixes v)) r.vlans)
+    ∷ refused (v.number == 0 || not (list_all is_vlan_length (vlan_prefixes v) && nat_le 1 v.tag
+    && nat_le v.tag 4094)) (BadRule 0)
     ∷ full Vlans (length r.vlans) 64 ∷ []
 
 -- DropVlan
@@ -54,7 +56,8 @@ drop_vlan_tests r vlan =
 
 -- AddInterface
 abbrev pub new_interface : ℕ → ℕ → ℕ → ℕ → Interface
-new_interface number member port vlan = record { number = number; member = member; port = port; vlan = vlan; v4 = None; v6 = None }
+new_interface number member port vlan =
+    record { number = number; member = member; port = port; vlan = vlan; v4 = None; v6 = None }
 
 abbrev pub with_interface : ℕ → ℕ → ℕ → ℕ → List Interface → List Interface
 with_interface number member port vlan is = put interface_key (new_interface number member port vlan) is
@@ -71,7 +74,8 @@ add_interface_tests r number member port vlan =
     unless_there (find member_key (member ∷ []) r.members) Members (Number member)
     ∷ unless_there (find port_key (port ∷ []) r.ports) Ports (Number port)
     ∷ unless_there (find vlan_key (vlan ∷ []) r.vlans) Vlans (Number vlan)
-    ∷ if_there (find port_key (port ∷ []) r.ports) None (λ p. refused (not (p.member == member)) (PortTaken (holder_of p)))
+    ∷ if_there (find port_key (port ∷ []) r.ports) None
+    (λ p. refused (not (p.member == member)) (PortTaken (holder_of p)))
     ∷ exists (λ i. Number i.number) (find interface_key (number ∷ []) r.interfaces)
     ∷ refused (has_left r.members member) (StatusMove Left Connected)
     ∷ refused (number == 0) (BadRule 0)

@@ -9,7 +9,6 @@ use Rattle.ixp_num_tables.specs.Sums.{total}
 use Rattle.ixp_registry.specs.declared.kind.Kind.TheVariants.{Members, Prefixes, Origins, Rules, Bogons as BogonRows, BogonAs as BogonAsRows, Transit as TransitRows, Roas as RoaRows}
 use Rattle.ixp_registry.specs.declared.lists.IrrList.{IrrList}
 use Rattle.ixp_registry.specs.declared.lists.OriginList.{OriginList}
-use Rattle.ixp_registry.specs.declared.lists.PublicLists.{PublicLists}
 use Rattle.ixp_registry.specs.declared.rules.MemberRule.{MemberRule}
 use Rattle.ixp_registry.specs.declared.rules.RuleList.{RuleList}
 use Rattle.ixp_registry.specs.declared.refusal.Refusal.TheVariants.{BadRule}
@@ -21,8 +20,8 @@ use Rattle.ixp_registry.specs.Words.{is_action_of, pattern_has_bounds, range_asc
 use Rattle.ixp_machine_edits.specs.declared.edit.Edit.{Edit}
 use Rattle.ixp_machine_edits.specs.declared.edit.Edit.TheVariants.{SetRules}
 use Rattle.ixp_machine_edits.specs.declared.edit.NewRule.{NewRule}
-use Rattle.ixp_machine_edits.specs.declared.edit.PublicList.{PublicList}
-use Rattle.ixp_machine_edits.specs.declared.edit.PublicList.TheVariants.{Bogons, BogonAs, Transit, Roas}
+use Rattle.ixp_registry_change.specs.declared.change.PublicList.{PublicList}
+use Rattle.ixp_registry_change.specs.declared.change.PublicList.TheVariants.{Bogons, BogonAs, Transit, Roas}
 use Rattle.ixp_machine_edits.specs.Tests.{Tests, refused, unless_there, beyond, too_heavy}
 
 -- the row in its place, or no row where it would be a list without an item
@@ -32,7 +31,8 @@ put_unless_empty key r (x ∷ xs) rs = put key r rs
 
 -- PutIrr
 abbrev pub with_prefixes : ℕ → Family → List Prefix → List IrrList → List IrrList
-with_prefixes member family ps ls = put_unless_empty irr_key (record { member = member; family = family; prefixes = ps }) ps ls
+with_prefixes member family ps ls =
+    put_unless_empty irr_key (record { member = member; family = family; prefixes = ps }) ps ls
 
 -- how many prefixes all lists have
 abbrev pub prefixes_in : List IrrList → ℕ
@@ -47,7 +47,8 @@ put_irr_tests r member family ps =
 
 -- PutOrigins
 abbrev pub with_origins : ℕ → Family → List Asn → List OriginList → List OriginList
-with_origins member family asns ls = put_unless_empty origins_key (record { member = member; family = family; asns = asns }) asns ls
+with_origins member family asns ls =
+    put_unless_empty origins_key (record { member = member; family = family; asns = asns }) asns ls
 
 abbrev pub put_origins_tests : Registry → ℕ → Family → List Asn → Tests
 put_origins_tests r member family asns =
@@ -61,7 +62,8 @@ placed member place (x ∷ xs) =
     record { member = member; place = place; way = x.way; peer = x.peer; prefix = x.prefix; action = x.action } ∷ placed member (suc place) xs
 
 abbrev pub with_rules : ℕ → List NewRule → List RuleList → List RuleList
-with_rules member xs ls = put_unless_empty rules_key (record { member = member; rules = placed member 1 xs }) xs ls
+with_rules member xs ls = put_unless_empty rules_key
+    (record { member = member; rules = placed member 1 xs }) xs ls
 
 -- the action isn't one of the way, or the peer is AS 0
 abbrev pub is_bad : NewRule → Bool
@@ -74,17 +76,14 @@ set_rules_tests r member xs =
     ∷ beyond Rules (length xs) 64 ∷ []
 
 -- PutPublic
-abbrev pub with_public : PublicList → PublicLists → PublicLists
-with_public (Bogons xs) p = record p { bogons = xs }
-with_public (BogonAs xs) p = record p { bogon_as = xs }
-with_public (Transit xs) p = record p { transit = xs }
-with_public (Roas xs) p = record p { roas = xs }
-
 abbrev pub put_public_tests : PublicList → Tests
-put_public_tests (Bogons xs) = refused (not (list_all pattern_has_bounds xs)) (BadRule 0) ∷ beyond BogonRows (length xs) 10000 ∷ []
-put_public_tests (BogonAs xs) = refused (not (list_all range_ascends xs)) (BadRule 0) ∷ beyond BogonAsRows (length xs) 10000 ∷ []
+put_public_tests (Bogons xs) =
+    refused (not (list_all pattern_has_bounds xs)) (BadRule 0) ∷ beyond BogonRows (length xs) 10000 ∷ []
+put_public_tests (BogonAs xs) =
+    refused (not (list_all range_ascends xs)) (BadRule 0) ∷ beyond BogonAsRows (length xs) 10000 ∷ []
 put_public_tests (Transit xs) = beyond TransitRows (length xs) 10000 ∷ []
-put_public_tests (Roas xs) = refused (not (list_all roa_has_bounds xs)) (BadRule 0) ∷ beyond RoaRows (length xs) 1000000 ∷ []
+put_public_tests (Roas xs) =
+    refused (not (list_all roa_has_bounds xs)) (BadRule 0) ∷ beyond RoaRows (length xs) 1000000 ∷ []
 
 -- what the type of a request keeps: the rules of a list can be counted in 32 bits
 abbrev pub has_few_rules : Edit → Bool

@@ -54,7 +54,8 @@ abbrev pub move_status_tests : Registry → ℕ → Status → Tests
 move_status_tests r member to =
     of_there (find member_key (member ∷ []) r.members) Members (Number member)
     (λ m. refused (not (may_move m.status to)) (StatusMove m.status to)
-    ∷ in_use_by Interfaces (λ i. Number i.number) (first_with (λ i. is_left to && i.member == member) r.interfaces)
+    ∷ in_use_by Interfaces (λ i. Number i.number)
+    (first_with (λ i. is_left to && i.member == member) r.interfaces)
     ∷ too_heavy (weight (with_status member to r.members) r.interfaces r.routers r.irr) ∷ [])
 
 -- SetMacro
@@ -68,7 +69,8 @@ set_macro_tests r member as_macro =
 
 -- PutContact. A contact that is there is replaced, and takes no more room.
 abbrev pub new_contact : ℕ → ℕ → List ℕ → List ℕ → List ℕ → Contact
-new_contact member place name mail role = record { member = member; place = place; role = role; mail = mail; name = name }
+new_contact member place name mail role =
+    record { member = member; place = place; role = role; mail = mail; name = name }
 
 abbrev pub with_contact : ℕ → ℕ → List ℕ → List ℕ → List ℕ → List Contact → List Contact
 with_contact member place name mail role cs = put contact_key (new_contact member place name mail role) cs
@@ -83,7 +85,8 @@ put_contact_tests r member place name mail role =
     ∷ refused (not (is_note mail)) (BadText Mail)
     ∷ refused (not (is_note role)) (BadText Role)
     ∷ refused (place == 0) (BadRule 0)
-    ∷ if_there (find contact_key (member ∷ place ∷ []) r.contacts) (full Contacts (contacts_of member r.contacts) 16) (λ c. None) ∷ []
+    ∷ if_there (find contact_key (member ∷ place ∷ []) r.contacts)
+    (full Contacts (contacts_of member r.contacts) 16) (λ c. None) ∷ []
 
 -- DropContact
 abbrev pub without_contact : ℕ → ℕ → List Contact → List Contact

@@ -34,7 +34,8 @@ drop_switch_tests r switch =
 
 -- AddPort
 abbrev pub new_port : ℕ → ℕ → List ℕ → ℕ → Port
-new_port number switch name speed = record { number = number; switch = switch; speed = speed; member = 0; name = name }
+new_port number switch name speed =
+    record { number = number; switch = switch; speed = speed; member = 0; name = name }
 
 abbrev pub with_port : ℕ → ℕ → List ℕ → ℕ → List Port → List Port
 with_port number switch name speed ps = put port_key (new_port number switch name speed) ps

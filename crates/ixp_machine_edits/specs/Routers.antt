@@ -42,7 +42,8 @@ holds_blackhole q i = if_there q.blackhole false (λ b. has_addr b i)
 -- X15: bounds beyond the family's lengths, too many communities, or a blackhole address for AS 65535, whose
 -- communities are the well-known ones (RFC 1997)
 abbrev pub is_beyond_bounds : Router → Bool
-is_beyond_bounds q = not (has_bounds q && nat_le q.max_comms 1000 && not (is_some q.blackhole && q.asn.0 == 65535))
+is_beyond_bounds q = not (has_bounds q && nat_le q.max_comms 1000
+    && not (is_some q.blackhole && q.asn.0 == 65535))
 
 -- AddRouter
 abbrev pub new_router : List ℕ → ℕ → Family → Addr → RouterSettings → Router
@@ -68,7 +69,8 @@ add_router_tests r q =
     unless_there (find vlan_key (q.vlan ∷ []) r.vlans) Vlans (Number q.vlan)
     ∷ refused (not (is_handle q.handle)) (BadText HandleText)
     ∷ refused (is_no_router_asn r q.asn.0) (AsnReserved q.asn)
-    ∷ refused (not (same_family q.addr.family q.family && is_some (prefix_in r.vlans q.vlan q.family) && blackhole_has_family q)) (OtherFamily q.family)
+    ∷ refused (not (same_family q.addr.family q.family && is_some (prefix_in r.vlans q.vlan q.family)
+    && blackhole_has_family q)) (OtherFamily q.family)
     ∷ refused (not (is_host_in r.vlans q.vlan q.family q.addr && blackhole_is_host r q)) (Outside q.vlan)
     ∷ taken_by Interfaces (λ i. Number i.number) (first_with (has_addr q.addr) r.interfaces)
     ∷ taken_by Routers (λ p. Handle p.handle) (router_with r q.addr)
@@ -82,7 +84,8 @@ add_router_tests r q =
 
 -- SetRouter
 abbrev pub with_settings : RouterSettings → Router → Router
-with_settings s q = record q { asn = s.asn; id = s.id; low = s.low; high = s.high; rpki = s.rpki; blackhole = s.blackhole; max_comms = s.max_comms }
+with_settings s q =
+    record q { asn = s.asn; id = s.id; low = s.low; high = s.high; rpki = s.rpki; blackhole = s.blackhole; max_comms = s.max_comms }
 
 abbrev pub set_routers : List ℕ → RouterSettings → List Router → List Router
 set_routers handle s qs = changed router_key handle (with_settings s) qs

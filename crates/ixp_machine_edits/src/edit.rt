@@ -1,7 +1,8 @@
 //! What may be changed.
-use ixp_num::{Addr, Asn, Family, Items, Name, Pattern, Prefix, Roa};
+use ixp_num::{Addr, Asn, Family, Items, Name, Prefix};
 use ixp_num_sorted::Sorted;
 use ixp_registry::{Action, IfAddr, Owner, Status, Way};
+use ixp_registry_change::PublicList;
 
 /// A rule of a member, without its place.
 #[derive(Clone, Copy, Debug)]
@@ -30,15 +31,6 @@ pub struct RouterSettings {
     pub blackhole: Option<Addr>,
     /// How many communities a route may have; 0 is no limit.
     pub max_comms: u32,
-}
-
-/// A list that all route servers share.
-#[derive(Debug, Drop)]
-pub enum PublicList {
-    Bogons(Sorted<Pattern>),
-    BogonAs(Sorted<(Asn, Asn)>),
-    Transit(Sorted<Asn>),
-    Roas(Sorted<Roa>),
 }
 
 /// What is to be changed. `Add` makes a row and `Drop` deletes it; the other kinds replace a row, a field or

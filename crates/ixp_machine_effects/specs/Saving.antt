@@ -9,7 +9,9 @@ use Rattle.ixp_io.specs.Told.{Told}
 
 -- All changes of the batch were made, or none. The store's count of faults rose exactly where a fault of the
 -- store is answered.
-abbrev pub Saves : {A : Type 0} → List Change → Option Table → Option Table → ℕ → ℕ → Result A KeepFault → Type 0
-Saves batch rows rows' faults faults' (Ok a) = Told rows rows' (λ before now. now ≡ changed before batch) × (faults' ≡ faults)
+abbrev pub Saves : {A : Type 0} → List Change → Option Table → Option Table → ℕ → ℕ → Result A KeepFault
+    → Type 0
+Saves batch rows rows' faults faults' (Ok a) =
+    Told rows rows' (λ before now. now ≡ changed before batch) × (faults' ≡ faults)
 Saves batch rows rows' faults faults' (Err Failed) = (rows' ≡ rows) × Rose faults faults'
 Saves batch rows rows' faults faults' (Err NoMemory) = (rows' ≡ rows) × (faults' ≡ faults)

@@ -1,18 +1,18 @@
 //! What edits of route servers, lists and rules change.
 ghost use Rattle.std.specs.Prelude.{◌≡◌, ◌<◌, ◌^◌, ◌-◌, ◌++◌, [], ◌∷◌, length, IfOk, IsTrue};
-ghost use Rattle.ixp_num.specs.AddressForms.{version_of};
 ghost use Rattle.ixp_num.specs.Names.{is_name};
-ghost use Rattle.ixp_machine_edits.specs.Lists.{with_prefixes, with_origins, placed, with_rules, with_public};
-ghost use Rattle.ixp_machine_edits.specs.Routers.{new_router, with_settings, set_routers};
-ghost use Rattle.ixp_machine_effects.specs.Changes.{changed_rows};
-ghost use Rattle.ixp_registry.specs.Keys.{router_key, irr_key, origins_key, rules_key};
+ghost use Rattle.ixp_machine_edits.specs.Lists.{placed};
+ghost use Rattle.ixp_machine_edits.specs.Routers.{new_router, with_settings};
+ghost use Rattle.ixp_registry_change.specs.Changes.{changed_row, row_or_none, with_public};
+ghost use Rattle.ixp_registry.specs.Keys.{router_key};
+ghost use Rattle.ixp_num_tables.specs.Tables.{find};
 
-use crate::change::TableChange;
-use ixp_machine_edits::{NewRule, PublicList, RouterSettings};
+use ixp_machine_edits::{NewRule, RouterSettings};
 use ixp_num::{Addr, Asn, Family, Items, Name, Prefix};
 use ixp_num_sorted::Sorted;
 use ixp_num_tables::{Copied, Table};
 use ixp_registry::{IrrList, MemberRule, OriginList, PublicLists, Router, RuleList};
+use ixp_registry_change::{PublicList, TableChange};
 use std::alloc::{AllocError, Global};
 
 pub(crate) fn new_router(
@@ -63,7 +63,7 @@ pub(crate) fn set_router(
     settings: RouterSettings,
 ) -> Result<TableChange<Router, Name>, AllocError>
     ensures { IfOk result
-        (λ c. changed_rows router_key (λ k. k) c routers.now ≡ set_routers handle.now settings routers.now) }
+        (λ c. c ≡ changed_row (with_settings settings) (find router_key handle.now routers.now)) }
 {
     let Some(found) = routers.find(handle) else {
         return Ok(TableChange::Keep);
@@ -73,13 +73,12 @@ pub(crate) fn set_router(
 }
 
 pub(crate) fn put_irr(
-    lists: &Table<IrrList>,
     member: u32,
     family: Family,
     prefixes: Sorted<Prefix>,
 ) -> TableChange<IrrList, (u32, Family)>
-    ensures { changed_rows irr_key (λ k. k.0 ∷ version_of k.1 ∷ []) result lists.now
-        ≡ with_prefixes member family prefixes lists.now }
+    ensures { result ≡ row_or_none (record { member = member; family = family; prefixes = prefixes })
+        (member, family) prefixes }
 {
     if prefixes.as_slice().first().is_none() {
         return TableChange::Take((member, family));
@@ -92,13 +91,12 @@ pub(crate) fn put_irr(
 }
 
 pub(crate) fn put_origins(
-    lists: &Table<OriginList>,
     member: u32,
     family: Family,
     asns: Sorted<Asn>,
 ) -> TableChange<OriginList, (u32, Family)>
-    ensures { changed_rows origins_key (λ k. k.0 ∷ version_of k.1 ∷ []) result lists.now
-        ≡ with_origins member family asns lists.now }
+    ensures { result ≡ row_or_none (record { member = member; family = family; asns = asns })
+        (member, family) asns }
 {
     if asns.as_slice().first().is_none() {
         return TableChange::Take((member, family));
@@ -134,13 +132,13 @@ fn placed(alloc: Global, member: u32, rules: &[NewRule]) -> Result<Items<MemberR
 
 pub(crate) fn set_rules(
     alloc: Global,
-    lists: &Table<RuleList>,
     member: u32,
     rules: &[NewRule],
 ) -> Result<TableChange<RuleList, u32>, AllocError>
     requires { length rules.now < 2 ^ 32 - 1 }
     ensures { IfOk result
-        (λ c. changed_rows rules_key (λ k. k ∷ []) c lists.now ≡ with_rules member rules.now lists.now) }
+        (λ c. c ≡ row_or_none (record { member = member; rules = placed member 1 rules.now }) member
+        rules.now) }
 {
     if rules.first().is_none() {
         return Ok(TableChange::Take(member));

@@ -1,17 +1,15 @@
 //! A change is made, and stored.
 ghost use Rattle.std.specs.Prelude.{◌≡◌, ◌≤◌, OnOk, OnErr};
-ghost use Rattle.ixp_machine_edits.specs.Lists.{with_public};
-ghost use Rattle.ixp_machine_effects.specs.Changes.{changed_rows, with_change};
+ghost use Rattle.ixp_registry_change.specs.Changes.{with_public};
+ghost use Rattle.ixp_registry_change.specs.Changes.{changed_rows, with_change};
 ghost use Rattle.ixp_machine_effects.specs.Saving.{Saves};
 ghost use Rattle.ixp_num_tables.specs.Tables.{put};
 
-use crate::change::{RegistryChange, TableChange};
-use crate::keyed::Keyed;
 use crate::lists::put_public;
 use ixp_io::{Change, KeepFault, Keeper};
-use ixp_machine_edits::PublicList;
 use ixp_num_tables::Table;
 use ixp_registry::{PublicLists, Registry};
+use ixp_registry_change::{Keyed, PublicList, RegistryChange, TableChange};
 use std::alloc::Global;
 
 /// Stores the batch, or leaves the store as it is.

@@ -1,14 +1,14 @@
 //! What edits of members, their contacts and API keys change.
 ghost use Rattle.std.specs.Prelude.{◌≡◌, [], ◌∷◌, IfOk};
-ghost use Rattle.ixp_machine_edits.specs.ApiKeys.{with_key};
-ghost use Rattle.ixp_machine_edits.specs.Members.{new_member, renamed, with_status, with_macro, new_contact};
-ghost use Rattle.ixp_machine_effects.specs.Changes.{changed_rows};
+ghost use Rattle.ixp_num_tables.specs.Tables.{find};
+ghost use Rattle.ixp_machine_edits.specs.Members.{new_member, new_contact};
+ghost use Rattle.ixp_registry_change.specs.Changes.{changed_row};
 ghost use Rattle.ixp_registry.specs.Keys.{member_key};
 
-use crate::change::TableChange;
 use ixp_num::{Asn, Items};
 use ixp_num_tables::{Copied, Table};
 use ixp_registry::{Contact, Member, Status};
+use ixp_registry_change::TableChange;
 use std::alloc::{AllocError, Global};
 
 pub(crate) fn new_member(alloc: Global, number: u32, asn: Asn, name: Items<u8>) -> Member
@@ -30,7 +30,7 @@ pub(crate) fn rename_member(
     name: Items<u8>,
 ) -> Result<TableChange<Member, u32>, AllocError>
     ensures { IfOk result
-        (λ c. changed_rows member_key (λ k. k ∷ []) c members.now ≡ renamed member name members.now) }
+        (λ c. c ≡ changed_row (λ m. record m { name = name }) (find member_key (member ∷ []) members.now)) }
 {
     let Some(found) = members.find(&member) else {
         return Ok(TableChange::Keep);
@@ -47,7 +47,7 @@ pub(crate) fn move_status(
     to: Status,
 ) -> Result<TableChange<Member, u32>, AllocError>
     ensures { IfOk result
-        (λ c. changed_rows member_key (λ k. k ∷ []) c members.now ≡ with_status member to members.now) }
+        (λ c. c ≡ changed_row (λ m. record m { status = to }) (find member_key (member ∷ []) members.now)) }
 {
     let Some(found) = members.find(&member) else {
         return Ok(TableChange::Keep);
@@ -64,7 +64,8 @@ pub(crate) fn set_macro(
     as_macro: Items<u8>,
 ) -> Result<TableChange<Member, u32>, AllocError>
     ensures { IfOk result
-        (λ c. changed_rows member_key (λ k. k ∷ []) c members.now ≡ with_macro member as_macro members.now) }
+        (λ c. c ≡ changed_row (λ m. record m { as_macro = as_macro })
+        (find member_key (member ∷ []) members.now)) }
 {
     let Some(found) = members.find(&member) else {
         return Ok(TableChange::Keep);

@@ -1,14 +1,15 @@
 //! What edits of ports and interfaces change.
 ghost use Rattle.std.specs.Prelude.{◌≡◌, [], ◌∷◌, IfOk};
-ghost use Rattle.ixp_machine_edits.specs.Interfaces.{addressed, new_interface, with_address};
-ghost use Rattle.ixp_machine_edits.specs.Ports.{new_port, assigned, freed};
-ghost use Rattle.ixp_machine_effects.specs.Changes.{changed_rows};
+ghost use Rattle.ixp_machine_edits.specs.Interfaces.{addressed, new_interface};
+ghost use Rattle.ixp_machine_edits.specs.Ports.{new_port};
+ghost use Rattle.ixp_num_tables.specs.Tables.{find};
+ghost use Rattle.ixp_registry_change.specs.Changes.{changed_row};
 ghost use Rattle.ixp_registry.specs.Keys.{port_key, interface_key};
 
-use crate::change::TableChange;
 use ixp_num::{Family, Items};
 use ixp_num_tables::{Copied, Table};
 use ixp_registry::{IfAddr, Interface, Port};
+use ixp_registry_change::TableChange;
 use std::alloc::{AllocError, Global};
 
 pub(crate) fn new_port(number: u32, switch: u32, name: Items<u8>, speed: u32) -> Port
@@ -30,7 +31,7 @@ pub(crate) fn assign_port(
     member: u32,
 ) -> Result<TableChange<Port, u32>, AllocError>
     ensures { IfOk result
-        (λ c. changed_rows port_key (λ k. k ∷ []) c ports.now ≡ assigned port member ports.now) }
+        (λ c. c ≡ changed_row (λ p. record p { member = member }) (find port_key (port ∷ []) ports.now)) }
 {
     let Some(found) = ports.find(&port) else {
         return Ok(TableChange::Keep);
@@ -45,7 +46,8 @@ pub(crate) fn free_port(
     ports: &Table<Port>,
     port: u32,
 ) -> Result<TableChange<Port, u32>, AllocError>
-    ensures { IfOk result (λ c. changed_rows port_key (λ k. k ∷ []) c ports.now ≡ freed port ports.now) }
+    ensures { IfOk result
+        (λ c. c ≡ changed_row (λ p. record p { member = 0 }) (find port_key (port ∷ []) ports.now)) }
 {
     let Some(found) = ports.find(&port) else {
         return Ok(TableChange::Keep);
@@ -87,8 +89,8 @@ pub(crate) fn set_address(
     address: IfAddr,
 ) -> Result<TableChange<Interface, u32>, AllocError>
     ensures { IfOk result
-        (λ c. changed_rows interface_key (λ k. k ∷ []) c interfaces.now
-        ≡ with_address interface family address interfaces.now) }
+        (λ c. c ≡ changed_row (addressed family address)
+        (find interface_key (interface ∷ []) interfaces.now)) }
 {
     let Some(found) = interfaces.find(&interface) else {
         return Ok(TableChange::Keep);

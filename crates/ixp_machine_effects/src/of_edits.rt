@@ -1,19 +1,18 @@
 //! What an edit of any kind changes.
 ghost use Rattle.std.specs.Prelude.{◌≡◌, IfOk, true};
-ghost use Rattle.ixp_machine_edits.specs.Edits.{next};
+ghost use Rattle.ixp_machine_edits.specs.Edits.{change};
 ghost use Rattle.ixp_machine_edits.specs.Lists.{has_few_rules};
-ghost use Rattle.ixp_machine_effects.specs.Changes.{with_change};
 ghost use Rattle.ixp_machine_effects.specs.Names.{has_name};
 
-use crate::change::{RegistryChange, TableChange};
 use crate::lists::{new_router, put_irr, put_origins, set_router, set_rules};
 use crate::members::{move_status, new_contact, new_member, rename_member, set_macro};
 use crate::network::{assign_port, free_port, new_interface, new_port, set_address};
 use ixp_machine_edits::Edit;
 use ixp_registry::{ApiKey, Registry, Switch, Vlan};
+use ixp_registry_change::{RegistryChange, TableChange};
 use std::alloc::{AllocError, Global};
 
-/// The change that makes the edit.
+/// The change of one table that makes the edit.
 pub fn change_of(
     alloc: Global,
     registry: &Registry,
@@ -21,7 +20,7 @@ pub fn change_of(
 ) -> Result<RegistryChange, AllocError>
     requires name { has_name edit ≡ true }
     requires rules { has_few_rules edit ≡ true }
-    ensures { IfOk result (λ c. with_change registry.now c ≡ next registry.now edit) }
+    ensures { IfOk result (λ c. c ≡ change registry.now edit) }
 {
     match edit {
         Edit::AddMember { number, asn, name } => {
@@ -139,14 +138,14 @@ pub fn change_of(
             member,
             family,
             prefixes,
-        } => Ok(RegistryChange::Irr(put_irr(&registry.irr, member, family, prefixes))),
+        } => Ok(RegistryChange::Irr(put_irr(member, family, prefixes))),
         Edit::PutOrigins {
             member,
             family,
             asns,
-        } => Ok(RegistryChange::Origins(put_origins(&registry.origins, member, family, asns))),
+        } => Ok(RegistryChange::Origins(put_origins(member, family, asns))),
         Edit::SetRules { member, rules } => {
-            let change = set_rules(alloc, &registry.rules, member, rules.as_slice())?;
+            let change = set_rules(alloc, member, rules.as_slice())?;
             Ok(RegistryChange::Rules(change))
         }
         Edit::PutPublic { list } => Ok(RegistryChange::Public(list)),

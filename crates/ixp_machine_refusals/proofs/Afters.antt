@@ -10,6 +10,7 @@ use Rattle.ixp_num_tables.specs.Sums.{total}
 use Rattle.ixp_num_tables.proofs.AllItems.{all_true}
 use Rattle.ixp_num_tables.proofs.SumLaws.{total_same, total_put, total_without}
 use Rattle.ixp_num_tables.proofs.TableLaws.{find-key, find-equal-key}
+use Rattle.ixp_registry.specs.declared.lists.IrrList.{IrrList}
 use Rattle.ixp_registry.specs.declared.members.Member.{Member}
 use Rattle.ixp_registry.specs.declared.members.Status.{Status}
 use Rattle.ixp_registry.specs.declared.network.IfAddr.{IfAddr}
@@ -20,7 +21,7 @@ use Rattle.ixp_registry.specs.Keys.{member_key, interface_key, router_key, irr_k
 use Rattle.ixp_registry.specs.Lookups.{is_connected, is_member_connected}
 use Rattle.ixp_registry.specs.Weight.{weight, interface_weight, vlan_weight, list_length}
 use Rattle.ixp_registry.specs.Words.{router_weight}
-use Rattle.ixp_machine_edits.specs.Interfaces.{addressed, with_address, without_interface}
+use Rattle.ixp_machine_edits.specs.Interfaces.{addressed, with_address}
 use Rattle.ixp_machine_edits.specs.Lists.{with_prefixes, prefixes_in}
 use Rattle.ixp_machine_edits.specs.Members.{with_status}
 use Rattle.ixp_machine_edits.specs.declared.edit.RouterSettings.{RouterSettings}
@@ -32,8 +33,10 @@ use Rattle.ixp_machine_refusals.specs.declared.change.NewRouters.{NewRouters}
 use Rattle.ixp_machine_refusals.specs.declared.parts.Part.{Part}
 use Rattle.ixp_machine_refusals.specs.declared.parts.Part.TheVariants.{OfMember, InVlan}
 use Rattle.ixp_machine_refusals.specs.Changes.{connected_by, vlan_weight_by, list_length_by, weight_by}
+use Rattle.ixp_machine_refusals.specs.ByTable.{HasLength, InPlace}
+use Rattle.ixp_registry_change.specs.declared.change.TableChange.TheVariants.{Put}
 use Rattle.ixp_machine_refusals.specs.Parts.{is_in, part_weight}
-use Rattle.ixp_machine_refusals.proofs.Lookings.{connected_then, length_then, routers_more, routers_set, routers_less}
+use Rattle.ixp_machine_refusals.proofs.Lookings.{connected_then, length_then, routers_more, routers_put, routers_set, routers_less}
 use Rattle.ixp_machine_refusals.proofs.Shifts.{shift, same_both}
 
 -- what interfaces weigh after the edit is what they weigh with the change, and out of the part it is what they weigh now
@@ -49,27 +52,41 @@ turned m n h = by_test (n == m) refl where
   by_test false e = refl
   by_test true e = absurd (eqb-false m n h (sym (eqb-true n m e)))
 
+-- where a member is connected or not instead
+pub members_after : (r : Registry) (ms : List Member) (member : ℕ) (connected : Bool)
+    → ((n : ℕ) → is_member_connected ms n ≡ (if member == n then connected else is_member_connected r.members n))
+    → (let c : Change = OfStatus (record { member = member; connected = connected }) in
+    weight ms r.interfaces r.routers r.irr + part_weight r Nothing (OfMember member) r.interfaces ≡ weight r.members r.interfaces r.routers r.irr + part_weight r c (OfMember member) r.interfaces)
+members_after r ms member connected now =
+    let c : Change = OfStatus (record { member = member; connected = connected }) in
+    by_part r c (OfMember member) (interface_weight ms r.routers r.irr)
+    (λ i. same_both (is_member_connected ms i.member) (connected_by r.members c i.member) (vlan_weight r.routers i.vlan) (vlan_weight r.routers i.vlan) (list_length r.irr i.member) (list_length r.irr i.member) i.v4 i.v6
+    (now i.member) (λ f. refl) (λ f. refl))
+    (λ i far. same_both (is_member_connected r.members i.member) (connected_by r.members c i.member) (vlan_weight r.routers i.vlan) (vlan_weight r.routers i.vlan) (list_length r.irr i.member) (list_length r.irr i.member) i.v4 i.v6
+    (sym (ap (λ b. if b then connected else is_member_connected r.members i.member) (turned i.member member far))) (λ f. refl) (λ f. refl))
+
 pub status_after : (r : Registry) (member : ℕ) (to : Status) (m : Member) → find member_key (member ∷ []) r.members ≡ Some m
     → (let c : Change = OfStatus (record { member = member; connected = is_connected to }) in
     weight (with_status member to r.members) r.interfaces r.routers r.irr + part_weight r Nothing (OfMember member) r.interfaces ≡ weight r.members r.interfaces r.routers r.irr + part_weight r c (OfMember member) r.interfaces)
 status_after r member to m found =
-    let c : Change = OfStatus (record { member = member; connected = is_connected to }) in
-    by_part r c (OfMember member) (interface_weight (with_status member to r.members) r.routers r.irr)
-    (λ i. same_both (is_member_connected (with_status member to r.members) i.member) (connected_by r.members c i.member) (vlan_weight r.routers i.vlan) (vlan_weight r.routers i.vlan) (list_length r.irr i.member) (list_length r.irr i.member) i.v4 i.v6
-    (connected_then member to m r.members i.member found) (λ f. refl) (λ f. refl))
-    (λ i far. same_both (is_member_connected r.members i.member) (connected_by r.members c i.member) (vlan_weight r.routers i.vlan) (vlan_weight r.routers i.vlan) (list_length r.irr i.member) (list_length r.irr i.member) i.v4 i.v6
-    (sym (ap (λ b. if b then is_connected to else is_member_connected r.members i.member) (turned i.member member far))) (λ f. refl) (λ f. refl))
+    members_after r (with_status member to r.members) member (is_connected to) (λ n. connected_then member to m r.members n found)
+
+-- where a list is as long instead
+pub lists_after : (r : Registry) (ls : List IrrList) (member : ℕ) (family : Family) (count : ℕ) → HasLength r.irr member family count ls
+    → (let c : Change = Length (record { member = member; family = family; length = count }) in
+    weight r.members r.interfaces r.routers ls + part_weight r Nothing (OfMember member) r.interfaces ≡ weight r.members r.interfaces r.routers r.irr + part_weight r c (OfMember member) r.interfaces)
+lists_after r ls member family count now =
+    let c : Change = Length (record { member = member; family = family; length = count }) in
+    by_part r c (OfMember member) (interface_weight r.members r.routers ls)
+    (λ i. same_both (is_member_connected r.members i.member) (is_member_connected r.members i.member) (vlan_weight r.routers i.vlan) (vlan_weight r.routers i.vlan) (list_length ls i.member) (list_length_by r.irr c i.member) i.v4 i.v6
+    refl (λ f. refl) (λ f. now i.member f))
+    (λ i far. same_both (is_member_connected r.members i.member) (is_member_connected r.members i.member) (vlan_weight r.routers i.vlan) (vlan_weight r.routers i.vlan) (list_length r.irr i.member) (list_length_by r.irr c i.member) i.v4 i.v6
+    refl (λ f. refl) (λ f. sym (ap (λ b. if b && same_family family f then count else list_length r.irr i.member f) (turned i.member member far))))
 
 pub list_after : (r : Registry) (member : ℕ) (family : Family) (ps : List Prefix)
     → (let c : Change = Length (record { member = member; family = family; length = length ps }) in
     weight r.members r.interfaces r.routers (with_prefixes member family ps r.irr) + part_weight r Nothing (OfMember member) r.interfaces ≡ weight r.members r.interfaces r.routers r.irr + part_weight r c (OfMember member) r.interfaces)
-list_after r member family ps =
-    let c : Change = Length (record { member = member; family = family; length = length ps }) in
-    by_part r c (OfMember member) (interface_weight r.members r.routers (with_prefixes member family ps r.irr))
-    (λ i. same_both (is_member_connected r.members i.member) (is_member_connected r.members i.member) (vlan_weight r.routers i.vlan) (vlan_weight r.routers i.vlan) (list_length (with_prefixes member family ps r.irr) i.member) (list_length_by r.irr c i.member) i.v4 i.v6
-    refl (λ f. refl) (λ f. length_then member family ps r.irr i.member f))
-    (λ i far. same_both (is_member_connected r.members i.member) (is_member_connected r.members i.member) (vlan_weight r.routers i.vlan) (vlan_weight r.routers i.vlan) (list_length r.irr i.member) (list_length_by r.irr c i.member) i.v4 i.v6
-    refl (λ f. refl) (λ f. sym (ap (λ b. if b && same_family family f then length ps else list_length r.irr i.member f) (turned i.member member far))))
+list_after r member family ps = lists_after r (with_prefixes member family ps r.irr) member family (length ps) (λ n f. length_then member family ps r.irr n f)
 
 pub routers_after : (r : Registry) (qs : List Router) (new : NewRouters) → ((vlan : ℕ) (f : Family) → vlan_weight qs vlan f ≡ vlan_weight_by r.routers (Routers new) vlan f)
     → weight r.members r.interfaces qs r.irr + part_weight r Nothing (InVlan new.vlan) r.interfaces ≡ weight r.members r.interfaces r.routers r.irr + part_weight r (Routers new) (InVlan new.vlan) r.interfaces
@@ -80,7 +97,7 @@ routers_after r qs new now =
     (λ i far. same_both (is_member_connected r.members i.member) (is_member_connected r.members i.member) (vlan_weight r.routers i.vlan) (vlan_weight_by r.routers (Routers new) i.vlan) (list_length r.irr i.member) (list_length r.irr i.member) i.v4 i.v6
     refl (λ f. sym (ap (λ b. if b && same_family new.family f then vlan_weight r.routers i.vlan f + new.more - new.less else vlan_weight r.routers i.vlan f) (turned i.vlan new.vlan far))) (λ f. refl))
 
--- an interface is changed, or taken out
+-- an interface is changed
 pub address_after : (r : Registry) (n : ℕ) (f : Family) (x : IfAddr) (i : Interface) → Ascends interface_key r.interfaces → find interface_key (n ∷ []) r.interfaces ≡ Some i
     → weight r.members (with_address n f x r.interfaces) r.routers r.irr + interface_weight r.members r.routers r.irr i ≡ weight r.members r.interfaces r.routers r.irr + interface_weight r.members r.routers r.irr (addressed f x i)
 address_after r n f x i up there =
@@ -89,12 +106,6 @@ address_after r n f x i up there =
     let here : find interface_key (i.number ∷ []) is ≡ Some i = find-equal-key interface_key (i.number ∷ []) (n ∷ []) is (find-key interface_key (n ∷ []) i is there) ∙ there in
     ap (λ js. total w js + w i) (changed_there interface_key (n ∷ []) (addressed f x) is i there)
     ∙ subst (λ (o : Option Interface). total w (put interface_key (addressed f x i) is) + if_there o 0 w ≡ total w is + w (addressed f x i)) here (total_put interface_key w (addressed f x i) is up)
-
-pub interface_after : (r : Registry) (n : ℕ) (i : Interface) → Ascends interface_key r.interfaces → find interface_key (n ∷ []) r.interfaces ≡ Some i
-    → weight r.members (without_interface n r.interfaces) r.routers r.irr + interface_weight r.members r.routers r.irr i ≡ weight r.members r.interfaces r.routers r.irr
-interface_after r n i up there =
-    let w = interface_weight r.members r.routers r.irr in
-    subst (λ (o : Option Interface). total w (without interface_key (n ∷ []) r.interfaces) + if_there o 0 w ≡ total w r.interfaces) there (total_without interface_key w (n ∷ []) r.interfaces up)
 
 -- routers: what there would be, by the change
 pub router_after : (r : Registry) (q : Router) → Ascends router_key r.routers → find router_key q.handle r.routers ≡ None
@@ -117,8 +128,31 @@ pub gone_after : (r : Registry) (handle : List ℕ) (p : Router) → Ascends rou
 gone_after r handle p up found = routers_after r (without_router handle r.routers) (record { vlan = p.vlan; family = p.family; more = 0; less = router_weight p }) (λ vlan f. routers_less p handle r.routers vlan f up found)
 
 -- how many prefixes all lists have
+pub prefixes_put : (r : Registry) (l : IrrList) → Ascends irr_key r.irr → prefixes_in (put irr_key l r.irr) + list_length r.irr l.member l.family ≡ prefixes_in r.irr + length l.prefixes
+prefixes_put r l up = total_put irr_key (λ l. length l.prefixes) l r.irr up
+
+pub prefixes_gone : (r : Registry) (member : ℕ) (family : Family) → Ascends irr_key r.irr → prefixes_in (without irr_key (member ∷ version_of family ∷ []) r.irr) + list_length r.irr member family ≡ prefixes_in r.irr
+prefixes_gone r member family up = total_without irr_key (λ l. length l.prefixes) (member ∷ version_of family ∷ []) r.irr up
+
 pub prefixes_after : (r : Registry) (member : ℕ) (family : Family) (ps : List Prefix) → Ascends irr_key r.irr → prefixes_in (with_prefixes member family ps r.irr) + list_length r.irr member family ≡ prefixes_in r.irr + length ps
-prefixes_after r member family [] up =
-    let e = total_without irr_key (λ l. length l.prefixes) (member ∷ version_of family ∷ []) r.irr up in
-    omega (arith, e)
-prefixes_after r member family (p ∷ ps) up = total_put irr_key (λ l. length l.prefixes) (record { member = member; family = family; prefixes = p ∷ ps }) r.irr up
+prefixes_after r member family [] up = let e = prefixes_gone r member family up in omega (arith, e)
+prefixes_after r member family (p ∷ ps) up = prefixes_put r (record { member = member; family = family; prefixes = p ∷ ps }) up
+
+-- interfaces, by the row that is put in or taken out
+pub interface_put : (r : Registry) (i : Interface) → Ascends interface_key r.interfaces
+    → weight r.members (put interface_key i r.interfaces) r.routers r.irr + if_there (find interface_key (i.number ∷ []) r.interfaces) 0 (interface_weight r.members r.routers r.irr)
+    ≡ weight r.members r.interfaces r.routers r.irr + interface_weight r.members r.routers r.irr i
+interface_put r i up = total_put interface_key (interface_weight r.members r.routers r.irr) i r.interfaces up
+
+pub interface_gone : (r : Registry) (n : ℕ) → Ascends interface_key r.interfaces
+    → weight r.members (without interface_key (n ∷ []) r.interfaces) r.routers r.irr + if_there (find interface_key (n ∷ []) r.interfaces) 0 (interface_weight r.members r.routers r.irr)
+    ≡ weight r.members r.interfaces r.routers r.irr
+interface_gone r n up = total_without interface_key (interface_weight r.members r.routers r.irr) (n ∷ []) r.interfaces up
+
+-- a router, by the row that is put in
+pub router_put : (r : Registry) (q : Router) → Ascends router_key r.routers → InPlace r.routers (Put q)
+    → (let new : NewRouters = record { vlan = q.vlan; family = q.family; more = router_weight q; less = if_there (find router_key q.handle r.routers) 0 router_weight } in
+    weight r.members r.interfaces (put router_key q r.routers) r.irr + part_weight r Nothing (InVlan q.vlan) r.interfaces ≡ weight r.members r.interfaces r.routers r.irr + part_weight r (Routers new) (InVlan q.vlan) r.interfaces)
+router_put r q up place =
+    routers_after r (put router_key q r.routers) (record { vlan = q.vlan; family = q.family; more = router_weight q; less = if_there (find router_key q.handle r.routers) 0 router_weight })
+    (λ vlan f. routers_put q r.routers vlan f up place)

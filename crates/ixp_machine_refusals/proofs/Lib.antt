@@ -3,3 +3,4 @@ pub mod Columning
 pub mod Lookings
 pub mod Shifts
 pub mod Weighing
+pub mod SmallChanges

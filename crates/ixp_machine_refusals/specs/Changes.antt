@@ -24,16 +24,19 @@ abbrev pub vlan_weight_by : List Router → Change → ℕ → Family → ℕ
 vlan_weight_by qs Nothing vlan f = vlan_weight qs vlan f
 vlan_weight_by qs (Status new) vlan f = vlan_weight qs vlan f
 vlan_weight_by qs (Length new) vlan f = vlan_weight qs vlan f
-vlan_weight_by qs (Routers new) vlan f = if new.vlan == vlan && same_family new.family f then vlan_weight qs vlan f + new.more - new.less else vlan_weight qs vlan f
+vlan_weight_by qs (Routers new) vlan f = if new.vlan == vlan && same_family new.family f
+    then vlan_weight qs vlan f + new.more - new.less else vlan_weight qs vlan f
 
 abbrev pub list_length_by : List IrrList → Change → ℕ → Family → ℕ
 list_length_by ls Nothing n f = list_length ls n f
 list_length_by ls (Status new) n f = list_length ls n f
-list_length_by ls (Length new) n f = if new.member == n && same_family new.family f then new.length else list_length ls n f
+list_length_by ls (Length new) n f =
+    if new.member == n && same_family new.family f then new.length else list_length ls n f
 list_length_by ls (Routers new) n f = list_length ls n f
 
 abbrev pub address_weight_by : List Router → List IrrList → Change → ℕ → ℕ → IfAddr → ℕ
-address_weight_by qs ls c member vlan a = if a.rs && a.irr then vlan_weight_by qs c vlan a.addr.family * list_length_by ls c member a.addr.family else 0
+address_weight_by qs ls c member vlan a = if a.rs && a.irr
+    then vlan_weight_by qs c vlan a.addr.family * list_length_by ls c member a.addr.family else 0
 
 abbrev pub column_weight_by : List Router → List IrrList → Change → ℕ → ℕ → Option IfAddr → ℕ
 column_weight_by qs ls c member vlan o = if_there o 0 (address_weight_by qs ls c member vlan)
@@ -41,7 +44,9 @@ column_weight_by qs ls c member vlan o = if_there o 0 (address_weight_by qs ls c
 -- what the sessions of an interface read then
 abbrev pub weight_by : Registry → Change → Interface → ℕ
 weight_by r c i =
-    if connected_by r.members c i.member then column_weight_by r.routers r.irr c i.member i.vlan i.v4 + column_weight_by r.routers r.irr c i.member i.vlan i.v6 else 0
+    if connected_by r.members c i.member
+    then column_weight_by r.routers r.irr c i.member i.vlan i.v4
+    + column_weight_by r.routers r.irr c i.member i.vlan i.v6 else 0
 
 -- the change is one that leaves each list and each VLAN with few rows
 abbrev pub IsSmall : Change → Type 0

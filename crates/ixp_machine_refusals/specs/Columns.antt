@@ -37,6 +37,7 @@ address_tests r q =
 abbrev pub placed_tests : Registry → Router → Tests
 placed_tests r q =
     refused (is_no_router_asn r q.asn.0) (AsnReserved q.asn)
-    ∷ refused (not (same_family q.addr.family q.family && is_some (prefix_in r.vlans q.vlan q.family) && blackhole_has_family q)) (OtherFamily q.family)
+    ∷ refused (not (same_family q.addr.family q.family && is_some (prefix_in r.vlans q.vlan q.family)
+    && blackhole_has_family q)) (OtherFamily q.family)
     ∷ refused (not (is_host_in r.vlans q.vlan q.family q.addr && blackhole_is_host r q)) (Outside q.vlan)
     ∷ address_tests r q

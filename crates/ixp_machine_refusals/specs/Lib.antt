@@ -1,3 +1,4 @@
+pub mod ByTable
 pub mod Changes
 pub mod Columns
 pub mod Parts

@@ -6,12 +6,12 @@ ghost use Rattle.ixp_registry.specs.Keys.{member_key, interface_key, router_key}
 ghost use Rattle.ixp_registry.specs.Valid.{Valid};
 ghost use Rattle.ixp_registry.specs.Weight.{weight};
 ghost use Rattle.ixp_registry.specs.Words.{router_weight};
-ghost use Rattle.ixp_machine_edits.specs.Interfaces.{with_address, without_interface};
+ghost use Rattle.ixp_machine_edits.specs.Interfaces.{with_address};
 ghost use Rattle.ixp_machine_edits.specs.Lists.{with_prefixes, prefixes_in};
 ghost use Rattle.ixp_machine_edits.specs.Members.{with_status};
 ghost use Rattle.ixp_machine_edits.specs.Routers.{with_settings, with_router, set_routers, without_router};
-ghost use Rattle.ixp_machine_refusals.specs.declared.change.Change.TheVariants.{Nothing, Routers};
-ghost use Rattle.ixp_machine_refusals.specs.declared.parts.Part.TheVariants.{InVlan};
+ghost use Rattle.ixp_machine_refusals.specs.declared.change.Change.TheVariants.{Nothing};
+ghost use Rattle.ixp_machine_refusals.specs.Changes.{IsSmall};
 ghost use Rattle.ixp_machine_refusals.specs.Parts.{part_weight};
 
 use crate::change::{Change, NewLength, NewRouters, NewStatus, addressed_weight, interface_weight};
@@ -23,7 +23,7 @@ use ixp_registry::{
 };
 
 /// With the member, which is there, in the status. `before` is the weight that there is, here and below.
-pub fn weight_with_status(registry: &Registry, before: u64, member: u32, to: Status) -> u64
+pub(crate) fn weight_with_status(registry: &Registry, before: u64, member: u32, to: Status) -> u64
     requires valid { Valid registry.now }
     requires weight { before
         ≡ weight registry.now.members registry.now.interfaces registry.now.routers registry.now.irr }
@@ -34,14 +34,12 @@ pub fn weight_with_status(registry: &Registry, before: u64, member: u32, to: Sta
 {
     let part = Part::OfMember(member);
     let connected = is_connected(to);
-    let old = part_weight(registry, Change::Nothing, part);
     let change = Change::Status(NewStatus { member, connected });
-    let new = part_weight(registry, change, part);
-    before + new - old
+    shifted(registry, before, change, part)
 }
 
 /// With the prefixes as the member's list of the family.
-pub fn weight_with_list(
+pub(crate) fn weight_with_list(
     registry: &Registry,
     before: u64,
     member: u32,
@@ -57,18 +55,16 @@ pub fn weight_with_list(
 {
     let part = Part::OfMember(member);
     let length = prefixes.len() as u64;
-    let old = part_weight(registry, Change::Nothing, part);
     let change = Change::Length(NewLength {
         member,
         family,
         length,
     });
-    let new = part_weight(registry, change, part);
-    before + new - old
+    shifted(registry, before, change, part)
 }
 
 /// With the address as the interface's one of the family; `interface` is the one with the number.
-pub fn weight_with_address(
+pub(crate) fn weight_with_address(
     registry: &Registry,
     before: u64,
     number: u32,
@@ -81,47 +77,30 @@ pub fn weight_with_address(
         ≡ weight registry.now.members registry.now.interfaces registry.now.routers registry.now.irr }
     requires there { find interface_key (number ∷ []) registry.now.interfaces ≡ Some interface.now }
     ensures { result ≡ weight registry.now.members
-        (with_address number family address.now registry.now.interfaces) registry.now.routers registry.now.irr }
+        (with_address number family address.now registry.now.interfaces) registry.now.routers
+        registry.now.irr }
 {
     let more = addressed_weight(registry, interface, family, address);
     before + more - interface_weight(registry, Change::Nothing, interface)
 }
 
-/// Without the interface, which is the one with the number.
-pub fn weight_without_interface(
-    registry: &Registry,
-    before: u64,
-    number: u32,
-    interface: &Interface,
-) -> u64
-    requires valid { Valid registry.now }
-    requires weight { before
-        ≡ weight registry.now.members registry.now.interfaces registry.now.routers registry.now.irr }
-    requires there { find interface_key (number ∷ []) registry.now.interfaces ≡ Some interface.now }
-    ensures { result ≡ weight registry.now.members
-        (without_interface number registry.now.interfaces) registry.now.routers registry.now.irr }
-{
-    before - interface_weight(registry, Change::Nothing, interface)
-}
-
-/// What routers of a family in a VLAN weigh.
-fn shifted(registry: &Registry, before: u64, new: NewRouters) -> u64
+/// With the change, by which the interfaces of the part weigh otherwise.
+pub(crate) fn shifted(registry: &Registry, before: u64, change: Change, part: Part) -> u64
     requires valid { Valid registry.now }
     requires weight { before ≤ 8000000 }
-    requires small { new.more ≤ 2 }
-    requires enough { part_weight registry.now Nothing (InVlan new.vlan) registry.now.interfaces
-        ≤ before + part_weight registry.now (Routers new) (InVlan new.vlan) registry.now.interfaces }
-    ensures { result + part_weight registry.now Nothing (InVlan new.vlan) registry.now.interfaces
-        ≡ before + part_weight registry.now (Routers new) (InVlan new.vlan) registry.now.interfaces }
+    requires small { IsSmall change }
+    requires enough { part_weight registry.now Nothing part registry.now.interfaces
+        ≤ before + part_weight registry.now change part registry.now.interfaces }
+    ensures { result + part_weight registry.now Nothing part registry.now.interfaces
+        ≡ before + part_weight registry.now change part registry.now.interfaces }
 {
-    let part = Part::InVlan(new.vlan);
     let old = part_weight(registry, Change::Nothing, part);
-    let new = part_weight(registry, Change::Routers(new), part);
+    let new = part_weight(registry, change, part);
     before + new - old
 }
 
 /// With the router, whose handle no router has.
-pub fn weight_with_router(registry: &Registry, before: u64, router: &Router) -> u64
+pub(crate) fn weight_with_router(registry: &Registry, before: u64, router: &Router) -> u64
     requires valid { Valid registry.now }
     requires weight { before
         ≡ weight registry.now.members registry.now.interfaces registry.now.routers registry.now.irr }
@@ -136,7 +115,12 @@ pub fn weight_with_router(registry: &Registry, before: u64, router: &Router) -> 
         more,
         less: 0,
     };
-    shifted(registry, before, new)
+    shifted(
+        registry,
+        before,
+        Change::Routers(new),
+        Part::InVlan(new.vlan),
+    )
 }
 
 fn settings_weight(settings: &RouterSettings) -> u64
@@ -147,7 +131,7 @@ fn settings_weight(settings: &RouterSettings) -> u64
 }
 
 /// With these settings of the router, which is the one with the handle.
-pub fn weight_with_settings(
+pub(crate) fn weight_with_settings(
     registry: &Registry,
     before: u64,
     handle: &Name,
@@ -169,11 +153,16 @@ pub fn weight_with_settings(
         more,
         less,
     };
-    shifted(registry, before, new)
+    shifted(
+        registry,
+        before,
+        Change::Routers(new),
+        Part::InVlan(new.vlan),
+    )
 }
 
 /// Without the router, which is the one with the handle.
-pub fn weight_without_router(
+pub(crate) fn weight_without_router(
     registry: &Registry,
     before: u64,
     handle: &Name,
@@ -193,11 +182,16 @@ pub fn weight_without_router(
         more: 0,
         less,
     };
-    shifted(registry, before, new)
+    shifted(
+        registry,
+        before,
+        Change::Routers(new),
+        Part::InVlan(new.vlan),
+    )
 }
 
 /// How many prefixes all lists have with these as the member's of the family; `before` is how many they have.
-pub fn prefixes_with_list(
+pub(crate) fn prefixes_with_list(
     registry: &Registry,
     before: u64,
     member: u32,

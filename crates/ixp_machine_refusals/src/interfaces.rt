@@ -21,9 +21,9 @@ ghost use Rattle.ixp_machine_edits.specs.Tests.{first_refused, refused, in_use_b
 ghost use Rattle.ixp_registry.specs.declared.kind.Kind.TheVariants as kind;
 ghost use Rattle.ixp_registry.specs.Weight.{weight_of};
 
+use crate::after::weight_with_address;
 use crate::counts::interfaces_of;
 use crate::refusing::{bad_text, exists, full, in_use, out_of_bounds, too_heavy, unknown};
-use crate::weight_with_address;
 use ixp_num::{Family, Prefix};
 use ixp_num_tables::Table;
 use ixp_plan::check_address;

@@ -5,15 +5,15 @@
 //! are supplied.
 //!
 //! The weight is how many rows of prefix lists all sessions read together. It is kept as a count, as the
-//! number of prefixes is: [`weight_after`] and [`prefixes_after`] give them after an edit from those that
-//! there are, and look only at the interfaces that the edit is about.
+//! number of prefixes is: [`weight_after`] and [`prefixes_after`] give them after a change of one table from
+//! those that there are, and look only at the interfaces that the change is about.
 #![tactic(auto)]
 
 mod after;
 mod api_keys;
+mod by_change;
 mod change;
 mod counts;
-mod counts_of_edits;
 mod interfaces;
 mod lists;
 mod members;
@@ -23,9 +23,5 @@ mod ports;
 mod refusing;
 mod routers;
 
-pub use after::{
-    prefixes_with_list, weight_with_address, weight_with_list, weight_with_router,
-    weight_with_settings, weight_with_status, weight_without_interface, weight_without_router,
-};
-pub use counts_of_edits::{prefixes_after, weight_after};
+pub use by_change::{prefixes_after, weight_after};
 pub use of_edits::refusal;

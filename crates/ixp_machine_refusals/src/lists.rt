@@ -15,11 +15,12 @@ ghost use Rattle.ixp_machine_edits.specs.Lists.{
 ghost use Rattle.ixp_machine_edits.specs.Tests.{first_refused, refused, beyond};
 ghost use Rattle.ixp_registry.specs.Weight.{weight_of};
 
+use crate::after::{prefixes_with_list, weight_with_list};
 use crate::refusing::{beyond, out_of_bounds, too_heavy, unknown};
-use crate::{prefixes_with_list, weight_with_list};
-use ixp_machine_edits::{NewRule, PublicList};
+use ixp_machine_edits::NewRule;
 use ixp_num::{Asn, Family, Pattern, Prefix, Roa};
 use ixp_registry::{Action, Kind, Refusal, Registry, Way, has_member};
+use ixp_registry_change::PublicList;
 
 /// `weight` and `prefixes` are the registry's.
 pub(crate) fn put_irr(

@@ -17,9 +17,9 @@ ghost use Rattle.ixp_registry.specs.declared.kind.Kind.TheVariants as kind;
 ghost use Rattle.ixp_registry.specs.declared.refusal.RowKey.TheVariants as key;
 ghost use Rattle.ixp_registry.specs.Weight.{weight_of};
 
+use crate::after::weight_with_status;
 use crate::counts::contacts_of;
 use crate::refusing::{bad_text, exists, full, in_use, out_of_bounds, too_heavy, unknown};
-use crate::weight_with_status;
 use ixp_members::may_move;
 use ixp_num::Asn;
 use ixp_registry::{

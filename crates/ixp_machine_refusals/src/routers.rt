@@ -46,9 +46,9 @@ ghost use Rattle.ixp_machine_edits.specs.Tests.{first_refused, taken_by};
 ghost use Rattle.ixp_machine_refusals.specs.Columns.{placed_tests, address_tests, last_tests};
 ghost use Rattle.ixp_registry.specs.Weight.{weight_of};
 
+use crate::after::{weight_with_router, weight_with_settings};
 use crate::members::is_reserved;
 use crate::refusing::{bad_text, full, out_of_bounds, taken, taken_by_router, too_heavy, unknown};
-use crate::{weight_with_router, weight_with_settings};
 use ixp_machine_edits::RouterSettings;
 use ixp_num::{Addr, Family, Name, same_addr};
 use ixp_registry::{

@@ -17,7 +17,8 @@ kept_owner_key o = owner_numbers o.owner
 
 -- what is kept for an owner; at first nothing
 abbrev pub kept_of : List KeptOwner → Owner → KeptOwner
-kept_of ks owner = if_there (find kept_owner_key (owner_numbers owner) ks) (record { owner = owner; floor = 0; numbers = [] }) (λ o. o)
+kept_of ks owner = if_there (find kept_owner_key (owner_numbers owner) ks)
+    (record { owner = owner; floor = 0; numbers = [] }) (λ o. o)
 
 -- without the least of these numbers, above which the floor is then
 abbrev pub without_least : KeptOwner → List KeptNumber → KeptOwner

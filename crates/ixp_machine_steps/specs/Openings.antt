@@ -7,4 +7,5 @@ use Rattle.ixp_registry.specs.Weight.{weight_of}
 
 -- nothing is kept of requests, none was accepted, and the counts are those of the rows
 abbrev pub first_state : Registry → State
-first_state r = record { registry = r; kept = []; accepted = 0; weight = weight_of r; prefixes = prefixes_in r.irr }
+first_state r =
+    record { registry = r; kept = []; accepted = 0; weight = weight_of r; prefixes = prefixes_in r.irr }

@@ -29,7 +29,8 @@ act_key owner number = number ∷ owner_numbers owner
 
 -- the owner and the number of a request, where it is accepted
 abbrev pub acts : State → Entry → List (List ℕ)
-acts s e = if_there (owner_of s.registry e.secret) [] (λ owner. if_accepted (verdict_of s owner e.number e.edit) (act_key owner e.number))
+acts s e = if_there (owner_of s.registry e.secret) []
+    (λ owner. if_accepted (verdict_of s owner e.number e.edit) (act_key owner e.number))
 
 -- those of all that are accepted in a run
 abbrev pub acted : State → List Entry → List (List ℕ)

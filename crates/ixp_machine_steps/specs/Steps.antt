@@ -38,7 +38,8 @@ first_said (Some v ∷ vs) = v
 
 -- what a number that is kept says of a request with it
 abbrev pub kept_says : Edit → KeptNumber → Verdict
-kept_says e k = if same_kind k.kind (kind_of e) && same_subject k.subject (subject_of e) then Repeated else Reused k.kind k.subject
+kept_says e k = if same_kind k.kind (kind_of e) && same_subject k.subject (subject_of e) then Repeated
+    else Reused k.kind k.subject
 
 -- what is decided of an owner's request, by what is kept for the owner: X1 to X3, and then the tests of the
 -- edit
@@ -54,11 +55,13 @@ verdict_of s owner number e = verdict_by s.registry (kept_of s.kept owner) owner
 
 -- what is decided of a request: X0 where no API key has its secret
 abbrev pub verdict : State → Entry → Verdict
-verdict s e = if_there (owner_of s.registry e.secret) (Refused NoKey) (λ owner. verdict_of s owner e.number e.edit)
+verdict s e = if_there (owner_of s.registry e.secret) (Refused NoKey)
+    (λ owner. verdict_of s owner e.number e.edit)
 
 -- what is kept of a request that is accepted as the one at this place
 abbrev pub kept_entry : Entry → ℕ → KeptNumber
-kept_entry e place = record { number = e.number; kind = kind_of e.edit; subject = subject_of e.edit; place = place; small = e.small }
+kept_entry e place =
+    record { number = e.number; kind = kind_of e.edit; subject = subject_of e.edit; place = place; small = e.small }
 
 -- the state after an accepted request
 abbrev pub after : State → Owner → Entry → State
@@ -78,4 +81,5 @@ after_verdict (Reused kind subject) old new = old
 after_verdict (Refused x) old new = old
 
 abbrev pub step : State → Entry → State
-step s e = if_there (owner_of s.registry e.secret) s (λ owner. after_verdict (verdict_of s owner e.number e.edit) s (after s owner e))
+step s e = if_there (owner_of s.registry e.secret) s
+    (λ owner. after_verdict (verdict_of s owner e.number e.edit) s (after s owner e))

@@ -1,13 +1,14 @@
 -- What a request is: the kind of its edit, and what the edit is about.
-use Rattle.std.specs.Prelude.{ℕ, Bool, List, [], ◌∷◌, ◌==◌}
+use Rattle.std.specs.Prelude.{ℕ, Bool, List, [], ◌∷◌}
 use Rattle.ixp_num.specs.AddressForms.{version_of}
 use Rattle.ixp_num_tables.specs.Tables.{same}
 use Rattle.ixp_registry.specs.declared.edit_kind.EditKind.{EditKind}
 use Rattle.ixp_registry.specs.declared.edit_kind.EditKind.TheVariants as kind
+use Rattle.ixp_registry.specs.Codes.{edit_word}
 use Rattle.ixp_machine_edits.specs.declared.edit.Edit.{Edit}
 use Rattle.ixp_machine_edits.specs.declared.edit.Edit.TheVariants.{AddMember, RenameMember, MoveStatus, SetMacro, PutContact, DropContact, AddKey, DropKey, AddSwitch, DropSwitch, AddPort, AssignPort, FreePort, DropPort, AddVlan, DropVlan, AddInterface, SetAddress, DropInterface, AddRouter, SetRouter, DropRouter, PutIrr, PutOrigins, SetRules, PutPublic}
-use Rattle.ixp_machine_edits.specs.declared.edit.PublicList.{PublicList}
-use Rattle.ixp_machine_edits.specs.declared.edit.PublicList.TheVariants as list
+use Rattle.ixp_registry_change.specs.declared.change.PublicList.{PublicList}
+use Rattle.ixp_registry_change.specs.declared.change.PublicList.TheVariants as list
 use Rattle.ixp_registry.specs.declared.public_kind.PublicKind.{PublicKind}
 use Rattle.ixp_registry.specs.declared.public_kind.PublicKind.TheVariants.{Bogons, BogonAs, Transit, Roas}
 use Rattle.ixp_machine_steps.specs.declared.subject.Subject.{Subject}
@@ -76,35 +77,6 @@ subject_of (PutOrigins member family asns) = Pair member (version_of family)
 subject_of (SetRules member rules) = Number member
 subject_of (PutPublic list) = Public (public_kind list)
 
--- kinds by their order
-abbrev pub kind_place : EditKind → ℕ
-kind_place kind.AddMember = 0
-kind_place kind.RenameMember = 1
-kind_place kind.MoveStatus = 2
-kind_place kind.SetMacro = 3
-kind_place kind.PutContact = 4
-kind_place kind.DropContact = 5
-kind_place kind.AddKey = 6
-kind_place kind.DropKey = 7
-kind_place kind.AddSwitch = 8
-kind_place kind.DropSwitch = 9
-kind_place kind.AddPort = 10
-kind_place kind.AssignPort = 11
-kind_place kind.FreePort = 12
-kind_place kind.DropPort = 13
-kind_place kind.AddVlan = 14
-kind_place kind.DropVlan = 15
-kind_place kind.AddInterface = 16
-kind_place kind.SetAddress = 17
-kind_place kind.DropInterface = 18
-kind_place kind.AddRouter = 19
-kind_place kind.SetRouter = 20
-kind_place kind.DropRouter = 21
-kind_place kind.PutIrr = 22
-kind_place kind.PutOrigins = 23
-kind_place kind.SetRules = 24
-kind_place kind.PutPublic = 25
-
 abbrev pub public_place : PublicKind → ℕ
 public_place Bogons = 0
 public_place BogonAs = 1
@@ -118,8 +90,9 @@ subject_numbers (Pair m n) = 1 ∷ m ∷ n ∷ []
 subject_numbers (Handle h) = 2 ∷ h
 subject_numbers (Public p) = 3 ∷ public_place p ∷ []
 
+-- kinds by their words
 abbrev pub same_kind : EditKind → EditKind → Bool
-same_kind a b = kind_place a == kind_place b
+same_kind a b = same (edit_word a) (edit_word b)
 
 abbrev pub same_subject : Subject → Subject → Bool
 same_subject a b = same (subject_numbers a) (subject_numbers b)

@@ -52,4 +52,5 @@ pub record View : Type 0 where
   pub public : PublicLists
 
 abbrev pub view : State → ℕ → View
-view s m = record { own = own s m; routers = s.registry.routers; site = s.registry.site; public = s.registry.public }
+view s m =
+    record { own = own s m; routers = s.registry.routers; site = s.registry.site; public = s.registry.public }

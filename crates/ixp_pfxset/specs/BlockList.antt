@@ -28,17 +28,20 @@ front p n = record {
   len = min n p.len;
   short = le_trans (min-le_right n p.len) p.short;
   fits = le_trans (suc-le-suc_iff.1 (div-mul-le_self p.value (2 ^ (bits_of p.family - min n p.len)))) p.fits;
-  no_host_bits = mul-mod_left (first_bits p.family (min n p.len) p.value) (2 ^ (bits_of p.family - min n p.len));
+  no_host_bits = mul-mod_left (first_bits p.family (min n p.len) p.value)
+      (2 ^ (bits_of p.family - min n p.len));
 }
 
 -- the test of `IsNew`
 abbrev pub is_new : List Prefix → Mode → ℕ → Prefix → Bool
 is_new rows Exact high q = is_allowed rows Exact high q
-is_new rows More high q = is_allowed rows More high q && (q.len == 0 || not (is_allowed rows More high (front q (q.len - 1))))
+is_new rows More high q = is_allowed rows More high q
+    && (q.len == 0 || not (is_allowed rows More high (front q (q.len - 1))))
 
 -- some row is new, and its bits are these
 abbrev pub has_new : List Prefix → Mode → ℕ → Family → ℕ → ℕ → Bool
-has_new rows mode high family len bits = list_any (λ r. same_family family r.family && r.len == len && first_bits family len r.value == bits && is_new rows mode high r) rows
+has_new rows mode high family len bits = list_any (λ r. same_family family r.family && r.len == len
+    && first_bits family len r.value == bits && is_new rows mode high r) rows
 
 -- the test holds of all numbers below `n`
 abbrev pub all_below : ℕ → (ℕ → Bool) → Bool
@@ -49,7 +52,8 @@ all_below (suc n) test = test n && all_below n test
 abbrev pub is_full : List Prefix → Mode → ℕ → ℕ → Prefix → Bool
 is_full rows mode high l n =
     nat_le n.len l && nat_le l (bits_of n.family)
-    && all_below (2 ^ (l - n.len)) (λ i. has_new rows mode high n.family l (first_bits n.family n.len n.value * 2 ^ (l - n.len) + i))
+    && all_below (2 ^ (l - n.len)) (λ i. has_new rows mode high n.family l
+    (first_bits n.family n.len n.value * 2 ^ (l - n.len) + i))
 
 -- the test of `IsBlock`, but for the upper bound
 abbrev pub is_block : List Prefix → Mode → ℕ → Pattern → Bool
@@ -77,4 +81,5 @@ in_order (t ∷ ts) = put_in t (in_order ts)
 
 -- the merged set of the rows
 unfoldable pub blocks : List Prefix → Mode → ℕ → List Pattern
-blocks rows mode high = in_order (filter (is_block rows mode high) (flat_map (λ r. front_patterns mode high r r.len) rows))
+blocks rows mode high =
+    in_order (filter (is_block rows mode high) (flat_map (λ r. front_patterns mode high r r.len) rows))

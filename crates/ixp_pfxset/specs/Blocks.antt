@@ -17,11 +17,13 @@ is_allowed rows More high q = nat_le q.len high && list_any (λ p. nat_le p.len 
 -- The prefix is allowed, and in `More` not because its parent is: that isn't allowed, if there is one.
 abbrev pub IsNew : List Prefix → Mode → ℕ → Prefix → Type 0
 IsNew rows Exact high q = is_allowed rows Exact high q ≡ true
-IsNew rows More high q = (is_allowed rows More high q ≡ true) × ((p : Prefix) → IsParent q p → is_allowed rows More high p ≡ false)
+IsNew rows More high q = (is_allowed rows More high q ≡ true)
+    × ((p : Prefix) → IsParent q p → is_allowed rows More high p ≡ false)
 
 -- The family has prefixes of length `l`, and all of them that lie in `n` are new.
 abbrev pub IsFull : List Prefix → Mode → ℕ → ℕ → Prefix → Type 0
-IsFull rows mode high l n = (l ≤ bits_of n.family) × (n.len ≤ l) × ((q : Prefix) → q.len ≡ l → covers n q ≡ true → IsNew rows mode high q)
+IsFull rows mode high l n = (l ≤ bits_of n.family) × (n.len ≤ l)
+    × ((q : Prefix) → q.len ≡ l → covers n q ≡ true → IsNew rows mode high q)
 
 -- the upper bound of a pattern whose lower one is `low`
 abbrev pub upper_bound : Mode → ℕ → ℕ → ℕ

@@ -28,7 +28,8 @@ pub record IsMergedBelow (list : List Prefix) (l most : ℕ) (n : Prefix) (t : P
   pub merged : IsMerged list l most t
 
 -- such a one of the family, for the length that its lower bound says
-pub record IsOfFamily (list : List Prefix) (mode : Mode) (high : ℕ) (family : Family) (t : Pattern) : Type 0 where
+pub record IsOfFamily (list : List Prefix) (mode : Mode) (high : ℕ) (family : Family)
+    (t : Pattern) : Type 0 where
   pub of_family : t.prefix.family ≡ family
   pub within : t.low ≤ min high (bits_of family)
   pub merged : IsMerged list t.low (upper_bound mode high t.low) t

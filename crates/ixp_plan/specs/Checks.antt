@@ -47,4 +47,5 @@ checked r f a i =
 -- has now is replaced, and so stands against nothing.
 abbrev pub address_check : Registry → ℕ → Family → Addr → Result Unit Refusal
 address_check r interface f a =
-    if_there (row_of interface_key (interface ∷ []) r.interfaces) (Err (Unknown Interfaces (Number interface))) (checked r f a)
+    if_there (row_of interface_key (interface ∷ []) r.interfaces)
+    (Err (Unknown Interfaces (Number interface))) (checked r f a)

@@ -18,7 +18,8 @@ addressed V6 x i = record i { v6 = Some x }
 -- the registry in which the interface with the number has it
 abbrev pub with_address : Registry → ℕ → Family → IfAddr → Registry
 with_address r n f x =
-    if_there (find interface_key (n ∷ []) r.interfaces) r (λ i. record r { interfaces = put interface_key (addressed f x i) r.interfaces })
+    if_there (find interface_key (n ∷ []) r.interfaces) r
+    (λ i. record r { interfaces = put interface_key (addressed f x i) r.interfaces })
 
 -- addresses are hosts of their VLANs, nobody shares one or an API key's secret, and blackhole addresses are
 -- as they have to be

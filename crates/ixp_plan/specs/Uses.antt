@@ -44,7 +44,8 @@ holder_text None None None = []
 abbrev pub use_line : Registry → Addr → List ℕ
 use_line r a =
     addr_text a
-    ++ holder_text (find (has_addr a) r.interfaces) (find (answers_at a) r.routers) (find (λ q. has_blackhole q a) r.routers)
+    ++ holder_text (find (has_addr a) r.interfaces) (find (answers_at a) r.routers)
+    (find (λ q. has_blackhole q a) r.routers)
     ++ 10 ∷ []
 
 abbrev pub addr_or_none : Option Addr → List ℕ

@@ -15,4 +15,5 @@ is_host_net net = net.len == bits_of net.family
 -- a blackhole route of a router: the router has an address for what is to be dropped, the net is a single
 -- address, and the route has the community BLACKHOLE, 65535:666 (RFC 7999 section 5)
 abbrev pub is_blackhole : Router → Route → Bool
-is_blackhole router route = is_some router.blackhole && is_host_net route.net && has_pair route BLACKHOLE.0 BLACKHOLE.1
+is_blackhole router route = is_some router.blackhole && is_host_net route.net
+    && has_pair route BLACKHOLE.0 BLACKHOLE.1

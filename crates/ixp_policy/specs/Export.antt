@@ -26,11 +26,13 @@ steered rs route to = if sends rs route to then Some (prepends rs route to) else
 -- route isn't to be sent. The sender's rules decide; where none is about the net and the receiver, the
 -- route's communities do.
 abbrev pub wish : Router → Session → Route → ℕ → Option ℕ
-wish router s route to = if_there (asked s.rules router.asn.0 route.net to) (steered router.asn.0 route to) times_of
+wish router s route to = if_there (asked s.rules router.asn.0 route.net to)
+    (steered router.asn.0 route to) times_of
 
 -- where a receiver is to send the traffic of a blackhole route (RFC 7999 section 3.1), and of any other
 abbrev pub hop_of : Router → Route → Addr
-hop_of router route = if is_blackhole router route then if_there router.blackhole route.next_hop (λ a. a) else route.next_hop
+hop_of router route = if is_blackhole router route then if_there router.blackhole route.next_hop (λ a. a)
+    else route.next_hop
 
 -- a community that is for the server `rs`: it begins with 0 or its number, where that fits
 abbrev pub is_for_server : ℕ → ℕ × ℕ → Bool
@@ -38,7 +40,8 @@ is_for_server rs p = nat_le rs 65535 && (p.0 == 0 || p.0 == rs)
 
 -- the second parts of a server's own large communities: to whom, how often in front, what was found
 abbrev pub server_actions : List ℕ
-server_actions = KEEP_FROM ∷ SEND_TO ∷ PREPEND_ONCE ∷ PREPEND_TWICE ∷ PREPEND_THRICE ∷ ORIGIN_STATE ∷ FINDING ∷ REFUSED ∷ []
+server_actions = KEEP_FROM ∷ SEND_TO ∷ PREPEND_ONCE ∷ PREPEND_TWICE ∷ PREPEND_THRICE ∷ ORIGIN_STATE ∷ FINDING
+    ∷ REFUSED ∷ []
 
 abbrev pub is_of_server : ℕ → ℕ × ℕ × ℕ → Bool
 is_of_server rs t = t.0 == rs && list_any (λ a. a == t.1) server_actions
@@ -60,4 +63,5 @@ lets_in receiver s route = receives receiver.rules route.net s.member.asn.0
 -- what the receiver gets of the sender's route, if anything
 abbrev pub received : Router → Session → Route → Session → Option Route
 received router s route receiver =
-    if lets_in receiver s route then option_map (sent_route router s route) (wish router s route receiver.member.asn.0) else None
+    if lets_in receiver s route
+    then option_map (sent_route router s route) (wish router s route receiver.member.asn.0) else None

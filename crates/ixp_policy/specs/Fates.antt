@@ -18,7 +18,8 @@ session_name n = codes "b_" ++ decimal n
 
 -- what the session of an interface gets of the sender's route
 abbrev pub sent_at : Registry → Router → Session → Route → Interface → List ℕ × Option Route
-sent_at r router s route i = (session_name i.number, if_there (session_at r router i) None (received router s route))
+sent_at r router s route i =
+    (session_name i.number, if_there (session_at r router i) None (received router s route))
 
 abbrev pub is_other : Session → Interface → Bool
 is_other s i = not (i.number == s.interface.number)
@@ -42,7 +43,8 @@ fate_of r router route s = record {
 -- what `f` says of the session of the interface with the number, None where the router with the handle has no
 -- such session
 abbrev pub at_session : {T : Type 0} → Registry → List ℕ → ℕ → (Router → Session → T) → Option T
-at_session r handle n f = if_there (find router_key handle r.routers) None (λ router. option_map (f router) (session r router n))
+at_session r handle n f = if_there (find router_key handle r.routers) None
+    (λ router. option_map (f router) (session r router n))
 
 abbrev pub fate : Registry → List ℕ → ℕ → Route → Option Fate
 fate r handle n route = at_session r handle n (λ router s. fate_of r router route s)

@@ -57,7 +57,8 @@ brought_triples rs route = filter (λ t. not (is_report rs t)) route.triples
 abbrev pub too_many_communities : Router → Route → Bool
 too_many_communities router route =
     not (router.max_comms == 0)
-    && (nat_lt router.max_comms (length route.pairs) || nat_lt router.max_comms (length (brought_triples router.asn.0 route)))
+    && (nat_lt router.max_comms (length route.pairs)
+    || nat_lt router.max_comms (length (brought_triples router.asn.0 route)))
 
 -- Paths and next hops.
 
@@ -80,7 +81,8 @@ is_hop_at router s route i =
 
 -- the next hop is neither the session's own address nor another one of the member's on the VLAN
 abbrev pub next_hop_not_peer : Registry → Router → Session → Route → Bool
-next_hop_not_peer r router s route = not (is_own_hop s route) && not (list_any (is_hop_at router s route) r.interfaces)
+next_hop_not_peer r router s route =
+    not (is_own_hop s route) && not (list_any (is_hop_at router s route) r.interfaces)
 
 abbrev pub is_bogon_as : Registry → Asn → Bool
 is_bogon_as r a = list_any (λ range. nat_le range.0.0 a.0 && nat_le a.0 range.1.0) r.public.bogon_as
@@ -95,7 +97,8 @@ is_listed asns n = list_any (λ a. a.0 == n) asns
 -- a network that buys no transit is in the path, and the member isn't one itself (RFC 7454 section 9)
 abbrev pub transit_free_as_in_path : Registry → Session → Route → Bool
 transit_free_as_in_path r s route =
-    list_any (λ a. is_listed r.public.transit a.0) route.path && not (is_listed r.public.transit s.member.asn.0)
+    list_any (λ a. is_listed r.public.transit a.0) route.path
+    && not (is_listed r.public.transit s.member.asn.0)
 
 -- Origins and registered prefixes.
 
@@ -126,7 +129,8 @@ is_covered_by net ps = list_any (λ p. covers p net) ps
 
 -- the member has registered the net or, where `more` is set for the address, a prefix that covers it
 abbrev pub is_registered : Session → Route → Bool
-is_registered s route = if s.address.more then is_covered_by route.net s.prefixes else is_in_list route.net s.prefixes
+is_registered s route = if s.address.more then is_covered_by route.net s.prefixes
+    else is_in_list route.net s.prefixes
 
 -- Not the member's to announce: a blackhole route where the address isn't held to the member's lists, or no
 -- registered prefix covers it; any other route where the address is, and the route neither is found Valid nor
@@ -170,12 +174,14 @@ refusal r router s route = first_that_holds (import_table r router s route)
 -- no line before the one of the reason holds
 abbrev pub is_reached : Reason → List Line → Bool
 is_reached reason [] = true
-is_reached reason (l ∷ lines) = if same_reason l.reason reason then true else (if l.holds then false else is_reached reason lines)
+is_reached reason (l ∷ lines) =
+    if same_reason l.reason reason then true else (if l.holds then false else is_reached reason lines)
 
 -- nor does that one
 abbrev pub is_got_past : Reason → List Line → Bool
 is_got_past reason [] = true
-is_got_past reason (l ∷ lines) = if l.holds then false else (if same_reason l.reason reason then true else is_got_past reason lines)
+is_got_past reason (l ∷ lines) =
+    if l.holds then false else (if same_reason l.reason reason then true else is_got_past reason lines)
 
 -- the number of the refusal
 abbrev pub refusal_number : Option Line → Option ℕ

@@ -31,7 +31,8 @@ is_untested router route = not router.rpki || is_blackhole router route
 -- the tests that decide by the member's prefixes: those of a blackhole route, and of one that isn't found
 -- Valid
 abbrev pub goes_by_prefixes : Registry → Router → Session → Route → Bool
-goes_by_prefixes r router s route = s.address.irr && (is_blackhole router route || not (is_found r router route Valid))
+goes_by_prefixes r router s route =
+    s.address.irr && (is_blackhole router route || not (is_found r router route Valid))
 
 -- What is told, where it holds. rs:1001:1200 the next hop is another router of the member; rs:1001:2 its
 -- registered origins aren't asked for; rs:1001:1002 there are none; rs:1000:3, rs:1000:1, rs:1000:2 origins
@@ -52,9 +53,13 @@ abbrev pub refusal_told : Router → Option Line → List (ℕ × ℕ × ℕ)
 refusal_told router refused = if_there refused [] (λ l. (router.asn.0, REFUSED, number_of l.reason) ∷ [])
 
 abbrev pub tags : Registry → Router → Session → Route → List Line → List (ℕ × ℕ × ℕ)
-tags r router s route lines = chosen (findings r router s route lines) ++ refusal_told router (first_that_holds lines)
+tags r router s route lines =
+    chosen (findings r router s route lines) ++ refusal_told router (first_that_holds lines)
 
 -- the route as the server holds it: with its own tags in the place of those that the route brought
 abbrev pub tagged : Registry → Router → Session → Route → Route
 tagged r router s route =
-    record route { triples = brought_triples router.asn.0 route ++ tags r router s route (import_table r router s route) }
+    record route {
+      triples = brought_triples router.asn.0 route
+          ++ tags r router s route (import_table r router s route);
+    }

@@ -96,7 +96,8 @@ abbrev pub pair_text : ℕ × Option ℕ → List ℕ
 pair_text p = codes "(" ++ decimal p.0 ++ codes ", " ++ part_text p.1 ++ codes ")"
 
 abbrev pub triple_text : ℕ × ℕ × Option ℕ → List ℕ
-triple_text t = codes "(" ++ decimal t.0 ++ codes ", " ++ decimal t.1 ++ codes ", " ++ part_text t.2 ++ codes ")"
+triple_text t = codes "(" ++ decimal t.0 ++ codes ", " ++ decimal t.1 ++ codes ", " ++ part_text t.2
+    ++ codes ")"
 
 abbrev pub set_items_text : SetLit → List ℕ
 set_items_text (set.Ints rs) = joined (codes ", ") range_text rs
@@ -142,15 +143,18 @@ abbrev mutual
   expr_text (named n) = n
   expr_text (attribute a) = attr_text a
   expr_text (call n es) = n ++ codes "(" ++ exprs_text es ++ codes ")"
-  expr_text (roa_check t e f) = codes "roa_check(" ++ t ++ codes ", " ++ expr_text e ++ codes ", " ++ expr_text f ++ codes ")"
+  expr_text (roa_check t e f) =
+      codes "roa_check(" ++ t ++ codes ", " ++ expr_text e ++ codes ", " ++ expr_text f ++ codes ")"
   expr_text (pair e f) = codes "(" ++ expr_text e ++ codes ", " ++ expr_text f ++ codes ")"
-  expr_text (triple e f g) = codes "(" ++ expr_text e ++ codes ", " ++ expr_text f ++ codes ", " ++ expr_text g ++ codes ")"
+  expr_text (triple e f g) =
+      codes "(" ++ expr_text e ++ codes ", " ++ expr_text f ++ codes ", " ++ expr_text g ++ codes ")"
   expr_text (set_literal s) = set_text s
   expr_text (negation e) = codes "!" ++ wrapped (is_compound e) (expr_text e)
   expr_text (conjunction es) = chain_text (codes " && ") es
   expr_text (disjunction es) = chain_text (codes " || ") es
   expr_text (comparison o e f) =
-      wrapped (is_compound e) (expr_text e) ++ codes " " ++ op_text o ++ codes " " ++ wrapped (is_compound f) (expr_text f)
+      wrapped (is_compound e) (expr_text e) ++ codes " " ++ op_text o ++ codes " "
+      ++ wrapped (is_compound f) (expr_text f)
 
   -- the arguments of a call
   pub exprs_text : ExprTrees → List ℕ
@@ -168,7 +172,8 @@ abbrev mutual
 
   pub more_chain_text : List ℕ → ExprTrees → List ℕ
   more_chain_text joint exprs_end = []
-  more_chain_text joint (exprs_more e es) = joint ++ wrapped (is_chain e) (expr_text e) ++ more_chain_text joint es
+  more_chain_text joint (exprs_more e es) =
+      joint ++ wrapped (is_chain e) (expr_text e) ++ more_chain_text joint es
 
 -- Statements. `i` is the blanks at the beginning of a line.
 
@@ -199,7 +204,8 @@ abbrev mutual
       ++ else_line (no_stmts ts) i (codes "} else {") ++ stmts_text (deeper i) ts ++ line i (codes "}")
   stmt_text i (case_of e arms ts) =
       line i (codes "case " ++ expr_text e ++ codes " {")
-      ++ (arms_text (deeper i) arms ++ else_line (no_stmts ts) (deeper i) (codes "else:") ++ stmts_text (deeper (deeper i)) ts)
+      ++ (arms_text (deeper i) arms ++ else_line (no_stmts ts) (deeper i) (codes "else:")
+      ++ stmts_text (deeper (deeper i)) ts)
       ++ line i (codes "}")
   stmt_text i (return_value e) = line i (codes "return " ++ expr_text e ++ codes ";")
   stmt_text i accept = line i (codes "accept;")
@@ -223,7 +229,8 @@ abbrev mutual
 
 -- the arms of a case, and what is done else
 abbrev pub cases_text : List ℕ → ArmTrees → StmtTrees → List ℕ
-cases_text i arms ts = arms_text i arms ++ else_line (no_stmts ts) i (codes "else:") ++ stmts_text (deeper i) ts
+cases_text i arms ts = arms_text i arms ++ else_line (no_stmts ts) i (codes "else:")
+    ++ stmts_text (deeper i) ts
 
 -- Items.
 
@@ -290,7 +297,8 @@ abbrev pub bgp_text : Bgp → List ℕ
 bgp_text b =
     head_line (codes "bgp") b.name
     ++ line (codes "  ") (local_text b.local ++ decimal b.own.0 ++ codes ";")
-    ++ line (codes "  ") (codes "neighbor " ++ addr_text b.neighbor ++ codes " as " ++ decimal b.asn.0 ++ codes ";")
+    ++ line (codes "  ") (codes "neighbor " ++ addr_text b.neighbor ++ codes " as " ++ decimal b.asn.0
+    ++ codes ";")
     ++ client_text b.rs_client
     ++ password_text b.password
     ++ bgp_channel_text b
@@ -304,7 +312,8 @@ abbrev pub item_text : ItemTree → List ℕ
 item_text (router_id_item a) = line [] (codes "router id " ++ addr_text a ++ codes ";")
 item_text (table_item k n) = line [] (kind_text k ++ codes " table " ++ n ++ codes ";")
 item_text (define_item n e) = line [] (codes "define " ++ n ++ codes " = " ++ expr_text e ++ codes ";")
-item_text (function_item n ps ss) = body_text (codes "function " ++ n ++ codes "(" ++ joined (codes "; ") param_text ps ++ codes ")") ss
+item_text (function_item n ps ss) =
+    body_text (codes "function " ++ n ++ codes "(" ++ joined (codes "; ") param_text ps ++ codes ")") ss
 item_text (filter_item n ss) = body_text (codes "filter " ++ n) ss
 item_text (device_item n) = device_text n
 item_text (pipe_item p) = pipe_text p

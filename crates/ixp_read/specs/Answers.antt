@@ -19,7 +19,8 @@ use Rattle.ixp_read.specs.Items.{config_form}
 
 -- the text has tokens that spell this configuration, with nothing behind them
 abbrev pub SpellsText : List ℕ → List ItemTree → Type 0
-SpellsText text configuration = (tokens : List Kind) × HasTokens text tokens × Took config_form configuration tokens []
+SpellsText text configuration =
+    (tokens : List Kind) × HasTokens text tokens × Took config_form configuration tokens []
 
 -- marks that BIRD 2 has and the profile leaves out
 abbrev pub is_foreign_mark : Mark → Bool
@@ -59,7 +60,8 @@ byte_of text (Some token) = length text - token.left
 
 -- the fault for a cause where so many of the text's tokens are left
 abbrev pub fault_at : List ℕ → List Placed → Cause → ℕ → ReadFault
-fault_at text tokens cause left = named cause (option_map (λ t. t.kind) (token_with left tokens)) (byte_of text (token_with left tokens))
+fault_at text tokens cause left =
+    named cause (option_map (λ t. t.kind) (token_with left tokens)) (byte_of text (token_with left tokens))
 
 -- The text is no configuration: read by the grammar from left to right, its tokens stop at this fault.
 pub record IsStop (text : List ℕ) (fault : ReadFault) : Type 0 where

@@ -47,7 +47,8 @@ has_sets _ = true
 
 abbrev pub type_form : Grammar Ty
 type_form =
-    sequence (takes (word_in type_in)) (λ t. choice (only (has_sets t) (sequence (the_word (codes "set")) (λ tt. gives (set_of t)))) (gives t))
+    sequence (takes (word_in type_in)) (λ t. choice
+    (only (has_sets t) (sequence (the_word (codes "set")) (λ tt. gives (set_of t)))) (gives t))
 
 -- Functions.
 
@@ -69,24 +70,28 @@ param_form number before =
     sequence type_form (λ t.
     here (λ left.
     sequence a_name (λ name.
-    checks (unless_so (is_free_in (before.names name) number) (Twice, left)) (gives (with_param before number t name)))))
+    checks (unless_so (is_free_in (before.names name) number) (Twice, left))
+    (gives (with_param before number t name)))))
 
 abbrev pub no_params : Names → Params
 no_params names = record { params = []; types = []; names = names }
 
 -- one parameter behind those before it, and a semicolon where another one follows
 abbrev pub param_round : ℕ → Params → Grammar (Step Params Params)
-param_round number before = sequence (param_form number before) (λ params. choice (ended Semicolon (onward params)) (gives (done params)))
+param_round number before = sequence (param_form number before)
+    (λ params. choice (ended Semicolon (onward params)) (gives (done params)))
 
 -- the parameters of the function that has this number, in parentheses
 abbrev pub params_form : ℕ → Names → Grammar Params
 params_form number names =
     sequence (the_mark Open) (λ tt.
-    choice (ended Close (no_params names)) (sequence (rounds (param_round number) (no_params names)) (λ params. ended Close params)))
+    choice (ended Close (no_params names))
+    (sequence (rounds (param_round number) (no_params names)) (λ params. ended Close params)))
 
 -- the type that a function is said to return, if one is
 abbrev pub written_form : Grammar (Option ValueType)
-written_form = choice (sequence (the_mark Arrow) (λ tt. sequence type_form (λ t. gives (Some (type_of t))))) (gives None)
+written_form = choice (sequence (the_mark Arrow) (λ tt. sequence type_form (λ t. gives (Some (type_of t)))))
+    (gives None)
 
 abbrev pub as_written : Option ValueType → Returned
 as_written written = record { ty = written; is_met = false }
@@ -106,7 +111,8 @@ head_with name params = record { name = name; params = params }
 -- nothing may use the function in its own body
 abbrev pub head_form : ℕ → Names → Grammar Head
 head_form number names =
-    sequence (free_name names) (λ name. sequence (params_form number (standing names name Begun)) (λ params. gives (head_with name params)))
+    sequence (free_name names) (λ name. sequence (params_form number (standing names name Begun))
+    (λ params. gives (head_with name params)))
 
 -- a function's body, and what it returns
 pub record Body : Type 0 where
@@ -126,7 +132,8 @@ body_within levels number names =
     sequence written_form (λ written.
     sequence (the_mark BlockOpen) (λ tt.
     sequence (body_form (frame_in number names) levels (as_written written)) (λ body.
-    checks (unless_so (not (is_some written && not body.returned.is_met)) (misfit_at place)) (gives (body_with body))))))
+    checks (unless_so (not (is_some written && not body.returned.is_met)) (misfit_at place))
+    (gives (body_with body))))))
 
 abbrev pub body_end : ℕ → Names → Grammar Body
 body_end number names = body_within levels_inside number names
@@ -135,13 +142,17 @@ abbrev pub signature_of : Head → Body → Signature
 signature_of head body = record { params = head.params.types; returns = body.returns }
 
 abbrev pub function_with : Head → Body → Declares
-function_with head body =
-    (function_item head.name head.params.params (stmts body.statements), standing head.params.names head.name (Function (signature_of head body)))
+function_with head body = (
+  function_item head.name head.params.params (stmts body.statements),
+  standing head.params.names head.name
+      (Function (signature_of head body)),
+)
 
 -- what follows `function`, before which there are so many items, with so many levels in its block at most
 abbrev pub function_within : ℕ → ℕ → Names → Grammar Declares
 function_within levels number names =
-    sequence (head_form number names) (λ head. sequence (body_within levels number head.params.names) (λ body. gives (function_with head body)))
+    sequence (head_form number names) (λ head. sequence (body_within levels number head.params.names)
+    (λ body. gives (function_with head body)))
 
 abbrev pub function_form : ℕ → Names → Grammar Declares
 function_form number names = function_within levels_inside number names

@@ -32,7 +32,8 @@ v4_addr_in _ = None
 
 -- what follows `router`
 abbrev pub router_id_end : Names → Grammar Declares
-router_id_end names = sequence (the_word (codes "id")) (λ tt. sequence (takes v4_addr_in) (λ addr. ended Semicolon (router_id_item addr, names)))
+router_id_end names = sequence (the_word (codes "id"))
+    (λ tt. sequence (takes v4_addr_in) (λ addr. ended Semicolon (router_id_item addr, names)))
 
 abbrev pub is_roa : Kind → Bool
 is_roa Ipv4 = false
@@ -47,7 +48,8 @@ unowned kind = record { is_roa = is_roa kind; in_session = false; in_pipe = fals
 abbrev pub table_end : Kind → Names → Grammar Declares
 table_end kind names =
     sequence (the_word (codes "table")) (λ tt.
-    sequence (free_name names) (λ name. ended Semicolon (table_item kind name, standing names name (declared.Table (unowned kind)))))
+    sequence (free_name names) (λ name. ended Semicolon
+    (table_item kind name, standing names name (declared.Table (unowned kind)))))
 
 -- how many levels a definition may have
 abbrev pub define_levels : ℕ
@@ -68,13 +70,18 @@ abbrev pub defined_value : ℕ → Names → Grammar Operand
 defined_value statement names = value_within define_levels statement names
 
 abbrev pub defined : Names → List ℕ → Operand → Declares
-defined names name value = (define_item name value.tree, standing names name (declared.Define value.ty (defined_number names value.tree)))
+defined names name value = (
+  define_item name value.tree,
+  standing names name
+      (declared.Define value.ty (defined_number names value.tree)),
+)
 
 -- what follows `define`, which stands at this place, with so many levels at most
 abbrev pub define_within : ℕ → ℕ → Names → Grammar Declares
 define_within levels statement names =
     sequence (free_name names) (λ name.
-    sequence (the_mark Equal) (λ tt. sequence (value_within levels statement names) (λ value. gives (defined names name value))))
+    sequence (the_mark Equal) (λ tt. sequence (value_within levels statement names)
+    (λ value. gives (defined names name value))))
 
 abbrev pub define_end : ℕ → Names → Grammar Declares
 define_end statement names = define_within define_levels statement names
@@ -122,7 +129,8 @@ item_form number names = here (λ place. router_before names (table_or number pl
 
 -- an item that has so many levels at most, whatever the language allows
 abbrev pub item_within : Levels → ℕ → Names → Grammar Declares
-item_within levels number names = here (λ place. router_before names (table_before names (declaration_within levels number place names)))
+item_within levels number names =
+    here (λ place. router_before names (table_before names (declaration_within levels number place names)))
 
 -- the items so far, and what names stand for behind them
 pub record Begun : Type 0 where
@@ -139,7 +147,8 @@ is_more (token ∷ tokens) = true
 -- Items up to the end of the text, over what an item is.
 module _ (item : ℕ → Names → Grammar Declares) where
   abbrev pub item_then : Begun → Grammar (Step Begun (List ItemTree))
-  item_then before = sequence (item (length before.items) before.names) (λ declares. gives (onward (with_item before declares)))
+  item_then before = sequence (item (length before.items) before.names)
+      (λ declares. gives (onward (with_item before declares)))
 
   -- one more item, or the end of the text
   abbrev pub round_of : Begun → Grammar (Step Begun (List ItemTree))

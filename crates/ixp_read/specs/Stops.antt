@@ -12,7 +12,8 @@ use Rattle.ixp_read.specs.Items.{define_levels, item_within, config_of, config_f
 
 -- a configuration that may have so many levels more than others
 abbrev pub config_with : ℕ → Grammar (List ItemTree)
-config_with more = config_of (item_within (record { of_define = define_levels + more; inside = levels_inside + more }))
+config_with more =
+    config_of (item_within (record { of_define = define_levels + more; inside = levels_inside + more }))
 
 -- the tokens are a configuration by their syntax; places are numbered from so many down
 abbrev pub IsFine : ℕ → List Kind → Type 0
@@ -38,4 +39,5 @@ abbrev pub NoneGoesOn : List Kind → Cause → ℕ → Type 0
 NoneGoesOn tokens cause left =
     (more : ℕ) → 0 < more
     → StopsAt (IsFineWith more (length tokens)) (IsFine (length tokens)) tokens left
-    × (¬ (cause ≡ Deep) → StopsAt (IsFineWith more (length tokens)) (IsFineWith more (length tokens)) tokens left)
+    × (¬ (cause ≡ Deep) → StopsAt (IsFineWith more (length tokens))
+    (IsFineWith more (length tokens)) tokens left)

@@ -106,8 +106,8 @@ fn fault_at(text: &[u8], tokens: &[Token], cause: Cause, left: usize) -> ReadFau
 
 /// Reads a filter text.
 ///
-/// Each fault but the running out of memory stands at the first token with which no text goes on, or, for a type
-/// that doesn't fit, at the operator, the called name or the statement that it is about.
+/// Each fault but the running out of memory stands at the first token with which no text goes on, or, for a
+/// type that doesn't fit, at the operator, the called name or the statement that it is about.
 pub fn read_config(alloc: Global, t: &[u8]) -> Result<Config, ReadFault>
     ensures { ConfigAnswer t.now result }
 {

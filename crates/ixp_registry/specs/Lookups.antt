@@ -86,7 +86,8 @@ vlan_prefixes v = listed v.v4 ++ listed v.v6
 -- the address is the prefix's first one, the subnet-router anycast address of IPv6 (RFC 4291 section 2.6.1);
 -- in IPv4 its last one, the broadcast address (RFC 919), counts too
 abbrev pub is_edge : Prefix → Addr → Bool
-is_edge p a = a.value == p.value || same_family p.family V4 && a.value + 1 == p.value + 2 ^ (bits_of p.family - p.len)
+is_edge p a = a.value == p.value || same_family p.family V4
+    && a.value + 1 == p.value + 2 ^ (bits_of p.family - p.len)
 
 -- an interface or a router may have the address there
 abbrev pub is_host : Prefix → Addr → Bool

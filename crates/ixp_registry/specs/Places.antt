@@ -20,7 +20,8 @@ first_with_earlier = first_with_earlier_from []
 -- the same, where a row is looked at with the one before it, if there is one
 abbrev pub first_beside_from : {R : Type 0} → Option R → ℕ → (Option R → R → Bool) → List R → Option ℕ
 first_beside_from last start breaks [] = None
-first_beside_from last start breaks (r ∷ rs) = if breaks last r then Some start else first_beside_from (Some r) (start + 1) breaks rs
+first_beside_from last start breaks (r ∷ rs) =
+    if breaks last r then Some start else first_beside_from (Some r) (start + 1) breaks rs
 
 abbrev pub first_beside : {R : Type 0} → ℕ → (Option R → R → Bool) → List R → Option ℕ
 first_beside = first_beside_from None
@@ -47,7 +48,8 @@ first_over most start rows = if nat_le (length rows) most then None else Some (s
 abbrev pub first_heavy_from : {R : Type 0} → ℕ → (R → ℕ) → ℕ → ℕ → List R → Option ℕ
 first_heavy_from sum weight most start [] = None
 first_heavy_from sum weight most start (r ∷ rs) =
-    if nat_le (sum + weight r) most then first_heavy_from (sum + weight r) weight most (start + 1) rs else Some start
+    if nat_le (sum + weight r) most then first_heavy_from (sum + weight r) weight most (start + 1) rs
+    else Some start
 
 abbrev pub first_heavy : {R : Type 0} → (R → ℕ) → ℕ → ℕ → List R → Option ℕ
 first_heavy = first_heavy_from 0

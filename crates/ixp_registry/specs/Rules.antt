@@ -22,8 +22,8 @@ use Rattle.ixp_registry.specs.Words.{is_reserved, is_vlan_length, overlaps_any, 
 use Rattle.ixp_registry.specs.Weight.{vlan_weight}
 use Rattle.ixp_registry.specs.Lines.{site_at, members_at, contacts_at, keys_at, switches_at, ports_at, vlans_at, interfaces_at, addresses_at, routers_at, prefixes_at, origins_at, rules_at, bogons_at, bogon_as_at, transit_at, roas_at}
 
--- 1. Numbers, a port's speed and a contact's place are at least 1, and no two members have one AS number. (That keys are
--- unique is part of what a table of rows is.)
+-- 1. Numbers, a port's speed and a contact's place are at least 1, and no two members have one AS number.
+-- (That keys are unique is part of what a table of rows is.)
 abbrev pub members_are_numbered : Rows → Option ℕ
 members_are_numbered w = first members_at (λ m. m.number == 0) w.members
 
@@ -50,7 +50,8 @@ interfaces_are_numbered w = first (interfaces_at w) (λ i. i.number == 0) w.inte
 
 abbrev pub rule_1_sentences : Rows → List (Option ℕ)
 rule_1_sentences w =
-    members_are_numbered w ∷ member_asns_differ w ∷ contacts_are_placed w ∷ keys_are_numbered w ∷ switches_are_numbered w
+    members_are_numbered w ∷ member_asns_differ w ∷ contacts_are_placed w ∷ keys_are_numbered w
+    ∷ switches_are_numbered w
     ∷ ports_are_numbered w ∷ vlans_are_numbered w ∷ interfaces_are_numbered w ∷ []
 
 abbrev pub rule_1 : Rows → Option ℕ
@@ -66,14 +67,17 @@ keys_have_owners w = first (keys_at w) (λ k. not (has_owner w.members k.owner))
 -- a port of member 0 is free
 abbrev pub ports_have_switches : Rows → Option ℕ
 ports_have_switches w =
-    first (ports_at w) (λ p. not (has_switch w.switches p.switch && (p.member == 0 || has_member w.members p.member))) w.ports
+    first (ports_at w) (λ p. not (has_switch w.switches p.switch
+    && (p.member == 0 || has_member w.members p.member))) w.ports
 
 abbrev pub interfaces_have_ports : Rows → Option ℕ
 interfaces_have_ports w =
-    first (interfaces_at w) (λ i. not (has_member w.members i.member && has_port w.ports i.port && has_vlan w.vlans i.vlan)) w.interfaces
+    first (interfaces_at w) (λ i. not (has_member w.members i.member && has_port w.ports i.port
+    && has_vlan w.vlans i.vlan)) w.interfaces
 
 abbrev pub addresses_have_interfaces : Rows → Option ℕ
-addresses_have_interfaces w = first (addresses_at w) (λ a. not (has_interface w.interfaces a.interface)) w.addresses
+addresses_have_interfaces w =
+    first (addresses_at w) (λ a. not (has_interface w.interfaces a.interface)) w.addresses
 
 abbrev pub routers_have_vlans : Rows → Option ℕ
 routers_have_vlans w = first (routers_at w) (λ r. not (has_vlan w.vlans r.vlan)) w.routers
@@ -89,7 +93,8 @@ rules_have_members w = first (rules_at w) (λ r. not (has_member w.members r.mem
 
 abbrev pub rule_2_sentences : Rows → List (Option ℕ)
 rule_2_sentences w =
-    contacts_have_members w ∷ keys_have_owners w ∷ ports_have_switches w ∷ interfaces_have_ports w ∷ addresses_have_interfaces w
+    contacts_have_members w ∷ keys_have_owners w ∷ ports_have_switches w ∷ interfaces_have_ports w
+    ∷ addresses_have_interfaces w
     ∷ routers_have_vlans w ∷ prefixes_have_members w ∷ origins_have_members w ∷ rules_have_members w ∷ []
 
 abbrev pub rule_2 : Rows → Option ℕ
@@ -103,7 +108,8 @@ abbrev pub members_have_texts : Rows → Option ℕ
 members_have_texts w = first members_at (λ m. not (is_macro m.as_macro && is_label m.name)) w.members
 
 abbrev pub contacts_have_texts : Rows → Option ℕ
-contacts_have_texts w = first (contacts_at w) (λ c. not (is_note c.role && is_note c.mail && is_label c.name)) w.contacts
+contacts_have_texts w = first (contacts_at w)
+    (λ c. not (is_note c.role && is_note c.mail && is_label c.name)) w.contacts
 
 abbrev pub keys_have_texts : Rows → Option ℕ
 keys_have_texts w = first (keys_at w) (λ k. not (is_key_secret k.secret)) w.keys
@@ -125,14 +131,15 @@ routers_have_texts w = first (routers_at w) (λ r. not (is_handle r.handle)) w.r
 
 abbrev pub rule_3_sentences : Rows → List (Option ℕ)
 rule_3_sentences w =
-    site_has_texts w ∷ members_have_texts w ∷ contacts_have_texts w ∷ keys_have_texts w ∷ switches_have_texts w
+    site_has_texts w ∷ members_have_texts w ∷ contacts_have_texts w ∷ keys_have_texts w
+    ∷ switches_have_texts w
     ∷ ports_have_texts w ∷ vlans_have_texts w ∷ addresses_have_texts w ∷ routers_have_texts w ∷ []
 
 abbrev pub rule_3 : Rows → Option ℕ
 rule_3 w = earliest (rule_3_sentences w)
 
--- 4. No member and no router has a reserved AS number: 0 (RFC 7607), AS_TRANS (RFC 6793), or the last one (RFC 7300). No
--- router has a member's.
+-- 4. No member and no router has a reserved AS number: 0 (RFC 7607), AS_TRANS (RFC 6793), or the last one
+-- (RFC 7300). No router has a member's.
 abbrev pub members_have_asns : Rows → Option ℕ
 members_have_asns w = first members_at (λ m. is_reserved m.asn.0) w.members
 
@@ -146,7 +153,8 @@ rule_4_sentences w = members_have_asns w ∷ routers_have_asns w ∷ []
 abbrev pub rule_4 : Rows → Option ℕ
 rule_4 w = earliest (rule_4_sentences w)
 
--- 5. VLAN prefixes don't overlap, their lengths are 8 to 30 (IPv4) and 32 to 126 (IPv6), and tags are 1 to 4094.
+-- 5. VLAN prefixes don't overlap, their lengths are 8 to 30 (IPv4) and 32 to 126 (IPv6), and tags are 1 to
+-- 4094.
 abbrev pub vlans_lie_apart : Rows → Option ℕ
 vlans_lie_apart w =
     first_with_earlier (vlans_at w)
@@ -156,7 +164,8 @@ vlans_lie_apart w =
 
 abbrev pub vlans_have_bounds : Rows → Option ℕ
 vlans_have_bounds w =
-    first (vlans_at w) (λ v. not (list_all is_vlan_length (vlan_prefixes v) && nat_le 1 v.tag && nat_le v.tag 4094)) w.vlans
+    first (vlans_at w) (λ v. not (list_all is_vlan_length (vlan_prefixes v) && nat_le 1 v.tag
+    && nat_le v.tag 4094)) w.vlans
 
 abbrev pub rule_5_sentences : Rows → List (Option ℕ)
 rule_5_sentences w = vlans_lie_apart w ∷ vlans_have_bounds w ∷ []
@@ -164,9 +173,11 @@ rule_5_sentences w = vlans_lie_apart w ∷ vlans_have_bounds w ∷ []
 abbrev pub rule_5 : Rows → Option ℕ
 rule_5 w = earliest (rule_5_sentences w)
 
--- 6. An address is inside its VLAN's prefix of the family and isn't the first of it; in IPv4 it isn't the last either.
+-- 6. An address is inside its VLAN's prefix of the family and isn't the first of it; in IPv4 it isn't the
+-- last either.
 abbrev pub addresses_are_hosts : Rows → Option ℕ
-addresses_are_hosts w = first (addresses_at w) (λ a. not (is_host_at w.vlans w.interfaces a.interface a.address.addr)) w.addresses
+addresses_are_hosts w = first (addresses_at w)
+    (λ a. not (is_host_at w.vlans w.interfaces a.interface a.address.addr)) w.addresses
 
 abbrev pub routers_are_hosts : Rows → Option ℕ
 routers_are_hosts w = first (routers_at w) (λ r. not (is_host_in w.vlans r.vlan r.family r.addr)) w.routers
@@ -207,7 +218,8 @@ routers_have_bounds w = first (routers_at w) (λ r. not (has_bounds r)) w.router
 abbrev pub rule_9 : Rows → Option ℕ
 rule_9 = routers_have_bounds
 
--- 10. A VLAN's prefixes are of their family. (That lists ascend, without doubles, is what tables of rows are.)
+-- 10. A VLAN's prefixes are of their family. (That lists ascend, without doubles, is what tables of rows
+-- are.)
 abbrev pub vlans_have_families : Rows → Option ℕ
 vlans_have_families w = first (vlans_at w) (λ v. not (is_of V4 v.v4 && is_of V6 v.v6)) w.vlans
 
@@ -259,8 +271,10 @@ owners_are_few w = earliest (owner_limits w)
 
 abbrev pub network_limits : Rows → List (Option ℕ)
 network_limits w =
-    first_over 256 (switches_at w) w.switches ∷ first_over 16384 (ports_at w) w.ports ∷ first_over 64 (vlans_at w) w.vlans
-    ∷ first_over 8000 (interfaces_at w) w.interfaces ∷ first_beyond 16 (interfaces_at w) (map (λ i. i.member ∷ []) w.interfaces)
+    first_over 256 (switches_at w) w.switches ∷ first_over 16384 (ports_at w) w.ports
+    ∷ first_over 64 (vlans_at w) w.vlans
+    ∷ first_over 8000 (interfaces_at w) w.interfaces
+    ∷ first_beyond 16 (interfaces_at w) (map (λ i. i.member ∷ []) w.interfaces)
     ∷ first_over 16 (routers_at w) w.routers ∷ []
 
 abbrev pub network_is_small : Rows → Option ℕ
@@ -299,11 +313,13 @@ abbrev pub list_weight : Rows → ℕ → Family → ℕ
 list_weight w member family = total (row_weight w member family) w.addresses
 
 abbrev pub sessions_are_light : Rows → Option ℕ
-sessions_are_light w = first_heavy (λ p. list_weight w p.member p.prefix.family) 8000000 (prefixes_at w) w.prefixes
+sessions_are_light w = first_heavy (λ p. list_weight w p.member p.prefix.family) 8000000
+    (prefixes_at w) w.prefixes
 
 abbrev pub rule_13_sentences : Rows → List (Option ℕ)
 rule_13_sentences w =
-    owners_are_few w ∷ network_is_small w ∷ lists_are_short w ∷ public_lists_are_short w ∷ sessions_are_light w ∷ []
+    owners_are_few w ∷ network_is_small w ∷ lists_are_short w ∷ public_lists_are_short w
+    ∷ sessions_are_light w ∷ []
 
 abbrev pub rule_13 : Rows → Option ℕ
 rule_13 w = earliest (rule_13_sentences w)
@@ -315,9 +331,10 @@ interfaces_have_no_left_member w = first (interfaces_at w) (λ i. has_left w.mem
 abbrev pub rule_14 : Rows → Option ℕ
 rule_14 = interfaces_have_no_left_member
 
--- 15. A router's blackhole address (RFC 7999) is of its family, lies in its VLAN as an address of its own might, and is no
--- interface's or router's address; routers may share one. A router of AS 65535 has none, since its BLACKHOLE
--- community would be the well-known one. It bounds the communities of a route by at most 1,000.
+-- 15. A router's blackhole address (RFC 7999) is of its family, lies in its VLAN as an address of its own
+-- might, and is no interface's or router's address; routers may share one. A router of AS 65535 has none,
+-- since its BLACKHOLE community would be the well-known one. It bounds the communities of a route by at most
+-- 1,000.
 abbrev pub is_assigned : List AddressRow → Addr → Bool
 is_assigned xs a = list_any (λ x. same_addr x.address.addr a) xs
 
@@ -331,11 +348,13 @@ blackholes_lie_apart w = first_with_earlier (routers_at w) blackholes_meet w.rou
 
 abbrev pub may_be_blackhole : Rows → Router → Addr → Bool
 may_be_blackhole w r b =
-    same_family b.family r.family && is_host_in w.vlans r.vlan r.family b && not (is_assigned w.addresses b) && not (r.asn.0 == 65535)
+    same_family b.family r.family && is_host_in w.vlans r.vlan r.family b && not (is_assigned w.addresses b)
+    && not (r.asn.0 == 65535)
 
 abbrev pub routers_have_blackholes : Rows → Option ℕ
 routers_have_blackholes w =
-    first (routers_at w) (λ r. not (if_there r.blackhole true (may_be_blackhole w r) && nat_le r.max_comms 1000)) w.routers
+    first (routers_at w) (λ r. not (if_there r.blackhole true (may_be_blackhole w r)
+    && nat_le r.max_comms 1000)) w.routers
 
 abbrev pub rule_15_sentences : Rows → List (Option ℕ)
 rule_15_sentences w = blackholes_lie_apart w ∷ routers_have_blackholes w ∷ []
@@ -346,5 +365,6 @@ rule_15 w = earliest (rule_15_sentences w)
 -- the rules in their order
 abbrev pub rules : Rows → List (Option ℕ)
 rules w =
-    rule_1 w ∷ rule_2 w ∷ rule_3 w ∷ rule_4 w ∷ rule_5 w ∷ rule_6 w ∷ rule_7 w ∷ rule_8 w ∷ rule_9 w ∷ rule_10 w ∷ rule_11 w
+    rule_1 w ∷ rule_2 w ∷ rule_3 w ∷ rule_4 w ∷ rule_5 w ∷ rule_6 w ∷ rule_7 w ∷ rule_8 w ∷ rule_9 w
+    ∷ rule_10 w ∷ rule_11 w
     ∷ rule_12 w ∷ rule_13 w ∷ rule_14 w ∷ rule_15 w ∷ []

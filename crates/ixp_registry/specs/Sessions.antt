@@ -31,7 +31,8 @@ address_of V6 i = i.v6
 -- member
 abbrev pub is_session : Registry → Router → Interface → Bool
 is_session r router i =
-    i.vlan == router.vlan && if_there (address_of router.family i) false (λ a. a.rs) && is_member_connected r.members i.member
+    i.vlan == router.vlan && if_there (address_of router.family i) false (λ a. a.rs)
+    && is_member_connected r.members i.member
 
 -- the sessions of a router, by number of interface
 abbrev pub sessions_of : Registry → Router → List Interface
@@ -64,17 +65,20 @@ ascending (a ∷ addrs) = put addr_numbers a (ascending addrs)
 -- the member's addresses of the router's family in the session's VLAN
 abbrev pub member_addresses : Registry → Router → Session → List Addr
 member_addresses r router s =
-    ascending (flat_map (λ i. listed_address (address_of router.family i)) (filter (is_beside s) r.interfaces))
+    ascending (flat_map (λ i. listed_address (address_of router.family i))
+    (filter (is_beside s) r.interfaces))
 
 -- a member without a list counts as one whose list is empty
 abbrev pub rules_of : Registry → ℕ → List MemberRule
 rules_of r member = if_there (find rules_key (member ∷ []) r.rules) [] (λ l. l.rules)
 
 abbrev pub prefixes_in : Registry → ℕ → Family → List Prefix
-prefixes_in r member family = if_there (find irr_key (member ∷ version_of family ∷ []) r.irr) [] (λ l. l.prefixes)
+prefixes_in r member family =
+    if_there (find irr_key (member ∷ version_of family ∷ []) r.irr) [] (λ l. l.prefixes)
 
 abbrev pub origins_in : Registry → ℕ → Family → List Asn
-origins_in r member family = if_there (find origins_key (member ∷ version_of family ∷ []) r.origins) [] (λ l. l.asns)
+origins_in r member family =
+    if_there (find origins_key (member ∷ version_of family ∷ []) r.origins) [] (λ l. l.asns)
 
 abbrev pub session_with : Registry → Router → Interface → Option IfAddr → Option Member → Option Session
 session_with r router i (Some a) (Some m) = Some (record {
@@ -90,7 +94,8 @@ session_with r router i (Some a) None = None
 
 abbrev pub session_at : Registry → Router → Interface → Option Session
 session_at r router i =
-    if is_session r router i then session_with r router i (address_of router.family i) (find member_key (i.member ∷ []) r.members) else None
+    if is_session r router i then session_with r router i (address_of router.family i)
+    (find member_key (i.member ∷ []) r.members) else None
 
 -- the session of the interface with the number, where it is one of the router's
 abbrev pub session : Registry → Router → ℕ → Option Session
@@ -108,7 +113,8 @@ is_advertise Receive = false
 -- router's own
 abbrev pub is_for : ℕ → MemberRule → Prefix → ℕ → Bool
 is_for rs rule net p =
-    is_advertise rule.way && if_there rule.peer true (λ peer. peer.0 == p && not (peer.0 == rs)) && is_about rule net
+    is_advertise rule.way && if_there rule.peer true (λ peer. peer.0 == p && not (peer.0 == rs))
+    && is_about rule net
 
 -- what the first such rule says of a net and a receiver's AS number
 abbrev pub asked : List MemberRule → ℕ → Prefix → ℕ → Option Action
@@ -122,9 +128,11 @@ is_stop (Prepend n) = false
 
 -- a receive rule is about a sender where its peer is any or the sender's AS number
 abbrev pub is_from : MemberRule → Prefix → ℕ → Bool
-is_from rule net sender = not (is_advertise rule.way) && if_there rule.peer true (λ peer. peer.0 == sender) && is_about rule net
+is_from rule net sender = not (is_advertise rule.way) && if_there rule.peer true (λ peer. peer.0 == sender)
+    && is_about rule net
 
 -- false exactly where the first receive rule about the net and the sender's AS number says stop
 abbrev pub receives : List MemberRule → Prefix → ℕ → Bool
 receives [] net sender = true
-receives (rule ∷ rules) net sender = if is_from rule net sender then not (is_stop rule.action) else receives rules net sender
+receives (rule ∷ rules) net sender =
+    if is_from rule net sender then not (is_stop rule.action) else receives rules net sender

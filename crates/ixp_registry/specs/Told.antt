@@ -38,16 +38,19 @@ family_ordered V6 V4 = refl
 family_ordered V6 V6 = refl
 
 pub pair_told : (a b : ℕ × Family) →
-    is_eq (ordering_then (nat_cmp a.0 b.0) ((family_ord.ghosts).cmp a.1 b.1)) ≡ same (a.0 ∷ version_of a.1 ∷ []) (b.0 ∷ version_of b.1 ∷ [])
+    is_eq (ordering_then (nat_cmp a.0 b.0) ((family_ord.ghosts).cmp a.1 b.1))
+    ≡ same (a.0 ∷ version_of a.1 ∷ []) (b.0 ∷ version_of b.1 ∷ [])
 pair_told a b =
     told_by _ (a.0 ∷ version_of a.1 ∷ []) (b.0 ∷ version_of b.1 ∷ [])
-    (ap (ordering_then (nat_cmp a.0 b.0)) (family_ordered a.1 b.1 ∙ then_equal (nat_cmp (version_of a.1) (version_of b.1))))
+    (ap (ordering_then (nat_cmp a.0 b.0))
+    (family_ordered a.1 b.1 ∙ then_equal (nat_cmp (version_of a.1) (version_of b.1))))
 
 pub addr_told : (a b : Addr) → is_eq ((addr_ord.ghosts).cmp a b) ≡ same (addr_numbers a) (addr_numbers b)
 addr_told a b =
     told_by _ (addr_numbers a) (addr_numbers b)
     (ap (λ o. ordering_then o (nat_cmp a.value b.value)) (family_ordered a.family b.family)
-    ∙ ap (ordering_then (nat_cmp (version_of a.family) (version_of b.family))) (then_equal (nat_cmp a.value b.value)))
+    ∙ ap (ordering_then (nat_cmp (version_of a.family) (version_of b.family)))
+    (then_equal (nat_cmp a.value b.value)))
 
 pub owner_told : (a b : Owner) → is_eq ((owner_ord.ghosts).cmp a b) ≡ same (owner_numbers a) (owner_numbers b)
 owner_told (Staff n) (Staff m) = told_by _ (0 ∷ n ∷ []) (0 ∷ m ∷ []) (then_equal (nat_cmp n m))

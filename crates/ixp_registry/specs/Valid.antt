@@ -126,14 +126,17 @@ pub record ValidInterface (i : Interface) : Type 0 where
   pub columns : IsIn V4 i.v4 × IsIn V6 i.v6
   pub secrets : AllByRecursion (λ a. is_session_secret a.address.secret ≡ true) (addresses_of i)
 
-pub record NamesOfInterface (ms : List Member) (ps : List Port) (vs : List Vlan) (i : Interface) : Type 0 where
+pub record NamesOfInterface (ms : List Member) (ps : List Port) (vs : List Vlan)
+    (i : Interface) : Type 0 where
   pub member : has_member ms i.member ≡ true
   pub stays : has_left ms i.member ≡ false
   pub port : is_port_of ps i.port i.member ≡ true
   pub vlan : has_vlan vs i.vlan ≡ true
-  pub hosts : AllByRecursion (λ a. is_host_in vs i.vlan a.address.addr.family a.address.addr ≡ true) (addresses_of i)
+  pub hosts : AllByRecursion (λ a. is_host_in vs i.vlan a.address.addr.family a.address.addr
+      ≡ true) (addresses_of i)
 
-pub record ValidInterfaces (ms : List Member) (ps : List Port) (vs : List Vlan) (is : List Interface) : Type 0 where
+pub record ValidInterfaces (ms : List Member) (ps : List Port) (vs : List Vlan)
+    (is : List Interface) : Type 0 where
   pub order : Ascends interface_key is
   pub each : AllByRecursion ValidInterface is
   pub named : AllByRecursion (NamesOfInterface ms ps vs) is
@@ -149,7 +152,8 @@ pub record ValidRouter (q : Router) : Type 0 where
   pub asn : is_reserved q.asn.0 ≡ false
   pub bounds : has_bounds q ≡ true
   pub communities : nat_le q.max_comms 1000 ≡ true
-  pub blackhole : if_there q.blackhole true (λ b. same_family b.family q.family && not (q.asn.0 == 65535)) ≡ true
+  pub blackhole : if_there q.blackhole true (λ b. same_family b.family q.family && not (q.asn.0 == 65535))
+      ≡ true
   pub other : has_blackhole q q.addr ≡ false
 
 pub record NamesOfRouter (ms : List Member) (vs : List Vlan) (is : List Interface) (q : Router) : Type 0 where
@@ -166,7 +170,8 @@ holds k i = count (λ a. same k (addr_numbers a.address.addr)) (addresses_of i)
 abbrev pub answers : List ℕ → Router → ℕ
 answers k q = one_if (same k (addr_numbers q.addr))
 
-pub record ValidRouters (ms : List Member) (vs : List Vlan) (is : List Interface) (qs : List Router) : Type 0 where
+pub record ValidRouters (ms : List Member) (vs : List Vlan) (is : List Interface)
+    (qs : List Router) : Type 0 where
   pub order : Ascends router_key qs
   pub each : AllByRecursion ValidRouter qs
   pub named : AllByRecursion (NamesOfRouter ms vs is) qs
@@ -224,11 +229,13 @@ pub record ValidPublic (p : PublicLists) : Type 0 where
   pub bogon_as : Ascends range_key p.bogon_as
   pub transit : Ascends asn_key p.transit
   pub roas : Ascends roa_key p.roas
-  pub fits : AllByRecursion RangeFits p.bogon_as × AllByRecursion AsnFits p.transit × AllByRecursion RoaFits p.roas
+  pub fits : AllByRecursion RangeFits p.bogon_as × AllByRecursion AsnFits p.transit
+      × AllByRecursion RoaFits p.roas
   pub patterns : AllByRecursion (λ b. pattern_has_bounds b ≡ true) p.bogons
   pub ranges : AllByRecursion (λ r. range_ascends r ≡ true) p.bogon_as
   pub lengths : AllByRecursion (λ r. roa_has_bounds r ≡ true) p.roas
-  pub few : (length p.bogons ≤ 10000) × (length p.bogon_as ≤ 10000) × (length p.transit ≤ 10000) × (length p.roas ≤ 1000000)
+  pub few : (length p.bogons ≤ 10000) × (length p.bogon_as ≤ 10000) × (length p.transit ≤ 10000)
+      × (length p.roas ≤ 1000000)
 
 pub record Valid (r : Registry) : Type 0 where
   pub site : ValidSite r.site

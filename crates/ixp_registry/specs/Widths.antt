@@ -56,11 +56,13 @@ abbrev pub AddressFits : IfAddr → Type 0
 AddressFits a = IsNumber a.max_prefix
 
 abbrev pub InterfaceFits : Interface → Type 0
-InterfaceFits i = IsNumber i.number × IsNumber i.member × IsNumber i.port × IsNumber i.vlan × IfSome i.v4 AddressFits × IfSome i.v6 AddressFits
+InterfaceFits i = IsNumber i.number × IsNumber i.member × IsNumber i.port × IsNumber i.vlan
+    × IfSome i.v4 AddressFits × IfSome i.v6 AddressFits
 
 abbrev pub RouterFits : Router → Type 0
 RouterFits q =
-    (is_name q.handle ≡ true) × IsNumber q.vlan × IsNumber q.asn.0 × IsNumber q.id × IsNumber q.low × IsNumber q.high × IsNumber q.max_comms
+    (is_name q.handle ≡ true) × IsNumber q.vlan × IsNumber q.asn.0 × IsNumber q.id × IsNumber q.low
+    × IsNumber q.high × IsNumber q.max_comms
 
 abbrev pub RuleFits : MemberRule → Type 0
 RuleFits x = IsNumber x.member × IsNumber x.place × IfSome x.peer (λ p. IsNumber p.0)

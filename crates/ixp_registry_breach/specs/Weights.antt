@@ -33,7 +33,8 @@ weight_at m member family = unwrap_or (tree.get list_cmp m (member, family)) 0
 
 -- the map has the weight of each member's list of each family
 abbrev pub HasWeights : Rows → BTreeMap (ℕ × Family) ℕ → Type 0
-HasWeights w m = (member : ℕ) (family : Family) → capped (weight_at m member family) ≡ capped (list_weight w member family)
+HasWeights w m = (member : ℕ) (family : Family)
+    → capped (weight_at m member family) ≡ capped (list_weight w member family)
 
 -- what the sessions of an address make of one row of a list, where the address is that of an interface
 abbrev pub interface_weight : Rows → ℕ → Family → AddressRow → InterfaceRow → ℕ

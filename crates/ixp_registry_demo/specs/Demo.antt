@@ -47,13 +47,26 @@ name letter k = letter ∷ decimal k
 -- The member with a number, and what it has. The members' AS numbers go on from 100000.
 
 abbrev pub demo_member : ℕ → Member
-demo_member k = record { number = k; asn = record { 0 = 100000 + k }; status = Connected; as_macro = []; name = name 109 k }
+demo_member k = record {
+  number = k;
+  asn = record { 0 = 100000 + k };
+  status = Connected;
+  as_macro = [];
+  name = name 109 k;
+}
 
 abbrev pub demo_port : ℕ → Port
 demo_port k = record { number = k; switch = 1; speed = 10000; member = k; name = name 112 k }
 
 abbrev pub host : ℕ → IfAddr
-host k = record { addr = address (dotted 10 64 0 0 + k); max_prefix = 0; rs = true; irr = true; more = false; secret = [] }
+host k = record {
+  addr = address (dotted 10 64 0 0 + k);
+  max_prefix = 0;
+  rs = true;
+  irr = true;
+  more = false;
+  secret = [];
+}
 
 abbrev pub demo_interface : ℕ → Interface
 demo_interface k = record { number = k; member = k; port = k; vlan = 1; v4 = Some (host k); v6 = None }
@@ -63,7 +76,11 @@ abbrev pub net_of : ℕ → ℕ → Prefix
 net_of k j = net (dotted 20 0 0 0 + 256 * (4 * k + j))
 
 abbrev pub demo_prefixes : ℕ → IrrList
-demo_prefixes k = record { member = k; family = V4; prefixes = net_of k 0 ∷ net_of k 1 ∷ net_of k 2 ∷ net_of k 3 ∷ [] }
+demo_prefixes k = record {
+  member = k;
+  family = V4;
+  prefixes = net_of k 0 ∷ net_of k 1 ∷ net_of k 2 ∷ net_of k 3 ∷ [];
+}
 
 abbrev pub demo_origins : ℕ → OriginList
 demo_origins k = record { member = k; family = V4; asns = record { 0 = 100000 + k } ∷ [] }
@@ -78,7 +95,8 @@ demo_switch = record { number = 1; name = codes "sw1" }
 
 -- 10.0.0.0/8
 abbrev pub lan_prefix : Prefix
-lan_prefix = record { family = V4; value = dotted 10 0 0 0; len = 8; short = lit≤ tt; fits = lit< tt; no_host_bits = refl }
+lan_prefix =
+    record { family = V4; value = dotted 10 0 0 0; len = 8; short = lit≤ tt; fits = lit< tt; no_host_bits = refl }
 
 abbrev pub lan : Vlan
 lan = record {

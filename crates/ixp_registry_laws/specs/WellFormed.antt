@@ -19,7 +19,8 @@ abbrev pub HasColumns : Interface → Type 0
 HasColumns i = IsIn V4 i.v4 × IsIn V6 i.v6
 
 abbrev pub IsPrefixList : IrrList → Type 0
-IsPrefixList l = (l.prefixes ≢ []) × Ascends prefix_key l.prefixes × AllByRecursion (λ p. p.family ≡ l.family) l.prefixes
+IsPrefixList l = (l.prefixes ≢ []) × Ascends prefix_key l.prefixes
+    × AllByRecursion (λ p. p.family ≡ l.family) l.prefixes
 
 abbrev pub IsOriginList : OriginList → Type 0
 IsOriginList l = (l.asns ≢ []) × Ascends asn_key l.asns

@@ -29,11 +29,13 @@ StandsAt rows i r = (i < length rows) × (r ≡ slice_index_or rows i r)
 
 -- no row has a key below that of an earlier one
 abbrev pub AreInOrder : List Roa → Type 0
-AreInOrder rows = (i j : ℕ) (d : Roa) → i ≤ j → j < length rows → is_lt (order (roa_key (slice_index_or rows j d)) (roa_key (slice_index_or rows i d))) ≡ false
+AreInOrder rows = (i j : ℕ) (d : Roa) → i ≤ j → j < length rows
+    → is_lt (order (roa_key (slice_index_or rows j d)) (roa_key (slice_index_or rows i d))) ≡ false
 
 -- no row that covers the net stands from this place on to that one
 abbrev pub NoneFrom : List Roa → Prefix → ℕ → ℕ → Type 0
-NoneFrom rows net at end = (j : ℕ) (s : Roa) → StandsAt rows j s → j < end → covers s.prefix net ≡ true → j < at
+NoneFrom rows net at end = (j : ℕ) (s : Roa) → StandsAt rows j s → j < end → covers s.prefix net ≡ true
+    → j < at
 
 -- the rows before this place begin no later than the net, and the others later
 abbrev pub IsPlace : List Roa → Prefix → ℕ → Type 0
@@ -46,7 +48,8 @@ IsPlace rows net n =
 abbrev pub AreLinked : List Roa → List ℕ → Type 0
 AreLinked rows links =
     (length links ≤ length rows)
-    × ((i : ℕ) (r : Roa) → i < length links → StandsAt rows i r → (slice_index links i ≤ i) × NoneFrom rows r.prefix (slice_index links i) i)
+    × ((i : ℕ) (r : Roa) → i < length links → StandsAt rows i r
+    → (slice_index links i ≤ i) × NoneFrom rows r.prefix (slice_index links i) i)
 
 -- the rows at these places
 abbrev pub at_places : List Roa → List ℕ → List Roa

@@ -41,7 +41,8 @@ IsLength p n = (p.len ≤ n) × (n ≤ bits_of p.family)
 abbrev pub FieldsAnswer : List ℕ → List ℕ → List ℕ → Result Roa Misfit → Type 0
 FieldsAnswer asn net max (Ok r) = SayRoa asn net max r.asn r.prefix r.max × IsLength r.prefix r.max
 FieldsAnswer asn net max (Err misfit.Form) = ¬ ((a : Asn) × (p : Prefix) × (n : ℕ) × SayRoa asn net max a p n)
-FieldsAnswer asn net max (Err misfit.MaxLength) = (a : Asn) × (p : Prefix) × (n : ℕ) × SayRoa asn net max a p n × ¬ (IsLength p n)
+FieldsAnswer asn net max (Err misfit.MaxLength) =
+    (a : Asn) × (p : Prefix) × (n : ℕ) × SayRoa asn net max a p n × ¬ (IsLength p n)
 
 -- a row has at least three fields
 abbrev pub RowAnswer : List (List ℕ) → Result Roa Misfit → Type 0
@@ -60,8 +61,10 @@ AreRoas (row ∷ rows) (r ∷ rs) = RowAnswer row (Ok r) × AreRoas rows rs
 -- rows behind so many rows of a header: ROAs, or the place of the first that is none
 abbrev pub MisfitIn : List (List (List ℕ)) → ℕ → Misfit → ℕ → Type 0
 MisfitIn rows skipped why n =
-    (before : List Roa) × (good : List (List (List ℕ))) × (row : List (List ℕ)) × (after : List (List (List ℕ)))
-    × (rows ≡ good ++ row ∷ after) × AreRoas good before × RowAnswer row (Err why) × (n ≡ skipped + length good + 1)
+    (before : List Roa) × (good : List (List (List ℕ))) × (row : List (List ℕ))
+    × (after : List (List (List ℕ)))
+    × (rows ≡ good ++ row ∷ after) × AreRoas good before × RowAnswer row (Err why)
+    × (n ≡ skipped + length good + 1)
 
 -- a first row that begins with `ASN` is a header
 abbrev pub is_header : List (List ℕ) → Bool
@@ -83,26 +86,36 @@ FirstMisfit rows why n = MisfitIn (under_header rows) (header_rows rows) why n
 -- the same ROAs in the order of their keys and each once, if there are at most so many
 abbrev pub OrderedAnswer : ℕ → List Roa → Result (List Roa) RoaFault → Type 0
 OrderedAnswer most all (Ok rs) = IsInOrder roa_key all rs × (length rs ≤ most)
-OrderedAnswer most all (Err (fault.TooMany have)) = (rs : List Roa) × IsInOrder roa_key all rs × (have ≡ length rs) × (most < have)
+OrderedAnswer most all (Err (fault.TooMany have)) =
+    (rs : List Roa) × IsInOrder roa_key all rs × (have ≡ length rs) × (most < have)
 OrderedAnswer most all (Err (fault.Row n)) = ⊥
 OrderedAnswer most all (Err (fault.MaxLength n)) = ⊥
 OrderedAnswer most all (Err fault.NoMemory) = ⊥
 
 -- what rows are: a list of ROAs, a misfit at the first row that is none, or too many
 abbrev pub RowsAnswer : ℕ → List (List (List ℕ)) → Result (List Roa) RoaFault → Type 0
-RowsAnswer most rows (Ok rs) = (all : List Roa) × AreRoas (under_header rows) all × OrderedAnswer most all (Ok rs)
+RowsAnswer most rows (Ok rs) =
+    (all : List Roa) × AreRoas (under_header rows) all × OrderedAnswer most all (Ok rs)
 RowsAnswer most rows (Err (fault.Row n)) = FirstMisfit rows misfit.Form n
 RowsAnswer most rows (Err (fault.MaxLength n)) = FirstMisfit rows misfit.MaxLength n
-RowsAnswer most rows (Err (fault.TooMany have)) = (all : List Roa) × AreRoas (under_header rows) all × OrderedAnswer most all (Err (fault.TooMany have))
+RowsAnswer most rows (Err (fault.TooMany have)) =
+    (all : List Roa) × AreRoas (under_header rows) all × OrderedAnswer most all (Err (fault.TooMany have))
 RowsAnswer most rows (Err fault.NoMemory) = Unit {0}
 
 -- The rows of the text are such (RFC 4180, as the csv crate reads it).
 abbrev pub ListAnswer : ℕ → List ℕ → Result (List Roa) RoaFault → Type 0
 ListAnswer most t (Err fault.NoMemory) = Unit {0}
-ListAnswer most t (Ok rs) = (rows : List (List (List ℕ))) × AreRecords default_config state.StartRecord (strip_bom t) rows × RowsAnswer most rows (Ok rs)
-ListAnswer most t (Err (fault.Row n)) = (rows : List (List (List ℕ))) × AreRecords default_config state.StartRecord (strip_bom t) rows × RowsAnswer most rows (Err (fault.Row n))
-ListAnswer most t (Err (fault.MaxLength n)) = (rows : List (List (List ℕ))) × AreRecords default_config state.StartRecord (strip_bom t) rows × RowsAnswer most rows (Err (fault.MaxLength n))
-ListAnswer most t (Err (fault.TooMany n)) = (rows : List (List (List ℕ))) × AreRecords default_config state.StartRecord (strip_bom t) rows × RowsAnswer most rows (Err (fault.TooMany n))
+ListAnswer most t (Ok rs) = (rows : List (List (List ℕ)))
+    × AreRecords default_config state.StartRecord (strip_bom t) rows × RowsAnswer most rows (Ok rs)
+ListAnswer most t (Err (fault.Row n)) = (rows : List (List (List ℕ)))
+    × AreRecords default_config state.StartRecord (strip_bom t) rows
+    × RowsAnswer most rows (Err (fault.Row n))
+ListAnswer most t (Err (fault.MaxLength n)) =
+    (rows : List (List (List ℕ))) × AreRecords default_config state.StartRecord (strip_bom t) rows
+    × RowsAnswer most rows (Err (fault.MaxLength n))
+ListAnswer most t (Err (fault.TooMany n)) =
+    (rows : List (List (List ℕ))) × AreRecords default_config state.StartRecord (strip_bom t) rows
+    × RowsAnswer most rows (Err (fault.TooMany n))
 
 -- with at most a million ROAs
 abbrev pub CsvAnswer : List ℕ → Result (List Roa) RoaFault → Type 0
@@ -111,9 +124,12 @@ CsvAnswer t r = ListAnswer 1000000 t r
 -- the same before the ROAs are put in order and counted
 abbrev pub TextAnswer : List ℕ → Result (Vec Roa) RoaFault → Type 0
 TextAnswer t (Err fault.NoMemory) = Unit {0}
-TextAnswer t (Ok rs) = (rows : List (List (List ℕ))) × AreRecords default_config state.StartRecord (strip_bom t) rows × AreRoas (under_header rows) rs.items
-TextAnswer t (Err (fault.Row n)) = (rows : List (List (List ℕ))) × AreRecords default_config state.StartRecord (strip_bom t) rows × FirstMisfit rows misfit.Form n
-TextAnswer t (Err (fault.MaxLength n)) = (rows : List (List (List ℕ))) × AreRecords default_config state.StartRecord (strip_bom t) rows × FirstMisfit rows misfit.MaxLength n
+TextAnswer t (Ok rs) = (rows : List (List (List ℕ)))
+    × AreRecords default_config state.StartRecord (strip_bom t) rows × AreRoas (under_header rows) rs.items
+TextAnswer t (Err (fault.Row n)) = (rows : List (List (List ℕ)))
+    × AreRecords default_config state.StartRecord (strip_bom t) rows × FirstMisfit rows misfit.Form n
+TextAnswer t (Err (fault.MaxLength n)) = (rows : List (List (List ℕ)))
+    × AreRecords default_config state.StartRecord (strip_bom t) rows × FirstMisfit rows misfit.MaxLength n
 TextAnswer t (Err (fault.TooMany n)) = ⊥
 
 -- these ROAs behind so many rows of a header are all of the rows
@@ -123,7 +139,9 @@ AreRead rows before roas = AreRoas (under_header rows) roas × (before ≡ heade
 -- one more row: the header and the ROAs with it, or the first misfit, whatever follows
 abbrev pub RowTaken : List (List (List ℕ)) → List (List ℕ) → List Roa → Result ℕ RoaFault → Type 0
 RowTaken rows row roas (Ok before) = AreRead (rows ++ row ∷ []) before roas
-RowTaken rows row roas (Err (fault.Row n)) = (rest : List (List (List ℕ))) → FirstMisfit (rows ++ row ∷ rest) misfit.Form n
-RowTaken rows row roas (Err (fault.MaxLength n)) = (rest : List (List (List ℕ))) → FirstMisfit (rows ++ row ∷ rest) misfit.MaxLength n
+RowTaken rows row roas (Err (fault.Row n)) =
+    (rest : List (List (List ℕ))) → FirstMisfit (rows ++ row ∷ rest) misfit.Form n
+RowTaken rows row roas (Err (fault.MaxLength n)) =
+    (rest : List (List (List ℕ))) → FirstMisfit (rows ++ row ∷ rest) misfit.MaxLength n
 RowTaken rows row roas (Err (fault.TooMany n)) = ⊥
 RowTaken rows row roas (Err fault.NoMemory) = Unit {0}

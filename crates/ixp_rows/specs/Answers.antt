@@ -18,10 +18,14 @@ use Rattle.ixp_rows.specs.Reading.{head_text, end_text}
 unfoldable pub row_lines : Version → Rows → List Line
 row_lines version w =
     site_line w.site
-    ∷ (map member_line w.members ++ (map contact_line w.contacts ++ (map key_line w.keys ++ (map switch_line w.switches
-    ++ (map port_line w.ports ++ (map vlan_line w.vlans ++ (map interface_line w.interfaces ++ (map address_line w.addresses
-    ++ (map (router_line version) w.routers ++ (map prefix_line w.prefixes ++ (map origin_line w.origins ++ (map rule_line w.rules
-    ++ (map bogon_line w.public.bogons ++ (map bogon_as_line w.public.bogon_as ++ (map transit_line w.public.transit
+    ∷ (map member_line w.members ++ (map contact_line w.contacts
+    ++ (map key_line w.keys ++ (map switch_line w.switches
+    ++ (map port_line w.ports ++ (map vlan_line w.vlans
+    ++ (map interface_line w.interfaces ++ (map address_line w.addresses
+    ++ (map (router_line version) w.routers
+    ++ (map prefix_line w.prefixes ++ (map origin_line w.origins ++ (map rule_line w.rules
+    ++ (map bogon_line w.public.bogons ++
+    (map bogon_as_line w.public.bogon_as ++ (map transit_line w.public.transit
     ++ map roa_line w.public.roas)))))))))))))))
 
 -- the rows of each kind ascend, as tables and the readers keep them
@@ -71,7 +75,8 @@ IsDump version lines t = Stands version t lines (end_text (length lines))
 abbrev pub IsLineOrEnd : Version → List Line → List ℕ → Type 0
 IsLineOrEnd version [] rest = (line : Line) × (line.kind ≡ Sites) × BeginsLine version line rest
 IsLineOrEnd version (l ∷ ls) rest =
-    ((line : Line) × BeginsLine version line rest) ⊎ ((more : List ℕ) × (rest ≡ end_text (length (l ∷ ls)) ++ more))
+    ((line : Line) × BeginsLine version line rest)
+    ⊎ ((more : List ℕ) × (rest ≡ end_text (length (l ∷ ls)) ++ more))
 
 -- a line of the format begins the rest, and the last of the lines compares so with it
 pub record Clashes (how : Ordering) (version : Version) (lines : List Line) (rest : List ℕ) : Type 0 where
@@ -87,23 +92,28 @@ HasNoHead version t = (rest : List ℕ) → t ≢ head_text version ++ rest
 
 -- what stands on line n is neither a line nor the end
 abbrev pub IsBadLine : Version → List ℕ → ℕ → Type 0
-IsBadLine version t n = (lines : List Line) × (rest : List ℕ) × Stands version t lines rest × (n ≡ length lines + 2) × ¬ (IsLineOrEnd version lines rest)
+IsBadLine version t n = (lines : List Line) × (rest : List ℕ) × Stands version t lines rest
+    × (n ≡ length lines + 2) × ¬ (IsLineOrEnd version lines rest)
 
 -- on line n stands something behind the end
 abbrev pub IsBehindEnd : Version → List ℕ → ℕ → Type 0
 IsBehindEnd version t n =
-    (lines : List Line) × (c : ℕ) × (more : List ℕ) × Stands version t lines (end_text (length lines) ++ c ∷ more)
+    (lines : List Line) × (c : ℕ) × (more : List ℕ)
+    × Stands version t lines (end_text (length lines) ++ c ∷ more)
     × (0 < length lines) × (n ≡ length lines + 3)
 
 -- line n clashes so with the line before it
 abbrev pub ClashesAt : Ordering → Version → List ℕ → ℕ → Type 0
-ClashesAt how version t n = (lines : List Line) × (rest : List ℕ) × Stands version t lines rest × (n ≡ length lines + 2) × Clashes how version lines rest
+ClashesAt how version t n = (lines : List Line) × (rest : List ℕ) × Stands version t lines rest
+    × (n ≡ length lines + 2) × Clashes how version lines rest
 
 -- The rows of whose lines the text is a dump, with nothing that its version doesn't tell, or its first faulty
 -- line. Rules that rows break are no matter of reading.
 abbrev pub DumpAnswer : Version → List ℕ → Result Rows DumpFault → Type 0
-DumpAnswer version t (Ok rows) = IsDump version (row_lines version rows) t × AllByRecursion (IsOfVersion version) rows.routers
-DumpAnswer version t (Err (BadLine n)) = ((n ≡ 1) × HasNoHead version t) ⊎ IsBadLine version t n ⊎ IsBehindEnd version t n
+DumpAnswer version t (Ok rows) =
+    IsDump version (row_lines version rows) t × AllByRecursion (IsOfVersion version) rows.routers
+DumpAnswer version t (Err (BadLine n)) =
+    ((n ≡ 1) × HasNoHead version t) ⊎ IsBadLine version t n ⊎ IsBehindEnd version t n
 DumpAnswer version t (Err (Order n)) = ClashesAt Greater version t n
 DumpAnswer version t (Err (Twice n)) = ClashesAt Equal version t n
 DumpAnswer version t (Err (Invalid rule n)) = ⊥

@@ -15,8 +15,10 @@ use Rattle.ixp_rows.specs.Answers.{DumpAnswer}
 -- The valid registry whose dump the text is; where the text is a dump of other rows, the lowest rule that
 -- they break and the line of the first row that breaks it; else the first faulty line.
 abbrev pub RegistryAnswer : Version → List ℕ → Result Registry DumpFault → Type 0
-RegistryAnswer version t (Ok r) = DumpAnswer version t (Ok (rows_of r)) × (t ≡ dump_text version (rows_of r)) × Valid r
-RegistryAnswer version t (Err (Invalid rule line)) = (w : Rows) × DumpAnswer version t (Ok w) × (breach w ≡ Some (record { rule = rule; line = line }))
+RegistryAnswer version t (Ok r) =
+    DumpAnswer version t (Ok (rows_of r)) × (t ≡ dump_text version (rows_of r)) × Valid r
+RegistryAnswer version t (Err (Invalid rule line)) =
+    (w : Rows) × DumpAnswer version t (Ok w) × (breach w ≡ Some (record { rule = rule; line = line }))
 RegistryAnswer version t (Err (BadLine n)) = DumpAnswer version t (Err (BadLine n))
 RegistryAnswer version t (Err (Order n)) = DumpAnswer version t (Err (Order n))
 RegistryAnswer version t (Err (Twice n)) = DumpAnswer version t (Err (Twice n))

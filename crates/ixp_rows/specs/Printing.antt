@@ -9,7 +9,8 @@ use Rattle.ixp_rows.specs.Texts.{lines_by}
 
 abbrev pub all_kinds : List Kind
 all_kinds =
-    Sites ∷ Members ∷ Contacts ∷ Keys ∷ Switches ∷ Ports ∷ Vlans ∷ Interfaces ∷ Addresses ∷ Routers ∷ Prefixes ∷ Origins ∷ Rules ∷ Bogons
+    Sites ∷ Members ∷ Contacts ∷ Keys ∷ Switches ∷ Ports ∷ Vlans ∷ Interfaces ∷ Addresses ∷ Routers ∷ Prefixes
+    ∷ Origins ∷ Rules ∷ Bogons
     ∷ BogonAs ∷ Transit ∷ Roas ∷ []
 
 -- the lines of the rows of a kind

@@ -27,7 +27,8 @@ with_blank (c ∷ cs) = if c == 32 then Some (c ∷ cs) else None
 
 unfoldable pub behind : Kind → List ℕ → Option (List ℕ)
 behind kind t =
-    if same (take (length (word_of kind)) t) (word_of kind) then with_blank (drop (length (word_of kind)) t) else None
+    if same (take (length (word_of kind)) t) (word_of kind) then with_blank (drop (length (word_of kind)) t)
+    else None
 
 abbrev pub key_in : Kind → List Field → List ℕ
 key_in kind fields = flat_map field_key (take (key_length kind) fields)
@@ -64,17 +65,21 @@ begun left (Some x) = Ok x
 
 -- the rows of the kind that follow one another; each takes a byte, so that n is enough where it is above the
 -- length of the text
-abbrev pub behind_row : (Option (List ℕ) → List ℕ → Result (List (List Field) × List ℕ) Misread) → Kind → List Field × List ℕ → Result (List (List Field) × List ℕ) Misread
+abbrev pub behind_row : (Option (List ℕ) → List ℕ → Result (List (List Field) × List ℕ) Misread) → Kind
+    → List Field × List ℕ → Result (List (List Field) × List ℕ) Misread
 behind_row more kind x = more (Some (key_in kind x.0)) x.1 >>= λ s. Ok (x.0 ∷ s.0, s.1)
 
-abbrev pub more_with : (Option (List ℕ) → List ℕ → Result (List (List Field) × List ℕ) Misread) → Kind → Option (List ℕ) → List ℕ → Option (List Field × List ℕ) → Result (List (List Field) × List ℕ) Misread
+abbrev pub more_with : (Option (List ℕ) → List ℕ → Result (List (List Field) × List ℕ) Misread) → Kind
+    → Option (List ℕ) → List ℕ → Option (List Field × List ℕ) → Result (List (List Field) × List ℕ) Misread
 more_with more kind last t None = Ok ([], t)
 more_with more kind last t (Some x) =
     unless (misplaced (length t) last (key_in kind x.0)) x >>= behind_row more kind
 
-unfoldable pub rows_from : ℕ → Version → Kind → Option (List ℕ) → List ℕ → Result (List (List Field) × List ℕ) Misread
+unfoldable pub rows_from : ℕ → Version → Kind → Option (List ℕ) → List ℕ
+    → Result (List (List Field) × List ℕ) Misread
 rows_from zero version kind last t = Ok ([], t)
-rows_from (suc n) version kind last t = begun (length t) (line_at version kind t) >>= λ o. more_with (rows_from n version kind) kind last t o
+rows_from (suc n) version kind last t =
+    begun (length t) (line_at version kind t) >>= λ o. more_with (rows_from n version kind) kind last t o
 
 abbrev pub section : Version → Kind → List ℕ → Result (List (List Field) × List ℕ) Misread
 section version kind t = rows_from (suc (length t)) version kind None t
@@ -92,7 +97,8 @@ Gives view (Err fault) reads = Fails fault reads
 -- the rows of some kinds, one kind after the other
 abbrev pub sections_at : Version → List Kind → List ℕ → Result (List (List (List Field)) × List ℕ) Misread
 sections_at version [] t = Ok ([], t)
-sections_at version (kind ∷ kinds) t = section version kind t >>= λ s. sections_at version kinds s.1 >>= λ r. Ok (s.0 ∷ r.0, r.1)
+sections_at version (kind ∷ kinds) t =
+    section version kind t >>= λ s. sections_at version kinds s.1 >>= λ r. Ok (s.0 ∷ r.0, r.1)
 
 -- what is behind the dump's head
 abbrev pub head_text : Version → List ℕ
@@ -129,7 +135,8 @@ lists_at version t =
 -- all rows of a dump, and what is behind them
 unfoldable pub rows_at : Version → List ℕ → Result (List (List (List Field)) × List ℕ) Misread
 rows_at version t =
-    begun (length t) (after_text (head_text version) t) >>= λ rest. needed (length rest) (line_at version Sites rest)
+    begun (length t) (after_text (head_text version) t) >>= λ rest. needed (length rest)
+    (line_at version Sites rest)
     >>= λ s. lists_at version s.1 >>= λ x. Ok ((s.0 ∷ []) ∷ x.0, x.1)
 
 abbrev pub is_line_of : Version → List ℕ → Kind → Bool
@@ -138,13 +145,15 @@ is_line_of version t kind = option_map_or is_some (line_at version kind t) false
 -- a line of any kind stands here
 unfoldable pub is_line : Version → List ℕ → Bool
 is_line version t =
-    is_line_of version t Sites || list_any (is_line_of version t) owner_kinds || list_any (is_line_of version t) network_kinds
+    is_line_of version t Sites || list_any (is_line_of version t) owner_kinds
+    || list_any (is_line_of version t) network_kinds
     || list_any (is_line_of version t) steering_kinds || list_any (is_line_of version t) public_kinds
 
 -- the fault of a line that no row's place is for, behind so many lines
 abbrev pub stray : Version → ℕ → List ℕ → Misread
 stray version lines t =
-    if is_line version t then (if lines == 1 && is_line_of version t Sites then Twice (length t) else Order (length t)) else Bad (length t)
+    if is_line version t then (if lines == 1 && is_line_of version t Sites then Twice (length t)
+    else Order (length t)) else Bad (length t)
 
 abbrev pub end_text : ℕ → List ℕ
 end_text lines = codes "end " ++ (decimal lines ++ 10 ∷ [])

@@ -111,41 +111,66 @@ abbrev pub site_line : Site → Line
 site_line s = record { kind = Sites; fields = Number s.ixp_id ∷ Number s.ixf_id ∷ Free s.shortname ∷ [] }
 
 abbrev pub member_line : Member → Line
-member_line m = record { kind = Members; fields = Number m.number ∷ Number m.asn.0 ∷ Word (status_word m.status) ∷ Free m.as_macro ∷ Free m.name ∷ [] }
+member_line m = record {
+  kind = Members;
+  fields = Number m.number ∷ Number m.asn.0 ∷ Word (status_word m.status) ∷ Free m.as_macro ∷ Free m.name
+      ∷ [];
+}
 
 abbrev pub contact_line : Contact → Line
-contact_line c = record { kind = Contacts; fields = Number c.member ∷ Number c.place ∷ Free c.role ∷ Free c.mail ∷ Free c.name ∷ [] }
+contact_line c = record {
+  kind = Contacts;
+  fields = Number c.member ∷ Number c.place ∷ Free c.role ∷ Free c.mail ∷ Free c.name ∷ [];
+}
 
 abbrev pub key_line : ApiKey → Line
-key_line k = record { kind = Keys; fields = Number k.number ∷ Word (owner_word k.owner) ∷ Number (owner_number k.owner) ∷ Secret k.secret ∷ [] }
+key_line k = record {
+  kind = Keys;
+  fields = Number k.number ∷ Word (owner_word k.owner) ∷ Number (owner_number k.owner) ∷ Secret k.secret ∷ [];
+}
 
 abbrev pub switch_line : Switch → Line
 switch_line s = record { kind = Switches; fields = Number s.number ∷ Free s.name ∷ [] }
 
 abbrev pub port_line : Port → Line
-port_line p = record { kind = Ports; fields = Number p.number ∷ Number p.switch ∷ Number p.speed ∷ Number p.member ∷ Free p.name ∷ [] }
+port_line p = record {
+  kind = Ports;
+  fields = Number p.number ∷ Number p.switch ∷ Number p.speed ∷ Number p.member ∷ Free p.name ∷ [];
+}
 
 abbrev pub vlan_line : Vlan → Line
-vlan_line v = record { kind = Vlans; fields = Number v.number ∷ Number v.tag ∷ field_or (codes "-") net_field v.v4 ∷ field_or (codes "-") net_field v.v6 ∷ Free v.name ∷ [] }
+vlan_line v = record {
+  kind = Vlans;
+  fields = Number v.number ∷ Number v.tag ∷ field_or (codes "-") net_field v.v4
+      ∷ field_or (codes "-") net_field v.v6 ∷ Free v.name ∷ [];
+}
 
 abbrev pub interface_line : InterfaceRow → Line
-interface_line i = record { kind = Interfaces; fields = Number i.number ∷ Number i.member ∷ Number i.port ∷ Number i.vlan ∷ [] }
+interface_line i = record {
+  kind = Interfaces;
+  fields = Number i.number ∷ Number i.member ∷ Number i.port ∷ Number i.vlan ∷ [];
+}
 
 abbrev pub address_line : AddressRow → Line
 address_line a = record {
   kind = Addresses;
-  fields = Number a.interface ∷ address_field a.address.addr ∷ Number a.address.max_prefix ∷ Word (flag_word a.address.rs)
+  fields = Number a.interface ∷ address_field a.address.addr ∷ Number a.address.max_prefix
+      ∷ Word (flag_word a.address.rs)
       ∷ Word (flag_word a.address.irr) ∷ Word (flag_word a.address.more) ∷ Secret a.address.secret ∷ [];
 }
 
 abbrev pub router_fields : Router → List Field
 router_fields r =
-    Handle r.handle ∷ Number r.vlan ∷ Word (family_word r.family) ∷ address_field r.addr ∷ Number r.asn.0 ∷ Address V4 r.id ∷ Number r.low
+    Handle r.handle ∷ Number r.vlan ∷ Word (family_word r.family) ∷ address_field r.addr ∷ Number r.asn.0
+    ∷ Address V4 r.id ∷ Number r.low
     ∷ Number r.high ∷ Word (flag_word r.rpki) ∷ []
 
 abbrev pub router_line : Version → Router → Line
 router_line One r = record { kind = Routers; fields = router_fields r }
-router_line Two r = record { kind = Routers; fields = router_fields r ++ field_or (codes "-") address_field r.blackhole ∷ Number r.max_comms ∷ [] }
+router_line Two r = record {
+  kind = Routers;
+  fields = router_fields r ++ field_or (codes "-") address_field r.blackhole ∷ Number r.max_comms ∷ [];
+}
 
 -- a router of the first version has no blackhole address and no bound on communities
 abbrev pub IsOfVersion : Version → Router → Type 0
@@ -166,7 +191,10 @@ abbrev pub prefix_line : MemberPrefix → Line
 prefix_line p = record { kind = Prefixes; fields = Number p.member ∷ net_field p.prefix ∷ [] }
 
 abbrev pub origin_line : MemberOrigin → Line
-origin_line o = record { kind = Origins; fields = Number o.member ∷ Word (family_word o.family) ∷ Number o.asn.0 ∷ [] }
+origin_line o = record {
+  kind = Origins;
+  fields = Number o.member ∷ Word (family_word o.family) ∷ Number o.asn.0 ∷ [];
+}
 
 abbrev pub rule_line : MemberRule → Line
 rule_line r = record {
@@ -208,9 +236,11 @@ place_of Transit = 16
 place_of Roas = 17
 
 abbrev pub router_form : Version → List Piece
-router_form One = AHandle ∷ ANumber ∷ families ∷ AnAddress ∷ ANumber ∷ AnIdentifier ∷ ANumber ∷ ANumber ∷ flags ∷ []
+router_form One = AHandle ∷ ANumber ∷ families ∷ AnAddress ∷ ANumber ∷ AnIdentifier ∷ ANumber ∷ ANumber
+    ∷ flags ∷ []
 router_form Two =
-    AHandle ∷ ANumber ∷ families ∷ AnAddress ∷ ANumber ∷ AnIdentifier ∷ ANumber ∷ ANumber ∷ flags ∷ Or (codes "-") AnAddress ∷ ANumber ∷ []
+    AHandle ∷ ANumber ∷ families ∷ AnAddress ∷ ANumber ∷ AnIdentifier ∷ ANumber ∷ ANumber ∷ flags
+    ∷ Or (codes "-") AnAddress ∷ ANumber ∷ []
 
 -- what the fields of a line of the kind may be
 abbrev pub form_of : Version → Kind → List Piece

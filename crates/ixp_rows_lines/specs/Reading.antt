@@ -48,19 +48,23 @@ octet_with (Number n) = if nat_lt n 256 then Some (Octet n) else None
 octet_with field = None
 
 abbrev pub address_with : List ℕ → List ℕ → Option Field
-address_with (v ∷ value ∷ len ∷ low ∷ high ∷ []) t = kept (nat_lt value (2 ^ bits_of (family_of v))) (Address (family_of v) value) t
+address_with (v ∷ value ∷ len ∷ low ∷ high ∷ []) t =
+    kept (nat_lt value (2 ^ bits_of (family_of v))) (Address (family_of v) value) t
 address_with ns t = None
 
 abbrev pub is_prefix : Family → ℕ → ℕ → Bool
-is_prefix family value len = nat_le len (bits_of family) && nat_lt value (2 ^ bits_of family) && value % 2 ^ (bits_of family - len) == 0
+is_prefix family value len = nat_le len (bits_of family) && nat_lt value (2 ^ bits_of family)
+    && value % 2 ^ (bits_of family - len) == 0
 
 abbrev pub net_with : List ℕ → List ℕ → Option Field
-net_with (v ∷ value ∷ len ∷ low ∷ high ∷ []) t = kept (is_prefix (family_of v) value len) (Net (family_of v) value len) t
+net_with (v ∷ value ∷ len ∷ low ∷ high ∷ []) t =
+    kept (is_prefix (family_of v) value len) (Net (family_of v) value len) t
 net_with ns t = None
 
 abbrev pub bounds_with : List ℕ → List ℕ → Option Field
 bounds_with (v ∷ value ∷ len ∷ low ∷ high ∷ []) t =
-    kept (is_prefix (family_of v) value len && nat_lt low 256 && nat_lt high 256) (Bounds (family_of v) value len low high) t
+    kept (is_prefix (family_of v) value len && nat_lt low 256
+    && nat_lt high 256) (Bounds (family_of v) value len low high) t
 bounds_with ns t = None
 
 abbrev pub without_dash : List ℕ → List ℕ
@@ -117,7 +121,8 @@ owner_kind_word Of = codes "member"
 
 -- the two fields of an owner
 abbrev pub owner_at : List ℕ → Option (Field × Field × List ℕ)
-owner_at t = piece_at owner_kinds t >>= λ kind. piece_at ANumber kind.1 >>= λ number. Some (kind.0, number.0, number.1)
+owner_at t = piece_at owner_kinds t >>= λ kind. piece_at ANumber kind.1 >>= λ number. Some
+    (kind.0, number.0, number.1)
 
 -- what was read, seen through `view`
 abbrev pub Gives : {A B : Type 0} → (A → B) → Result A Unread → Option B → Type 0

@@ -27,7 +27,8 @@ is_empty (c ∷ cs) = false
 -- what is before the first byte that stands in no name, and what is behind it, where it is a colon
 abbrev pub named_at : List ℕ → Option ℕ → Option (List ℕ × List ℕ)
 named_at line None = None
-named_at line (Some at) = if nat_le 1 at && slice_index line at == 58 then Some (take at line, drop (at + 1) line) else None
+named_at line (Some at) = if nat_le 1 at && slice_index line at == 58
+    then Some (take at line, drop (at + 1) line) else None
 
 -- the name and the value of a line: one or more letters, digits and `-`, a colon, and the rest
 abbrev pub named : List ℕ → Option (List ℕ × List ℕ)
@@ -51,12 +52,14 @@ whole_value first ls = uncommented first ++ going ls
 
 abbrev pub with_named : List ℕ → Line → List Line → Option (List ℕ × List ℕ) → List Attribute → List Attribute
 with_named word l ls None others = others
-with_named word l ls (Some p) others = if is_word word p.0 then record { line = l.number; value = whole_value p.1 ls } ∷ others else others
+with_named word l ls (Some p) others =
+    if is_word word p.0 then record { line = l.number; value = whole_value p.1 ls } ∷ others else others
 
 -- the attributes of this name, up to the next empty line
 abbrev pub attributes : List ℕ → List Line → List Attribute
 attributes word [] = []
-attributes word (l ∷ ls) = if is_empty l.bytes then [] else with_named word l ls (named l.bytes) (attributes word ls)
+attributes word (l ∷ ls) = if is_empty l.bytes then []
+    else with_named word l ls (named l.bytes) (attributes word ls)
 
 -- the lesser of two lines, if there are any
 abbrev pub earlier : Option ℕ → Option ℕ → Option ℕ
@@ -71,7 +74,8 @@ is_pair (Some p) = true
 -- the least line, up to the next empty line, that neither has a name nor goes on with a value
 abbrev pub bad_line : List Line → Option ℕ
 bad_line [] = None
-bad_line (l ∷ ls) = if is_empty l.bytes then None else if is_pair (named l.bytes) || goes_on l.bytes then bad_line ls else earlier (Some l.number) (bad_line ls)
+bad_line (l ∷ ls) = if is_empty l.bytes then None else if is_pair (named l.bytes) || goes_on l.bytes
+    then bad_line ls else earlier (Some l.number) (bad_line ls)
 
 -- the next empty line, and what is behind it
 abbrev pub past_object : List Line → List Line

@@ -11,7 +11,8 @@ use Rattle.ixp_rpsl.specs.declared.objects.SetRow.{SetRow}
 
 -- `by` is the least place of a set that names this one
 abbrev pub IsNearest : List SetRow → List Reach → Reach → Type 0
-IsNearest rows c r = (is_named rows c r.by r.set ≡ true) × ((k : ℕ) → k < r.by → is_named rows c k r.set ≡ false)
+IsNearest rows c r = (is_named rows c r.by r.set ≡ true)
+    × ((k : ℕ) → k < r.by → is_named rows c k r.set ≡ false)
 
 -- the sets among the members of the one at a place
 abbrev pub members_at : List SetRow → Option Reach → List (List ℕ)
@@ -34,7 +35,8 @@ has_object rows name = list_any (λ row. bytes_eq row.name name) rows
 -- `by` and then of the first places; or that no object has its name.
 abbrev pub ExpandAnswer : List SetRow → List ℕ → Result (List Reach) RpslFault → Type 0
 ExpandAnswer rows root (Ok c) =
-    (has_object rows root ≡ true) × (is_chain rows root c ≡ true) × AllByRecursion (IsNearest rows c) (drop 1 c) × Pairs (StandsBefore rows c) (drop 1 c)
+    (has_object rows root ≡ true) × (is_chain rows root c ≡ true)
+    × AllByRecursion (IsNearest rows c) (drop 1 c) × Pairs (StandsBefore rows c) (drop 1 c)
 ExpandAnswer rows root (Err fault.NoSet) = has_object rows root ≡ false
 ExpandAnswer rows root (Err (fault.Line n)) = ⊥
 ExpandAnswer rows root (Err (fault.TooMany have)) = ⊥

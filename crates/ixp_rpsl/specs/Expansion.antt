@@ -44,14 +44,16 @@ is_named rows before by m = nat_le 1 by && names_set rows m (slice_get before (b
 -- each one is named by the one at its `by`, which stands before it, and is new
 abbrev pub follows : List SetRow → List Reach → List Reach → Bool
 follows rows before [] = true
-follows rows before (r ∷ rs) = is_named rows before r.by r.set && not (has_name before r.set) && follows rows (before ++ r ∷ []) rs
+follows rows before (r ∷ rs) =
+    is_named rows before r.by r.set && not (has_name before r.set) && follows rows (before ++ r ∷ []) rs
 
 abbrev pub starts : List SetRow → List ℕ → List Reach → Bool
 starts rows root [] = false
 starts rows root (r ∷ rs) = bytes_eq r.set root && r.by == 0 && follows rows (r ∷ []) rs
 
 abbrev pub is_closed : List SetRow → List Reach → Bool
-is_closed rows c = list_all (λ row. not (has_name c row.name) || list_all (has_name c) (sets_in row.members)) rows
+is_closed rows c = list_all (λ row. not (has_name c row.name)
+    || list_all (has_name c) (sets_in row.members)) rows
 
 abbrev pub is_chain : List SetRow → List ℕ → List Reach → Bool
 is_chain rows root c = starts rows root c && is_closed rows c

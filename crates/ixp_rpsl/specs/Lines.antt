@@ -17,7 +17,8 @@ is_remark (c ∷ cs) = c == 37 || c == 35
 -- the lines but for remarks, where so many lines stand before them
 abbrev pub numbered : ℕ → List (List ℕ) → List Line
 numbered before [] = []
-numbered before (l ∷ ls) = if is_remark l then numbered (before + 1) ls else record { number = before + 1; bytes = l } ∷ numbered (before + 1) ls
+numbered before (l ∷ ls) = if is_remark l then numbered (before + 1) ls
+    else record { number = before + 1; bytes = l } ∷ numbered (before + 1) ls
 
 -- the lines of a text, which end at a line feed, or a carriage return and a line feed
 abbrev pub lines_in : List ℕ → List Line

@@ -34,7 +34,8 @@ first_origin p line (Some a) (second ∷ others) = Err second.line
 abbrev pub route_of : ℕ → Option Prefix → List Attribute → Result (Prefix × Asn) ℕ
 route_of first None origins = Err first
 route_of first (Some p) [] = Err first
-route_of first (Some p) (origin ∷ others) = first_origin p origin.line (as_number (trimmed origin.value)) others
+route_of first (Some p) (origin ∷ others) =
+    first_origin p origin.line (as_number (trimmed origin.value)) others
 
 abbrev pub more_members : ℕ → Option (List Item) → Result (List Item) ℕ → Result (List Item) ℕ
 more_members line None others = Err line
@@ -60,7 +61,11 @@ abbrev pub at_fault : Option ℕ → Found
 at_fault line = record { routes = []; sets = []; fault = line }
 
 abbrev pub joined : Found → Found → Found
-joined a b = record { routes = a.routes ++ b.routes; sets = a.sets ++ b.sets; fault = earlier a.fault b.fault }
+joined a b = record {
+  routes = a.routes ++ b.routes;
+  sets = a.sets ++ b.sets;
+  fault = earlier a.fault b.fault;
+}
 
 abbrev pub found_route : Result (Prefix × Asn) ℕ → Found
 found_route (Ok r) = record { routes = r ∷ []; sets = []; fault = None }
@@ -73,7 +78,8 @@ found_set (Err n) = at_fault (Some n)
 -- What an object of a kind says, where `key` is the value of its first attribute and these are the lines
 -- behind that line.
 abbrev pub KindSays : Kind → ℕ → List ℕ → List Line → Found → Type 0
-KindSays (kind.Route family) first key ls found = (net : Option Prefix) × SaysPrefix family key net × (found ≡ found_route (route_of first net (attributes (codes "origin") ls)))
+KindSays (kind.Route family) first key ls found = (net : Option Prefix) × SaysPrefix family key net
+    × (found ≡ found_route (route_of first net (attributes (codes "origin") ls)))
 KindSays kind.Set first key ls found = found ≡ found_set (set_of first key (attributes (codes "members") ls))
 KindSays kind.Other first key ls found = found ≡ at_fault None
 
@@ -81,7 +87,9 @@ KindSays kind.Other first key ls found = found ≡ at_fault None
 -- line if that has no name.
 abbrev pub NamedSays : Option (List ℕ × List ℕ) → ℕ → List Line → Found → Type 0
 NamedSays None first ls found = found ≡ at_fault (earlier (Some first) (bad_line ls))
-NamedSays (Some p) first ls found = (said : Found) × KindSays (kind_of p.0) first (trimmed (whole_value p.1 ls)) ls said × (found ≡ joined (at_fault (bad_line ls)) said)
+NamedSays (Some p) first ls found = (said : Found)
+    × KindSays (kind_of p.0) first (trimmed (whole_value p.1 ls)) ls said
+    × (found ≡ joined (at_fault (bad_line ls)) said)
 
 -- what the object says that begins with a line and goes on with those behind it, up to an empty line
 abbrev pub ObjectSays : Line → List Line → Found → Type 0
@@ -90,19 +98,22 @@ ObjectSays l ls found = NamedSays (named l.bytes) l.number ls found
 -- The first line of each object, and the lines behind it: objects are parted by empty lines.
 abbrev pub objects : Bool → List Line → List (Line × List Line)
 objects within [] = []
-objects within (l ∷ ls) = if is_empty l.bytes then objects false ls else if within then objects true ls else (l, ls) ∷ objects true ls
+objects within (l ∷ ls) = if is_empty l.bytes then objects false ls else if within then objects true ls
+    else (l, ls) ∷ objects true ls
 
 -- what objects say, one after another
 abbrev pub AllSay : List (Line × List Line) → Found → Type 0
 AllSay [] found = found ≡ at_fault None
-AllSay (o ∷ os) found = (one others : Found) × ObjectSays o.0 o.1 one × AllSay os others × (found ≡ joined one others)
+AllSay (o ∷ os) found = (one others : Found) × ObjectSays o.0 o.1 one × AllSay os others
+    × (found ≡ joined one others)
 
 abbrev pub TextSays : List ℕ → Found → Type 0
 TextSays t found = AllSay (objects false (lines_in t)) found
 
 -- what reading a text answers: its routes and sets, or the least line that isn't of its form
 abbrev pub ReadAnswer : List ℕ → Result Objects RpslFault → Type 0
-ReadAnswer t (Ok o) = (found : Found) × TextSays t found × (found.fault ≡ None) × (o.routes ≡ found.routes) × (o.sets ≡ found.sets)
+ReadAnswer t (Ok o) = (found : Found) × TextSays t found × (found.fault ≡ None) × (o.routes ≡ found.routes)
+    × (o.sets ≡ found.sets)
 ReadAnswer t (Err (fault.Line n)) = (found : Found) × TextSays t found × (found.fault ≡ Some n)
 ReadAnswer t (Err fault.NoSet) = ⊥
 ReadAnswer t (Err (fault.TooMany have)) = ⊥

@@ -31,12 +31,14 @@ is_origin origins a = list_any (λ o. a.0 == o.0) origins
 -- the prefixes of a family whose routes have one of these origins
 abbrev pub prefixes_in : List (Prefix × Asn) → List Asn → Family → List Prefix
 prefixes_in [] origins family = []
-prefixes_in (r ∷ rs) origins family = if same_family r.0.family family && is_origin origins r.1 then r.0 ∷ prefixes_in rs origins family else prefixes_in rs origins family
+prefixes_in (r ∷ rs) origins family = if same_family r.0.family family && is_origin origins r.1
+    then r.0 ∷ prefixes_in rs origins family else prefixes_in rs origins family
 
 -- these items in the order of their keys and each once, if there are at most 300,000
 abbrev pub SortedAnswer : {A : Type 0} → (A → List ℕ) → List A → Result (List A) RpslFault → Type 0
 SortedAnswer {A} key items (Ok sorted) = IsInOrder key items sorted × (length sorted ≤ 300000)
-SortedAnswer {A} key items (Err (fault.TooMany have)) = (sorted : List A) × IsInOrder key items sorted × (have ≡ length sorted) × (300000 < have)
+SortedAnswer {A} key items (Err (fault.TooMany have)) =
+    (sorted : List A) × IsInOrder key items sorted × (have ≡ length sorted) × (300000 < have)
 SortedAnswer {A} key items (Err (fault.Line n)) = ⊥
 SortedAnswer {A} key items (Err fault.NoSet) = ⊥
 SortedAnswer {A} key items (Err fault.NoMemory) = Unit {0}

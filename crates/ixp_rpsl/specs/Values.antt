@@ -36,14 +36,16 @@ asn_of (Some n) = Some (record { 0 = n })
 abbrev pub as_number : List ℕ → Option Asn
 as_number [] = None
 as_number (a ∷ []) = None
-as_number (a ∷ s ∷ digits) = if to_ascii_uppercase a == 65 && to_ascii_uppercase s == 83 then asn_of (number_upto 4294967295 digits) else None
+as_number (a ∷ s ∷ digits) = if to_ascii_uppercase a == 65 && to_ascii_uppercase s == 83
+    then asn_of (number_upto 4294967295 digits) else None
 
 -- `AS-`, and one or more letters, digits, `-` or `_`
 abbrev pub is_set_part : List ℕ → Bool
 is_set_part [] = false
 is_set_part (a ∷ []) = false
 is_set_part (a ∷ s ∷ []) = false
-is_set_part (a ∷ s ∷ d ∷ rest) = a == 65 && s == 83 && d == 45 && (not (is_empty rest) && list_all (λ b. is_letter_or_digit b || b == 45 || b == 95) rest)
+is_set_part (a ∷ s ∷ d ∷ rest) = a == 65 && s == 83 && d == 45
+    && (not (is_empty rest) && list_all (λ b. is_letter_or_digit b || b == 45 || b == 95) rest)
 
 abbrev pub is_name_part : List ℕ → Bool
 is_name_part part = is_set_part part || is_some (as_number part)
@@ -51,7 +53,8 @@ is_name_part part = is_set_part part || is_some (as_number part)
 -- A set name in upper case: names of sets and AS numbers with colons between them, at least one of them a
 -- set's (RFC 2622 section 5); at most 64 bytes.
 abbrev pub is_set_name : List ℕ → Bool
-is_set_name t = is_name t && list_all is_name_part (slice_split (λ b. b == 58) t) && list_any is_set_part (slice_split (λ b. b == 58) t)
+is_set_name t = is_name t && list_all is_name_part (slice_split (λ b. b == 58) t)
+    && list_any is_set_part (slice_split (λ b. b == 58) t)
 
 -- the set name that a text is in any case, if it is one
 abbrev pub set_name : List ℕ → Option (List ℕ)
@@ -77,7 +80,8 @@ and_items (Some i) (Some others) = Some (i ∷ others)
 -- the members that parts are, but for empty ones
 abbrev pub items_in : List (List ℕ) → Option (List Item)
 items_in [] = Some []
-items_in (p ∷ ps) = if is_empty (trimmed p) then items_in ps else and_items (item_of (trimmed p)) (items_in ps)
+items_in (p ∷ ps) = if is_empty (trimmed p) then items_in ps
+    else and_items (item_of (trimmed p)) (items_in ps)
 
 -- the members that a value lists, with commas between them
 abbrev pub items_of : List ℕ → Option (List Item)

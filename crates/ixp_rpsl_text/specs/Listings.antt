@@ -30,9 +30,11 @@ PrefixesAnswer o family origins = SortedAnswer prefix_key (prefixes_in o.routes 
 -- the text of a listing
 abbrev pub IsListing : Objects → List Reach → Family → Listing → List ℕ → Type 0
 IsListing o c family Sets text = text ≡ sets_text c
-IsListing o c family Origins text = (origins : List Asn) × OriginsAnswer o c (Ok origins) × (text ≡ origins_text origins)
+IsListing o c family Origins text =
+    (origins : List Asn) × OriginsAnswer o c (Ok origins) × (text ≡ origins_text origins)
 IsListing o c family Prefixes text =
-    (origins : List Asn) × OriginsAnswer o c (Ok origins) × (prefixes : List Prefix) × PrefixesAnswer o family origins (Ok prefixes)
+    (origins : List Asn) × OriginsAnswer o c (Ok origins) × (prefixes : List Prefix)
+    × PrefixesAnswer o family origins (Ok prefixes)
     × (text ≡ prefixes_text prefixes)
 
 -- a listing has too many items; of prefixes the AS numbers are counted first
@@ -41,7 +43,8 @@ HasTooMany o c family Sets have = ⊥
 HasTooMany o c family Origins have = OriginsAnswer o c (Err (rpsl.TooMany have))
 HasTooMany o c family Prefixes have =
     OriginsAnswer o c (Err (rpsl.TooMany have))
-    ⊎ ((origins : List Asn) × OriginsAnswer o c (Ok origins) × PrefixesAnswer o family origins (Err (rpsl.TooMany have)))
+    ⊎ ((origins : List Asn) × OriginsAnswer o c (Ok origins)
+    × PrefixesAnswer o family origins (Err (rpsl.TooMany have)))
 
 -- the input says these objects, of which this is the expansion of the set
 abbrev pub IsExpanded : List ℕ → List ℕ → Objects → List Reach → Type 0
@@ -49,7 +52,8 @@ IsExpanded input root o c = ReadAnswer input (Ok o) × ExpandAnswer o.sets root 
 
 -- what is written of an input
 abbrev pub Expands : List ℕ → List ℕ → Family → Listing → List ℕ → Type 0
-Expands input root family listing text = (o : Objects) × (c : List Reach) × IsExpanded input root o c × IsListing o c family listing text
+Expands input root family listing text =
+    (o : Objects) × (c : List Reach) × IsExpanded input root o c × IsListing o c family listing text
 
 -- why nothing is
 abbrev pub ExpandsNot : List ℕ → List ℕ → Family → Listing → ExpandCause → Type 0

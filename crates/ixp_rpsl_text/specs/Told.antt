@@ -27,7 +27,8 @@ ListingAnswer o c family listing (Err rpsl.NoMemory) = Unit {0}
 abbrev pub TextAnswer : List ℕ → List ℕ → Family → Listing → Result (Vec ℕ) RpslFault → Type 0
 TextAnswer input root family listing (Ok text) = Expands input root family listing text.items
 TextAnswer input root family listing (Err (rpsl.Line n)) = ReadAnswer input (Err (rpsl.Line n))
-TextAnswer input root family listing (Err rpsl.NoSet) = (o : Objects) × ReadAnswer input (Ok o) × ExpandAnswer o.sets root (Err rpsl.NoSet)
+TextAnswer input root family listing (Err rpsl.NoSet) =
+    (o : Objects) × ReadAnswer input (Ok o) × ExpandAnswer o.sets root (Err rpsl.NoSet)
 TextAnswer input root family listing (Err (rpsl.TooMany have)) =
     (o : Objects) × (c : List Reach) × IsExpanded input root o c × HasTooMany o c family listing have
 TextAnswer input root family listing (Err rpsl.NoMemory) = Unit {0}

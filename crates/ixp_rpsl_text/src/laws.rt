@@ -36,8 +36,8 @@ pub fn one_text()
         → ¬ (ExpandsNot input root family listing cause) }
 {}
 
-/// What is written of AS numbers and of prefixes is read by `read_origins` and `read_list` of `ixp_irr` as the
-/// same lists.
+/// What is written of AS numbers and of prefixes is read by `read_origins` and `read_list` of `ixp_irr` as
+/// the same lists.
 pub fn listings_are_lists()
     ensures origins { (input root text : List ℕ) (family : Family) → Expands input root family Origins text
         → (o : Objects) × (c : List Reach) × (list : List Asn) × IsExpanded input root o c

@@ -43,7 +43,8 @@ other_session session = report 0 (header 1 session 12)
 -- the answer to a query
 abbrev pub answer : RtrCache → Query → List Pdu
 answer cache Reset = all_of cache.session cache.serial cache.present
-answer cache (Serial session serial) = if session == cache.session then since cache (set_of cache serial) else other_session session
+answer cache (Serial session serial) =
+    if session == cache.session then since cache (set_of cache serial) else other_session session
 answer cache End = []
 
 -- The Error Report on a fault (section 12): 4 Unsupported Protocol Version, 5 Unsupported PDU Type,

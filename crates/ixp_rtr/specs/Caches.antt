@@ -13,7 +13,12 @@ abbrev pub moved : RtrCache → List Roa → RtrCache
 moved cache set =
     if cache.serial == 4294967295
     then record { session = (cache.session + 1) % 65536; serial = 0; present = set; kept = [] }
-    else record { session = cache.session; serial = cache.serial + 1; present = set; kept = take 8 (cache.present ∷ cache.kept) }
+    else record {
+      session = cache.session;
+      serial = cache.serial + 1;
+      present = set;
+      kept = take 8 (cache.present ∷ cache.kept);
+    }
 
 -- what an update with this set returns, whether the set is another one, and what it makes of the cache
 abbrev pub Updates : RtrCache → List Roa → Bool → RtrCache → Type 0
@@ -22,4 +27,5 @@ Updates cache set true now = (set ≢ cache.present) × (now ≡ moved cache set
 
 -- the set of a serial, if the cache has it: the present one or one that is kept
 abbrev pub set_of : RtrCache → ℕ → Option (List Roa)
-set_of cache serial = if nat_le serial cache.serial then slice_get (cache.present ∷ cache.kept) (cache.serial - serial) else None
+set_of cache serial = if nat_le serial cache.serial
+    then slice_get (cache.present ∷ cache.kept) (cache.serial - serial) else None

@@ -47,4 +47,5 @@ Names cache End set = ⊥
 
 -- a router that has the set which its query names has the present set after the answer
 abbrev pub BringsPresent : RtrCache → Query → Type 0
-BringsPresent cache query = (set : List Roa) → Names cache query set → Has (client set (answer cache query)) cache.present
+BringsPresent cache query = (set : List Roa) → Names cache query set
+    → Has (client set (answer cache query)) cache.present

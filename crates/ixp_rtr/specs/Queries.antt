@@ -40,7 +40,8 @@ Reading = Result Query QueryFault × List ℕ
 -- after the header of a Serial Query: its serial number
 abbrev pub with_serial : ℕ → List ℕ → Reading
 with_serial session rest =
-    if nat_lt (length rest) 4 then (Err Cut, []) else (Ok (Serial session (from_be_bytes w32 (take 4 rest))), drop 4 rest)
+    if nat_lt (length rest) 4 then (Err Cut, [])
+    else (Ok (Serial session (from_be_bytes w32 (take 4 rest))), drop 4 rest)
 
 -- after a header without fault; the session ID of a Reset Query is ignored
 abbrev pub with_query : Header → List ℕ → Reading
@@ -55,4 +56,5 @@ with_header h (Some fault) rest = (Err fault, rest)
 abbrev pub first : List ℕ → Reading
 first bytes =
     if length bytes == 0 then (Ok End, []) else (
-    if nat_lt (length bytes) 8 then (Err Cut, []) else with_header (header_of (take 8 bytes)) (fault_of (header_of (take 8 bytes))) (drop 8 bytes))
+    if nat_lt (length bytes) 8 then (Err Cut, [])
+    else with_header (header_of (take 8 bytes)) (fault_of (header_of (take 8 bytes))) (drop 8 bytes))

@@ -17,13 +17,13 @@ use Rattle.ixp_registry.specs.declared.registry.Registry.{Registry}
 use Rattle.ixp_registry.specs.Keys.{member_key, contact_key, api_key_key, switch_key, port_key, vlan_key, interface_key, router_key, irr_key, origins_key, rules_key}
 use Rattle.ixp_registry.specs.Registries.{bare}
 use Rattle.ixp_registry.specs.Valid.{Valid}
-use Rattle.ixp_machine_edits.specs.declared.edit.PublicList.{PublicList}
-use Rattle.ixp_machine_edits.specs.declared.edit.PublicList.TheVariants as list
-use Rattle.ixp_machine_edits.specs.Lists.{with_public}
-use Rattle.ixp_machine_effects.specs.declared.change.TableChange.{TableChange}
-use Rattle.ixp_machine_effects.specs.declared.change.RegistryChange.{RegistryChange}
-use Rattle.ixp_machine_effects.specs.declared.change.RegistryChange.TheVariants as of
-use Rattle.ixp_machine_effects.specs.Changes.{changed_rows, with_change}
+use Rattle.ixp_registry_change.specs.declared.change.PublicList.{PublicList}
+use Rattle.ixp_registry_change.specs.declared.change.PublicList.TheVariants as list
+use Rattle.ixp_registry_change.specs.Changes.{with_public}
+use Rattle.ixp_registry_change.specs.declared.change.TableChange.{TableChange}
+use Rattle.ixp_registry_change.specs.declared.change.RegistryChange.{RegistryChange}
+use Rattle.ixp_registry_change.specs.declared.change.RegistryChange.TheVariants as of
+use Rattle.ixp_registry_change.specs.Changes.{changed_rows, with_change}
 use Rattle.ixp_rows_lines.specs.declared.version.Version.TheVariants.{Two}
 use Rattle.ixp_rows_lines.specs.Lines.{site_line, member_line, contact_line, key_line, switch_line, port_line, vlan_line, interface_line, router_line, bogon_line, bogon_as_line, transit_line, roa_line}
 use Rattle.ixp_store_rows.specs.Names.{Entry, line_row, irr_row, origins_row}

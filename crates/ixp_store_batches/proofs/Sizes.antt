@@ -9,8 +9,8 @@ use Rattle.ixp_registry.specs.declared.registry.Registry.{Registry}
 use Rattle.ixp_registry.specs.declared.rules.RuleList.{RuleList}
 use Rattle.ixp_registry.specs.Keys.{member_key, contact_key, api_key_key, switch_key, port_key, vlan_key, interface_key, router_key, irr_key, origins_key, rules_key}
 use Rattle.ixp_registry.specs.Registries.{address_rows, addresses_of}
-use Rattle.ixp_machine_effects.specs.declared.change.RegistryChange.{RegistryChange}
-use Rattle.ixp_machine_effects.specs.declared.change.RegistryChange.TheVariants as of
+use Rattle.ixp_registry_change.specs.declared.change.RegistryChange.{RegistryChange}
+use Rattle.ixp_registry_change.specs.declared.change.RegistryChange.TheVariants as of
 use Rattle.ixp_rows_lines.specs.declared.version.Version.TheVariants.{Two}
 use Rattle.ixp_rows_lines.specs.Lines.{member_line, contact_line, key_line, switch_line, port_line, vlan_line, router_line, rule_line, address_line}
 use Rattle.ixp_machine_steps.specs.declared.kept.KeptNumber.{KeptNumber}

@@ -24,7 +24,7 @@ use Rattle.ixp_machine_steps.specs.declared.state.State.{State}
 use Rattle.ixp_machine_steps.specs.Kept.{kept_key, kept_owner_key, kept_of, noted, noted_for, without_least, ValidKept}
 use Rattle.ixp_machine_steps.specs.States.{ValidState}
 use Rattle.ixp_machine_steps.proofs.KeptOwners.{owner_kept, noted_is, valid_kept}
-use Rattle.ixp_machine_effects.specs.Changes.{with_change}
+use Rattle.ixp_registry_change.specs.Changes.{with_change}
 use Rattle.ixp_machine.specs.declared.preparing.Prepared.{Prepared}
 use Rattle.ixp_machine.specs.Prepared.{prepared, IsFresh}
 use Rattle.ixp_store_rows.specs.Names.{Entry, floor_name, floor_rows, kept_row, kept_rows, version_row, count_row}

@@ -6,9 +6,9 @@ use Rattle.std.specs.Ordering.{match_ordering}
 use Rattle.std.specs.List.{AllByRecursion}
 use Rattle.ixp_num_tables.specs.Tables.{order, Ascends, find, put, without}
 use Rattle.ixp_num_tables.proofs.Places.{find_above, above_greater, above_equal, without_above}
-use Rattle.ixp_machine_effects.specs.declared.change.TableChange.{TableChange}
-use Rattle.ixp_machine_effects.specs.declared.change.TableChange.TheVariants.{Keep, Put, Take}
-use Rattle.ixp_machine_effects.specs.Changes.{changed_rows}
+use Rattle.ixp_registry_change.specs.declared.change.TableChange.{TableChange}
+use Rattle.ixp_registry_change.specs.declared.change.TableChange.TheVariants.{Keep, Put, Take}
+use Rattle.ixp_registry_change.specs.Changes.{changed_rows}
 use Rattle.ixp_store_rows.specs.Names.{Entry}
 use Rattle.ixp_store_batches.specs.Batches.{old_row, new_row, entries_of}
 use Rattle.ixp_store_batches.proofs.Scripts.{Script, done, unchanged, in_front, before, replaced}

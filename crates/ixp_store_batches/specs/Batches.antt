@@ -9,12 +9,12 @@ use Rattle.ixp_registry.specs.declared.registry.Registry.{Registry}
 use Rattle.ixp_registry.specs.declared.rules.RuleList.{RuleList}
 use Rattle.ixp_registry.specs.Keys.{member_key, contact_key, api_key_key, switch_key, port_key, vlan_key, interface_key, router_key, irr_key, origins_key, rules_key}
 use Rattle.ixp_registry.specs.Registries.{bare}
-use Rattle.ixp_machine_edits.specs.declared.edit.PublicList.{PublicList}
-use Rattle.ixp_machine_edits.specs.declared.edit.PublicList.TheVariants as list
-use Rattle.ixp_machine_effects.specs.declared.change.TableChange.{TableChange}
-use Rattle.ixp_machine_effects.specs.declared.change.TableChange.TheVariants.{Keep, Put, Take}
-use Rattle.ixp_machine_effects.specs.declared.change.RegistryChange.{RegistryChange}
-use Rattle.ixp_machine_effects.specs.declared.change.RegistryChange.TheVariants as of
+use Rattle.ixp_registry_change.specs.declared.change.PublicList.{PublicList}
+use Rattle.ixp_registry_change.specs.declared.change.PublicList.TheVariants as list
+use Rattle.ixp_registry_change.specs.declared.change.TableChange.{TableChange}
+use Rattle.ixp_registry_change.specs.declared.change.TableChange.TheVariants.{Keep, Put, Take}
+use Rattle.ixp_registry_change.specs.declared.change.RegistryChange.{RegistryChange}
+use Rattle.ixp_registry_change.specs.declared.change.RegistryChange.TheVariants as of
 use Rattle.ixp_rows_lines.specs.declared.version.Version.TheVariants.{Two}
 use Rattle.ixp_rows_lines.specs.Lines.{member_line, contact_line, key_line, switch_line, port_line, vlan_line, interface_line, router_line, bogon_line, bogon_as_line, transit_line, roa_line}
 use Rattle.ixp_machine_steps.specs.declared.kept.KeptNumber.{KeptNumber}
@@ -58,16 +58,26 @@ new_public (list.Roas xs) = map (λ x. line_row (roa_line x)) xs
 
 -- the rows of what a change of a registry replaces or takes out
 abbrev pub old_entries : Registry → RegistryChange → List Entry
-old_entries r (of.Members c) = entries_of (λ x. line_row (member_line x) ∷ []) (old_row member_key (λ k. k ∷ []) c r.members)
-old_entries r (of.Contacts c) = entries_of (λ x. line_row (contact_line x) ∷ []) (old_row contact_key (λ k. k.0 ∷ k.1 ∷ []) c r.contacts)
-old_entries r (of.Keys c) = entries_of (λ x. line_row (key_line x) ∷ []) (old_row api_key_key (λ k. k ∷ []) c r.keys)
-old_entries r (of.Switches c) = entries_of (λ x. line_row (switch_line x) ∷ []) (old_row switch_key (λ k. k ∷ []) c r.switches)
-old_entries r (of.Ports c) = entries_of (λ x. line_row (port_line x) ∷ []) (old_row port_key (λ k. k ∷ []) c r.ports)
-old_entries r (of.Vlans c) = entries_of (λ x. line_row (vlan_line x) ∷ []) (old_row vlan_key (λ k. k ∷ []) c r.vlans)
-old_entries r (of.Interfaces c) = entries_of interface_entries (old_row interface_key (λ k. k ∷ []) c r.interfaces)
-old_entries r (of.Routers c) = entries_of (λ x. line_row (router_line Two x) ∷ []) (old_row router_key (λ k. k) c r.routers)
-old_entries r (of.Irr c) = entries_of (λ x. irr_row x ∷ []) (old_row irr_key (λ k. k.0 ∷ version_of k.1 ∷ []) c r.irr)
-old_entries r (of.Origins c) = entries_of (λ x. origins_row x ∷ []) (old_row origins_key (λ k. k.0 ∷ version_of k.1 ∷ []) c r.origins)
+old_entries r (of.Members c) =
+    entries_of (λ x. line_row (member_line x) ∷ []) (old_row member_key (λ k. k ∷ []) c r.members)
+old_entries r (of.Contacts c) =
+    entries_of (λ x. line_row (contact_line x) ∷ []) (old_row contact_key (λ k. k.0 ∷ k.1 ∷ []) c r.contacts)
+old_entries r (of.Keys c) = entries_of (λ x. line_row (key_line x) ∷ [])
+    (old_row api_key_key (λ k. k ∷ []) c r.keys)
+old_entries r (of.Switches c) =
+    entries_of (λ x. line_row (switch_line x) ∷ []) (old_row switch_key (λ k. k ∷ []) c r.switches)
+old_entries r (of.Ports c) =
+    entries_of (λ x. line_row (port_line x) ∷ []) (old_row port_key (λ k. k ∷ []) c r.ports)
+old_entries r (of.Vlans c) =
+    entries_of (λ x. line_row (vlan_line x) ∷ []) (old_row vlan_key (λ k. k ∷ []) c r.vlans)
+old_entries r (of.Interfaces c) =
+    entries_of interface_entries (old_row interface_key (λ k. k ∷ []) c r.interfaces)
+old_entries r (of.Routers c) =
+    entries_of (λ x. line_row (router_line Two x) ∷ []) (old_row router_key (λ k. k) c r.routers)
+old_entries r (of.Irr c) = entries_of (λ x. irr_row x ∷ [])
+    (old_row irr_key (λ k. k.0 ∷ version_of k.1 ∷ []) c r.irr)
+old_entries r (of.Origins c) =
+    entries_of (λ x. origins_row x ∷ []) (old_row origins_key (λ k. k.0 ∷ version_of k.1 ∷ []) c r.origins)
 old_entries r (of.Rules c) = entries_of rule_rows (old_row rules_key (λ k. k ∷ []) c r.rules)
 old_entries r (of.Public list) = old_public r.public list
 
@@ -107,7 +117,8 @@ old_floor k o = if nat_lt (length o.numbers) 1024 then [] else floor_rows o
 
 abbrev pub raised_above : KeptNumber → KeptOwner → List KeptNumber → List Entry
 raised_above k o [] = []
-raised_above k o (x ∷ xs) = (floor_name o.owner, decimal ((if nat_lt x.number k.number then x.number else k.number) + 1)) ∷ []
+raised_above k o (x ∷ xs) =
+    (floor_name o.owner, decimal ((if nat_lt x.number k.number then x.number else k.number) + 1)) ∷ []
 
 abbrev pub new_floor : KeptNumber → KeptOwner → List Entry
 new_floor k o = if nat_lt (length o.numbers) 1024 then [] else raised_above k o o.numbers
@@ -121,7 +132,8 @@ old_rows s p =
 abbrev pub new_rows : State → Prepared → List Entry
 new_rows s p =
     new_entries p.change ++ (new_floor p.kept (kept_of s.kept p.owner)
-    ++ (map (kept_row p.owner) (added_numbers p.kept (kept_of s.kept p.owner)) ++ count_row (s.accepted + 1) ∷ []))
+    ++ (map (kept_row p.owner) (added_numbers p.kept (kept_of s.kept p.owner))
+    ++ count_row (s.accepted + 1) ∷ []))
 
 -- the batch of a request, to the last change: what goes is dropped, and then what comes is set
 abbrev pub batch : State → Prepared → List Change

@@ -13,10 +13,9 @@ ghost use Rattle.ixp_store_batches.specs.Batches.{
 ghost use Rattle.ixp_store_rows.specs.States.{drop_row, set_row};
 
 use ixp_io::Change;
-use ixp_machine_edits::PublicList;
-use ixp_machine_effects::{Keyed, RegistryChange, TableChange};
 use ixp_num_tables::Table;
 use ixp_registry::{PublicLists, Registry};
+use ixp_registry_change::{Keyed, PublicList, RegistryChange, TableChange};
 use ixp_store_rows::{Rows, drop_rows, set_rows};
 use std::alloc::{AllocError, Global};
 

@@ -16,8 +16,8 @@ use Rattle.ixp_machine_steps.specs.States.{ValidState}
 use Rattle.ixp_store_rows.specs.Names.{line_row, irr_row, origins_row, floor_row, floor_rows, kept_row, kept_rows, count_row}
 use Rattle.ixp_store_rows.specs.States.{address_rows, rule_rows, people_rows, port_rows, interface_rows, list_rows, bogon_rows, origin_rows, registry_rows, stored_rows}
 use Rattle.ixp_store_words.specs.Sorting.{Has}
+use Rattle.ixp_store_rows.proofs.NamesOnce.{flat_mapped}
 use Rattle.ixp_store_damage.proofs.FewItems.{tables_few}
-use Rattle.ixp_store_damage.proofs.RowsByKind.{flat_mapped}
 use Rattle.ixp_store_damage.proofs.Spread.{spread, once, length_mapped, length_flat, owner_keys, owner_there, owners_long}
 
 module _ (r : Registry) (v : Valid r) where

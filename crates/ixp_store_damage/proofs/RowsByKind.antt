@@ -17,7 +17,7 @@ use Rattle.ixp_machine_steps.specs.declared.kept.KeptOwner.{KeptOwner}
 use Rattle.ixp_machine_steps.specs.declared.state.State.{State}
 use Rattle.ixp_store_rows.specs.Names.{Entry, fields_row, line_row, irr_row, origins_row, floor_row, floor_rows, kept_row, kept_rows, version_row, count_row}
 use Rattle.ixp_store_rows.specs.States.{address_rows, rule_rows, port_rows, interface_rows, list_rows, bogon_rows, origin_rows, registry_rows, stored_rows}
-use Rattle.ixp_store_rows.proofs.NamesOnce.{registry_within}
+use Rattle.ixp_store_rows.proofs.NamesOnce.{flat_mapped, registry_within}
 use Rattle.ixp_store_damage.specs.Loading.{kind_rows, kind_entries}
 
 abbrev IsOf : ℕ → Entry → Type 0
@@ -57,10 +57,6 @@ map_map f g (x ∷ xs) = ap (λ l. f (g x) ∷ l) (map_map f g xs)
 map_joined : {X Y : Type 0} (f : X → Y) (xs ys : List X) → map f (xs ++ ys) ≡ map f xs ++ map f ys
 map_joined f [] ys = refl
 map_joined f (x ∷ xs) ys = ap (λ l. f x ∷ l) (map_joined f xs ys)
-
-pub flat_mapped : {X Y : Type 0} (row : Y → Entry) (items : X → List Y) (xs : List X) → flat_map (λ x. map row (items x)) xs ≡ map row (flat_map items xs)
-flat_mapped row items [] = refl
-flat_mapped row items (x ∷ xs) = ap (λ t. map row (items x) ++ t) (flat_mapped row items xs) ∙ sym (map_joined row (items x) (flat_map items xs))
 
 three : (a b c d : List Entry) → (a ++ (b ++ c)) ++ d ≡ a ++ (b ++ (c ++ d))
 three a b c d = append_assoc a (b ++ c) d ∙ ap (λ t. a ++ t) (append_assoc b c d)

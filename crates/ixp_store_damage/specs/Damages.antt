@@ -45,7 +45,8 @@ pub record IsListRow (kind : Kind) (e : Entry) : Type 0 where
   pub lines : List (List Field)
   pub small : IsNumber member
   pub some : lines ≢ []
-  pub each : AllByRecursion (λ fields. AllFit (form_of Two kind) fields × (take 2 (key_in kind fields) ≡ member ∷ version_of family ∷ [])) lines
+  pub each : AllByRecursion (λ fields. AllFit (form_of Two kind) fields
+      × (take 2 (key_in kind fields) ≡ member ∷ version_of family ∷ [])) lines
   pub rising : Ascends (key_in kind) lines
   pub row : e ≡ (list_name kind member family, flat_map (text_of kind) lines)
 
@@ -82,7 +83,8 @@ pub record SaysKept (owner : Owner) (k : KeptNumber) (e : Entry) : Type 0 where
 -- so many rows at the end are the owner's kept numbers
 unfoldable pub EndsWithKept : Owner → ℕ → List Entry → Type 0
 EndsWithKept owner zero es = Unit {0}
-EndsWithKept owner (suc n) es = (front : List Entry) × (k : KeptNumber) × (es ≡ front ++ kept_row owner k ∷ []) × EndsWithKept owner n front
+EndsWithKept owner (suc n) es = (front : List Entry) × (k : KeptNumber)
+    × (es ≡ front ++ kept_row owner k ∷ []) × EndsWithKept owner n front
 
 -- a kept number of an owner who is there: not below the owner's floor, its place among those that were
 -- accepted, and not behind 1,024 others of this owner
@@ -106,7 +108,8 @@ IsCountRow e = (n : ℕ) × (n < 2 ^ 64) × (e ≡ count_row n)
 -- The row is one that a store of these rows may have behind those before it: that of the version, one of the
 -- registry, a floor, a kept number, or that of the count.
 abbrev pub IsRow : List Entry → List Entry → Entry → Type 0
-IsRow es before e = (e ≡ version_row) ⊎ (((kind : Kind) × IsRowOf kind e) ⊎ (IsFloorRow es e ⊎ (IsKeptRow es before e ⊎ IsCountRow e)))
+IsRow es before e = (e ≡ version_row) ⊎ (((kind : Kind) × IsRowOf kind e)
+    ⊎ (IsFloorRow es e ⊎ (IsKeptRow es before e ⊎ IsCountRow e)))
 
 -- behind some rows, each of these is such a row
 abbrev pub AreRows : List Entry → List Entry → List Entry → Type 0
@@ -166,7 +169,9 @@ entries_dump es = head_text Two ++ (entries_text es ++ end_text (breaks (entries
 abbrev pub KindByKind : List Entry → List Kind → List Entry → Type 0
 KindByKind es [] ordered = ordered ≡ []
 KindByKind es (kind ∷ kinds) ordered =
-    (own : List Entry) × (others : List Entry) × IsPermutation (filter (λ e. e.0.kind == place_of kind) es) own × KindByKind es kinds others × (ordered ≡ own ++ others)
+    (own : List Entry) × (others : List Entry)
+    × IsPermutation (filter (λ e. e.0.kind == place_of kind) es) own × KindByKind es kinds others
+    × (ordered ≡ own ++ others)
 
 -- the row has this line of the dump of these rows, whose first line is the head
 pub record HasLine (ordered : List Entry) (name : RowName) (line : ℕ) : Type 0 where
@@ -212,5 +217,6 @@ FitsNoState rows = (s : State) → ValidState s → IsStorable s → rows ≢ ta
 -- is wrong with its rows.
 abbrev pub TellsRow : Result State LoadFault → Table → Type 0
 TellsRow (Err (Damaged name damage)) rows =
-    FitsNoState rows × (((len rows ≤ 8000000) × TellsDamage (entries rows) name damage) ⊎ (IsOneTooMany rows name × (damage ≡ Row)))
+    FitsNoState rows × (((len rows ≤ 8000000) × TellsDamage (entries rows) name damage)
+    ⊎ (IsOneTooMany rows name × (damage ≡ Row)))
 TellsRow answer rows = Unit {0}

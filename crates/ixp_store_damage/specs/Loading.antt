@@ -85,4 +85,5 @@ Added result old new text = IfOk result (λ done. IsTrue done × (new ≡ old ++
 
 -- where the rows are those of a valid registry, the lines of a kind were
 abbrev pub KindAdded : {E : Type 0} → List Entry → Result Bool E → List ℕ → List ℕ → Kind → Type 0
-KindAdded es result old new kind = (r : Registry) → Valid r → AreRowsOf r es → Added result old new (kind_lines Two (rows_of r) kind)
+KindAdded es result old new kind =
+    (r : Registry) → Valid r → AreRowsOf r es → Added result old new (kind_lines Two (rows_of r) kind)

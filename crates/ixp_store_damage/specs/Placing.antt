@@ -28,7 +28,8 @@ pub record IsSection (es : List Entry) (kind : Kind) (own : List Entry) : Type 0
 -- kind by kind
 abbrev pub AreSections : List Entry → List Kind → List Entry → Type 0
 AreSections es [] ordered = ordered ≡ []
-AreSections es (kind ∷ kinds) ordered = (own : List Entry) × (others : List Entry) × IsSection es kind own × AreSections es kinds others × (ordered ≡ own ++ others)
+AreSections es (kind ∷ kinds) ordered = (own : List Entry) × (others : List Entry) × IsSection es kind own
+    × AreSections es kinds others × (ordered ≡ own ++ others)
 
 -- each row of the kind begins with a line of it
 abbrev pub AllSaid : List Entry → Kind → Type 0
@@ -36,7 +37,10 @@ AllSaid es kind = AllByRecursion (λ e. IsSome (line_said kind e)) (kind_rows (p
 
 -- the rows of a kind were added in the order of their lines, where each of them begins with one
 abbrev pub Adds : {E : Type 0} → Kind → List Entry → Result Bool E → List Entry → List Entry → Type 0
-Adds kind es result old new = AllSaid es kind → IfOk result (λ done. IsTrue done × ((own : List Entry) × IsSection es kind own × (new ≡ old ++ own)))
+Adds kind es result old new = AllSaid es kind
+    → IfOk result (λ done. IsTrue done × ((own : List Entry) × IsSection es kind own × (new ≡ old ++ own)))
 
-abbrev pub AddsKinds : {E : Type 0} → List Kind → List Entry → Result Bool E → List Entry → List Entry → Type 0
-AddsKinds kinds es result old new = ((kind : Kind) → AllSaid es kind) → IfOk result (λ done. IsTrue done × ((own : List Entry) × AreSections es kinds own × (new ≡ old ++ own)))
+abbrev pub AddsKinds : {E : Type 0} → List Kind → List Entry → Result Bool E → List Entry → List Entry
+    → Type 0
+AddsKinds kinds es result old new = ((kind : Kind) → AllSaid es kind)
+    → IfOk result (λ done. IsTrue done × ((own : List Entry) × AreSections es kinds own × (new ≡ old ++ own)))

@@ -23,4 +23,5 @@ ComesNext t rows (Some row) = IsFront t rows → IsFront t (rows ++ row ∷ [])
 
 -- the row's name is above that of the last row
 abbrev pub above_last : List Row → Row → Bool
-above_last rows row = option_map_or (λ l. is_lt (name_cmp l.name row.name)) (slice_get rows (length rows - 1)) true
+above_last rows row = option_map_or (λ l. is_lt (name_cmp l.name row.name))
+    (slice_get rows (length rows - 1)) true

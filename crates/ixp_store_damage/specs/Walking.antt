@@ -117,21 +117,26 @@ pub record Reached (low front : ℕ) (es left : List Entry) : Type 0 where
   pub next : Front front left
 
 -- the text is lines of a member's list of a family, which ascend, all above this key
-pub record AreLines (kind : Kind) (member : ℕ) (family : Family) (last : Option (List ℕ)) (text : List ℕ) : Type 0 where
+pub record AreLines (kind : Kind) (member : ℕ) (family : Family) (last : Option (List ℕ))
+    (text : List ℕ) : Type 0 where
   pub lines : List (List Field)
-  pub each : AllByRecursion (λ fields. AllFit (form_of Two kind) fields × (take 2 (key_in kind fields) ≡ member ∷ version_of family ∷ [])) lines
+  pub each : AllByRecursion (λ fields. AllFit (form_of Two kind) fields
+      × (take 2 (key_in kind fields) ≡ member ∷ version_of family ∷ [])) lines
   pub rising : Ascends (key_in kind) lines
   pub above : IfSome last (λ key. AllByRecursion (λ fields. order key (key_in kind fields) ≡ Less) lines)
   pub spelt : text ≡ flat_map (text_of kind) lines
 
 -- a line with this key is of the list, and above the key before it
 abbrev pub MayFollow : ℕ → Family → Option (List ℕ) → List ℕ → Type 0
-MayFollow member family last key = (take 2 key ≡ member ∷ version_of family ∷ []) × IfSome last (λ before. order before key ≡ Less)
+MayFollow member family last key =
+    (take 2 key ≡ member ∷ version_of family ∷ []) × IfSome last (λ before. order before key ≡ Less)
 
 -- what was noted of floors: each is one of the rows, and each of those rows was noted
 pub record AreFloors (es before : List Entry) (kept : List KeptOwner) : Type 0 where
-  pub said : (w : Owner) (o : KeptOwner) → find kept_owner_key (owner_numbers w) kept ≡ Some o → (o.owner ≡ w) × Has es (floor_row o) × (o.floor < 2 ^ 64)
-  pub all : (w : Owner) (floor : ℕ) → IsNumber (owner_number w) → Has before (floor_name w, decimal floor) → IsSome (find kept_owner_key (owner_numbers w) kept)
+  pub said : (w : Owner) (o : KeptOwner) → find kept_owner_key (owner_numbers w) kept ≡ Some o
+      → (o.owner ≡ w) × Has es (floor_row o) × (o.floor < 2 ^ 64)
+  pub all : (w : Owner) (floor : ℕ) → IsNumber (owner_number w) → Has before (floor_name w, decimal floor)
+      → IsSome (find kept_owner_key (owner_numbers w) kept)
 
 -- the rows of floors that come first were noted
 pub record FloorsNoted (front : ℕ) (es left : List Entry) (kept : List KeptOwner) : Type 0 where
@@ -149,7 +154,8 @@ FindsFloorRow es e (Some o) = SaysFloor o.owner o.floor e × IsOwner es o.owner
 
 abbrev pub FindsKept : Entry → Option (Owner × KeptNumber) → Type 0
 FindsKept e None = (w : Owner) (k : KeptNumber) → ¬ (SaysKept w k e)
-FindsKept e (Some x) = SaysKept x.0 x.1 e × ((w : Owner) (k : KeptNumber) → SaysKept w k e → ◌≡◌ {A = Owner × KeptNumber} x (w, k))
+FindsKept e (Some x) = SaysKept x.0 x.1 e
+    × ((w : Owner) (k : KeptNumber) → SaysKept w k e → ◌≡◌ {A = Owner × KeptNumber} x (w, k))
 
 abbrev pub FindsCount : Entry → Option ℕ → Type 0
 FindsCount e None = (n : ℕ) → n < 2 ^ 64 → ¬ (e ≡ count_row n)
@@ -157,13 +163,15 @@ FindsCount e (Some n) = (n < 2 ^ 64) × (e ≡ count_row n)
 
 -- how many rows came last of an owner
 pub record IsRun (run : Run) (before : List Entry) : Type 0 where
-  pub here : (w : Owner) → run.owner ≡ Some w → EndsWithKept w run.count before × ¬ (EndsWithKept w (suc run.count) before)
+  pub here : (w : Owner) → run.owner ≡ Some w
+      → EndsWithKept w run.count before × ¬ (EndsWithKept w (suc run.count) before)
   pub other : (w : Owner) → IsNumber (owner_number w) → run.owner ≢ Some w → ¬ (EndsWithKept w 1 before)
 
 -- with one more of the owner, so many came last, or 1,024 had come
 abbrev pub GoesOn : Owner → List Entry → Option Run → Type 0
 GoesOn w before None = IsNumber (owner_number w) → EndsWithKept w 1024 before
-GoesOn w before (Some run) = IsNumber (owner_number w) → ¬ (EndsWithKept w 1024 before) × ((k : KeptNumber) → IsRun run (before ++ kept_row w k ∷ []))
+GoesOn w before (Some run) = IsNumber (owner_number w)
+    → ¬ (EndsWithKept w 1024 before) × ((k : KeptNumber) → IsRun run (before ++ kept_row w k ∷ []))
 
 -- how many requests were accepted, by the row that says so, if there is one
 abbrev pub IsCounted : List Entry → Option ℕ → Type 0

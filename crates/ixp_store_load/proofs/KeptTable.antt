@@ -33,6 +33,7 @@ use Rattle.ixp_store_words.proofs.Gathered.{has_right, has_either, has_flat, fla
 use Rattle.ixp_store_damage.proofs.KeptWalks.{kept_owner, ends_more, ends_to}
 use Rattle.ixp_store_words.proofs.Sorting.{all_has, has_map}
 use Rattle.ixp_store_damage.proofs.Walks.{never_same, either_way, kind_up, below_front, above_rest, row_kind}
+use Rattle.ixp_store_damage.proofs.RowLines.{first_of, rest_of}
 
 -- items of a table that was changed
 module _ {R : Type 0} (key : R → List ℕ) where
@@ -84,23 +85,17 @@ between (h ∷ p) a (y ∷ x) b up down = by_first (key_up h y (p ++ a) x up) (k
     by_first (inr (is, less)) (inl gt) again = absurd (omega (arith, is, gt))
     by_first (inr (is, less)) (inr (was, more)) again = let g = again less more in record { more = g.more; is = λ i. was i ∷ g.is i }
 
-first_num : (m n : ℕ) (x y : List ℕ) → m ∷ x ≡ n ∷ y → m ≡ n
-first_num m n x y e = cc
-
-rest_num : (m n : ℕ) (x y : List ℕ) → m ∷ x ≡ n ∷ y → x ≡ y
-rest_num m n x y e = cc
-
 never_blank : (c : ℕ) → NoBreak c → c ≡ 32 → ⊥
 never_blank c solid is = let bad : true ≡ false = ap is_break (sym is) ∙ solid in cc
 
 -- texts without blanks in front of a blank
-cut : (a b x y : List ℕ) → Unbroken a → Unbroken b → a ++ 32 ∷ x ≡ b ++ 32 ∷ y → (a ≡ b) × (x ≡ y)
-cut [] [] x y p q e = (refl, rest_num 32 32 x y e)
-cut [] (c ∷ b) x y p q e = absurd (never_blank c q.0 (sym (first_num 32 c x (b ++ 32 ∷ y) e)))
-cut (c ∷ a) [] x y p q e = absurd (never_blank c p.0 (first_num c 32 (a ++ 32 ∷ x) y e))
-cut (c ∷ a) (d ∷ b) x y p q e =
-    let first = first_num c d (a ++ 32 ∷ x) (b ++ 32 ∷ y) e in
-    let more = cut a b x y p.1 q.1 (rest_num c d (a ++ 32 ∷ x) (b ++ 32 ∷ y) e) in
+pub two_words : (a b x y : List ℕ) → Unbroken a → Unbroken b → a ++ 32 ∷ x ≡ b ++ 32 ∷ y → (a ≡ b) × (x ≡ y)
+two_words [] [] x y p q e = (refl, rest_of 32 32 x y e)
+two_words [] (c ∷ b) x y p q e = absurd (never_blank c q.0 (sym (first_of 32 c x (b ++ 32 ∷ y) e)))
+two_words (c ∷ a) [] x y p q e = absurd (never_blank c p.0 (first_of c 32 (a ++ 32 ∷ x) y e))
+two_words (c ∷ a) (d ∷ b) x y p q e =
+    let first = first_of c d (a ++ 32 ∷ x) (b ++ 32 ∷ y) e in
+    let more = two_words a b x y p.1 q.1 (rest_of c d (a ++ 32 ∷ x) (b ++ 32 ∷ y) e) in
     ((λ i. first i ∷ more.0 i), more.1)
 
 word_unbroken : (w : Owner) → Unbroken (owner_word w)
@@ -114,8 +109,8 @@ one_text : (v w : Owner) (x y : List ℕ) → IsNumber (owner_number v) → IsNu
 one_text v w x y small fits e =
     let parted : owner_word v ++ 32 ∷ (decimal (owner_number v) ++ 32 ∷ x) ≡ owner_word w ++ 32 ∷ (decimal (owner_number w) ++ 32 ∷ y) =
     sym (append_assoc (owner_word v) (32 ∷ decimal (owner_number v)) (32 ∷ x)) ∙ (e ∙ append_assoc (owner_word w) (32 ∷ decimal (owner_number w)) (32 ∷ y)) in
-    let words = cut (owner_word v) (owner_word w) (decimal (owner_number v) ++ 32 ∷ x) (decimal (owner_number w) ++ 32 ∷ y) (word_unbroken v) (word_unbroken w) parted in
-    let numbers = cut (decimal (owner_number v)) (decimal (owner_number w)) x y (decimal_unbroken (owner_number v) (omega (arith, small))) (decimal_unbroken (owner_number w) (omega (arith, fits))) words.1 in
+    let words = two_words (owner_word v) (owner_word w) (decimal (owner_number v) ++ 32 ∷ x) (decimal (owner_number w) ++ 32 ∷ y) (word_unbroken v) (word_unbroken w) parted in
+    let numbers = two_words (decimal (owner_number v)) (decimal (owner_number w)) x y (decimal_unbroken (owner_number v) (omega (arith, small))) (decimal_unbroken (owner_number w) (omega (arith, fits))) words.1 in
     one_owner v w (owner_text_told v w small fits (λ i. words.0 i ++ 32 ∷ numbers.0 i))
 
 abbrev name_front : Owner → List ℕ
@@ -130,7 +125,7 @@ between_owners v w j k m small fits up down =
     let name = 19 ∷ (owner_text w ++ 32 ∷ decimal k.number) in
     let g = between (name_front v) (decimal j.number) name (decimal m.number) (subst (λ t. order t name ≡ Less) (front_is v j.number) up) (subst (λ t. order name t ≡ Less) (front_is v m.number) down) in
     one_text w v (decimal k.number) g.more fits small
-    (rest_num 19 19 (owner_text w ++ 32 ∷ decimal k.number) ((owner_text v ++ 32 ∷ []) ++ g.more) g.is ∙ append_assoc (owner_text v) (32 ∷ []) g.more)
+    (rest_of 19 19 (owner_text w ++ 32 ∷ decimal k.number) ((owner_text v ++ 32 ∷ []) ++ g.more) g.is ∙ append_assoc (owner_text v) (32 ∷ []) g.more)
 
 -- What is kept, as right rows say it
 pub record Stands (es : List Entry) (w : Owner) (k : KeptNumber) : Type 0 where

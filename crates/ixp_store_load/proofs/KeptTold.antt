@@ -1,7 +1,6 @@
 -- The row of a kept number tells the number.
 use Rattle.std.proofs.Common.{◌≡◌, ◌⊎◌, inl, inr, ℕ, ◌<◌, ◌^◌, true, List, [], ◌∷◌, ◌++◌, decimal, Option, Some, refl, sym, ap, ◌∙◌, subst, arith}
 use Rattle.std.specs.Prelude.{find as first_with}
-use Rattle.std.specs.List.{position}
 use Rattle.std.proofs.lemmas.Fmt.{decimal_injective}
 use Rattle.ixp_num_tables.specs.Tables.{same}
 use Rattle.ixp_registry.specs.declared.edit_kind.EditKind.{EditKind}
@@ -11,68 +10,26 @@ use Rattle.ixp_registry.specs.declared.public_kind.PublicKind.TheVariants.{Bogon
 use Rattle.ixp_registry.specs.Alphabets.{is_handle}
 use Rattle.ixp_registry.specs.Codes.{edit_word, public_word}
 use Rattle.ixp_registry.specs.Widths.{IsNumber}
-use Rattle.ixp_rows_lines.specs.Fields.{is_break}
-use Rattle.ixp_rows_lines.specs.Reading.{parted_at}
-use Rattle.ixp_rows_lines.proofs.Unbroken.{Unbroken}
+use Rattle.ixp_rows_lines.proofs.Spelling.{some_is}
 use Rattle.ixp_machine_steps.specs.declared.kept.KeptNumber.{KeptNumber}
 use Rattle.ixp_machine_steps.specs.declared.subject.Subject.{Subject}
 use Rattle.ixp_machine_steps.specs.declared.subject.Subject.TheVariants as about
 use Rattle.ixp_store_rows.specs.Names.{subject_text, kept_body}
 use Rattle.ixp_store_words.specs.declared.words.Form.{Form}
+use Rattle.ixp_store_words.specs.declared.words.TheConstants.{EDIT_KINDS}
 use Rattle.ixp_store_words.specs.declared.words.Form.TheVariants.{OneNumber, TwoNumbers, WithFamily, RouterHandle, SharedList}
 use Rattle.ixp_store_words.specs.Storing.{form_of, HasForm, HasSubject}
 use Rattle.ixp_store_words.proofs.Gathered.{same_small}
-use Rattle.ixp_store_words.proofs.WordTexts.{word_parted, edit_unbroken, public_unbroken, handle_unbroken, small_unbroken, pair_text}
-
-abbrev Parts : Type 0
-Parts = List ℕ × List ℕ
-
-pub some_is : {X : Type 0} (a b : X) → ◌≡◌ {A = Option X} (Some a) (Some b) → a ≡ b
-some_is a b e = cc
-
-same_tail : (x y : List ℕ) → 32 ∷ x ≡ 32 ∷ y → x ≡ y
-same_tail x y e = cc
-
--- two texts that are a word, a blank and more have the same word, and the same behind it
-two_words : (a b x y : List ℕ) → Unbroken a → Unbroken b → a ++ 32 ∷ x ≡ b ++ 32 ∷ y → (a ≡ b) × (x ≡ y)
-two_words a b x y clear too e =
-    let both : ◌≡◌ {A = Parts} (a, 32 ∷ x) (b, 32 ∷ y) = sym (word_parted a x clear) ∙ (ap (λ t. parted_at (position is_break t) t) e ∙ word_parted b y too) in
-    (ap (λ (p : Parts). p.0) both, same_tail x y (ap (λ (p : Parts). p.1) both))
+use Rattle.ixp_store_words.proofs.WordTexts.{edit_unbroken, public_unbroken, handle_unbroken, small_unbroken, pair_text}
+use Rattle.ixp_store_load.proofs.KeptTable.{two_words}
 
 -- a word tells its kind of edit, and its public list
-abbrev edit_kinds : List EditKind
-edit_kinds = kind.AddMember ∷ kind.RenameMember ∷ kind.MoveStatus ∷ kind.SetMacro ∷ kind.PutContact ∷ kind.DropContact ∷ kind.AddKey ∷ kind.DropKey ∷ kind.AddSwitch ∷ kind.DropSwitch ∷ kind.AddPort ∷ kind.AssignPort ∷ kind.FreePort ∷ kind.DropPort ∷ kind.AddVlan ∷ kind.DropVlan ∷ kind.AddInterface ∷ kind.SetAddress ∷ kind.DropInterface ∷ kind.AddRouter ∷ kind.SetRouter ∷ kind.DropRouter ∷ kind.PutIrr ∷ kind.PutOrigins ∷ kind.SetRules ∷ kind.PutPublic ∷ []
-
 abbrev kind_named : List ℕ → Option EditKind
-kind_named word = first_with (λ k. same (edit_word k) word) edit_kinds
+kind_named word = first_with (λ k. same (edit_word k) word) EDIT_KINDS.now
 
 named_kind : (k : EditKind) → kind_named (edit_word k) ≡ Some k
 named_kind kind.AddMember = refl
-named_kind kind.RenameMember = refl
-named_kind kind.MoveStatus = refl
-named_kind kind.SetMacro = refl
-named_kind kind.PutContact = refl
-named_kind kind.DropContact = refl
-named_kind kind.AddKey = refl
-named_kind kind.DropKey = refl
-named_kind kind.AddSwitch = refl
-named_kind kind.DropSwitch = refl
-named_kind kind.AddPort = refl
-named_kind kind.AssignPort = refl
-named_kind kind.FreePort = refl
-named_kind kind.DropPort = refl
-named_kind kind.AddVlan = refl
-named_kind kind.DropVlan = refl
-named_kind kind.AddInterface = refl
-named_kind kind.SetAddress = refl
-named_kind kind.DropInterface = refl
-named_kind kind.AddRouter = refl
-named_kind kind.SetRouter = refl
-named_kind kind.DropRouter = refl
-named_kind kind.PutIrr = refl
-named_kind kind.PutOrigins = refl
-named_kind kind.SetRules = refl
-named_kind kind.PutPublic = refl
+named_kind k = refl
 
 edit_told : (a b : EditKind) → edit_word a ≡ edit_word b → a ≡ b
 edit_told a b e = some_is a b (sym (named_kind a) ∙ (ap kind_named e ∙ named_kind b))

@@ -39,7 +39,8 @@ use Rattle.ixp_store_damage.specs.Loading.{kind_rows, kind_entries, line_key, ro
 use Rattle.ixp_store_damage.proofs.KindLines.{kind_stands, dump_made, registry_read}
 use Rattle.ixp_store_damage.proofs.RowsByKind.{rows_of_kind, count_alone}
 use Rattle.ixp_store_damage.proofs.WholeStates.{same_state}
-use Rattle.ixp_store_load.proofs.KeptTold.{body_told, some_is}
+use Rattle.ixp_rows_lines.proofs.Spelling.{some_is}
+use Rattle.ixp_store_load.proofs.KeptTold.{body_told}
 
 abbrev kind_in : Entry → ℕ
 kind_in e = e.0.kind

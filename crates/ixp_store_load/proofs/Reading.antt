@@ -14,6 +14,7 @@ use Rattle.ixp_store_rows.specs.Names.{Entry}
 use Rattle.ixp_store_damage.specs.Damages.{IsOneTooMany}
 use Rattle.ixp_store_damage.specs.Reading.{IsFront, ComesNext, above_last, name_before}
 use Rattle.ixp_store_damage.proofs.SameRows.{first_of, second_of}
+use Rattle.ixp_store_rows.proofs.Empty.{no_items}
 
 -- the last of some rows
 record Ends (rows : List Row) (n : ℕ) : Type 0 where
@@ -37,10 +38,6 @@ behind t (x ∷ xs) rest e =
     e ∙ (ap (λ l. map row_entry l ++ rest) at.is ∙ (ap (λ l. l ++ rest) (map-append row_entry at.front (at.last ∷ [])) ∙ append_assoc (map row_entry at.front) (row_entry at.last ∷ []) rest)) in
     ap (λ o. next_after o t) here ∙ rows_in_order t (map row_entry at.front) rest (row_entry at.last) parted
 
-no_first : (es : List Entry) → None ≡ slice_get es 0 → es ≡ []
-no_first [] e = refl
-no_first (x ∷ xs) e = absurd (let bad : ◌≡◌ {A = Option Entry} None (Some x) = e in cc)
-
 abbrev first_rest : List Entry → List Entry
 first_rest [] = []
 first_rest (x ∷ xs) = xs
@@ -51,7 +48,7 @@ a_first (y ∷ ys) x e = let same : ◌≡◌ {A = Option Entry} (Some x) (Some 
 
 none_left : (t : Table) (rows : List Row) (rest : List Entry) → entries t ≡ map row_entry rows ++ rest → None ≡ next_after (name_before rows) t → map row_entry rows ≡ entries t
 none_left t rows rest front e =
-    let none : rest ≡ [] = no_first rest (e ∙ behind t rows rest front) in
+    let none : rest ≡ [] = no_items rest (e ∙ behind t rows rest front) in
     sym (append-nil (map row_entry rows)) ∙ (ap (λ r. map row_entry rows ++ r) (sym none) ∙ sym front)
 
 one_more : (t : Table) (rows : List Row) (rest : List Entry) (row : Row) → entries t ≡ map row_entry rows ++ rest → Some (row_entry row) ≡ next_after (name_before rows) t → IsFront t (rows ++ row ∷ [])

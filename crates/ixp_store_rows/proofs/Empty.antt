@@ -11,7 +11,7 @@ use Rattle.ixp_machine_steps.specs.declared.state.State.{State}
 use Rattle.ixp_store_rows.specs.Names.{Entry}
 use Rattle.ixp_store_rows.specs.States.{set_row, stored_rows, tables}
 
-no_items : (es : List Entry) → None ≡ slice_get es 0 → es ≡ []
+pub no_items : (es : List Entry) → None ≡ slice_get es 0 → es ≡ []
 no_items [] e = refl
 no_items (x ∷ xs) e = absurd (let bad : ◌≡◌ {A = Option Entry} None (Some x) = e in cc)
 

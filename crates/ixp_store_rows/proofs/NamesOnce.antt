@@ -52,7 +52,7 @@ lines_of : (r : Registry) → Valid r → LinesOf r
 lines_of r v = of_rows (IsLine Two) Two (rows_of r) (valid_lines r v)
 
 -- one row for each item of each list
-flat_mapped : {X Y : Type 0} (row : Y → Entry) (items : X → List Y) (xs : List X) → flat_map (λ x. map row (items x)) xs ≡ map row (flat_map items xs)
+pub flat_mapped : {X Y : Type 0} (row : Y → Entry) (items : X → List Y) (xs : List X) → flat_map (λ x. map row (items x)) xs ≡ map row (flat_map items xs)
 flat_mapped row items [] = refl
 flat_mapped {X} {Y} row items (x ∷ xs) = ap (λ t. map row (items x) ++ t) (flat_mapped row items xs) ∙ sym (by_items (items x))
   where

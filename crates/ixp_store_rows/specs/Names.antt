@@ -61,7 +61,8 @@ abbrev pub irr_row : IrrList → Entry
 irr_row l = (list_name Prefixes l.member l.family, flat_map (λ p. line_text (prefix_line p)) (prefixes_of l))
 
 abbrev pub origins_row : OriginList → Entry
-origins_row l = (list_name Origins l.member l.family, flat_map (λ o. line_text (origin_line o)) (origins_of l))
+origins_row l =
+    (list_name Origins l.member l.family, flat_map (λ o. line_text (origin_line o)) (origins_of l))
 
 -- of kind 18 are the floors below which the numbers of an owner count as used; a floor of 0 has no row
 abbrev pub owner_fields : Owner → List Field

@@ -28,11 +28,13 @@ people_rows r =
     ++ map (λ k. line_row (key_line k)) r.keys))
 
 abbrev pub port_rows : Registry → List Entry
-port_rows r = map (λ s. line_row (switch_line s)) r.switches ++ (map (λ p. line_row (port_line p)) r.ports ++ map (λ v. line_row (vlan_line v)) r.vlans)
+port_rows r = map (λ s. line_row (switch_line s)) r.switches
+    ++ (map (λ p. line_row (port_line p)) r.ports ++ map (λ v. line_row (vlan_line v)) r.vlans)
 
 abbrev pub interface_rows : Registry → List Entry
 interface_rows r =
-    map (λ i. line_row (interface_line (bare i))) r.interfaces ++ (flat_map address_rows r.interfaces ++ map (λ q. line_row (router_line Two q)) r.routers)
+    map (λ i. line_row (interface_line (bare i))) r.interfaces
+    ++ (flat_map address_rows r.interfaces ++ map (λ q. line_row (router_line Two q)) r.routers)
 
 abbrev pub list_rows : Registry → List Entry
 list_rows r = map irr_row r.irr ++ (map origins_row r.origins ++ flat_map rule_rows r.rules)
@@ -44,11 +46,13 @@ abbrev pub origin_rows : PublicLists → List Entry
 origin_rows p = map (λ a. line_row (transit_line a)) p.transit ++ map (λ x. line_row (roa_line x)) p.roas
 
 abbrev pub registry_rows : Registry → List Entry
-registry_rows r = people_rows r ++ (port_rows r ++ (interface_rows r ++ (list_rows r ++ (bogon_rows r.public ++ origin_rows r.public))))
+registry_rows r = people_rows r ++ (port_rows r
+    ++ (interface_rows r ++ (list_rows r ++ (bogon_rows r.public ++ origin_rows r.public))))
 
 -- all rows: the version, the registry's, what is kept of requests, and the count
 abbrev pub stored_rows : State → List Entry
-stored_rows s = version_row ∷ (registry_rows s.registry ++ (flat_map floor_rows s.kept ++ (flat_map kept_rows s.kept ++ count_row s.accepted ∷ [])))
+stored_rows s = version_row ∷ (registry_rows s.registry
+    ++ (flat_map floor_rows s.kept ++ (flat_map kept_rows s.kept ++ count_row s.accepted ∷ [])))
 
 -- a row is put in
 abbrev pub set_row : Entry → Change

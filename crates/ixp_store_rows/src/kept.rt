@@ -162,7 +162,7 @@ pub fn drop_kept(alloc: Global, owner: &Owner, kept: &KeptNumber) -> Result<Chan
 pub fn drop_count(alloc: Global, accepted: u64) -> Change
     ensures { result ≡ drop_row (count_row accepted) }
 {
-    let _accepted = accepted;
+    let _accepted = accepted; // for the proof alone, which speaks of this count
     Change {
         name: RowName {
             kind: COUNT,

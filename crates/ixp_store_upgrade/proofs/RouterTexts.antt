@@ -14,6 +14,7 @@ use Rattle.ixp_rows_lines.specs.Fields.{Field, Number, is_break, field_text}
 use Rattle.ixp_rows_lines.specs.Lines.{IsLine, IsOfVersion, address_field, field_or, router_fields, router_line}
 use Rattle.ixp_rows_lines.proofs.Unbroken.{IsSolid, NoBreak, Unbroken, address_text, number_text, solid_unbroken}
 use Rattle.ixp_store_rows.specs.Names.{Entry, fields_row, line_body}
+use Rattle.ixp_store_damage.proofs.RowLines.{first_of, rest_of}
 use Rattle.ixp_store_upgrade.specs.Versions.{body_now, router_row}
 
 -- a router's name and its body
@@ -56,27 +57,21 @@ plain_text q (none, zero) =
     ∙ (ap (λ (o : Option Addr). router_text One q ++ (32 ∷ (field_text (field_or (codes "-") address_field o) ++ (32 ∷ decimal q.max_comms)))) none
     ∙ (ap (λ n. router_text One q ++ (32 ∷ (codes "-" ++ (32 ∷ decimal n)))) zero ∙ ap (λ t. router_text One q ++ (32 ∷ (codes "-" ++ (32 ∷ t)))) zero_text)))
 
-first_num : (m n : ℕ) (x y : List ℕ) → m ∷ x ≡ n ∷ y → m ≡ n
-first_num m n x y e = cc
-
-rest_num : (m n : ℕ) (x y : List ℕ) → m ∷ x ≡ n ∷ y → x ≡ y
-rest_num m n x y e = cc
-
 -- no blank stands in a text without breaks
 no_blank : (w x y : List ℕ) → Unbroken w → w ≡ x ++ 32 ∷ y → ⊥
 no_blank [] [] y solid e = let bad : ◌≡◌ {A = List ℕ} [] (32 ∷ y) = e in cc
 no_blank [] (c ∷ x) y solid e = let bad : ◌≡◌ {A = List ℕ} [] (c ∷ (x ++ 32 ∷ y)) = e in cc
-no_blank (c ∷ w) [] y solid e = let bad : true ≡ false = ap is_break (sym (first_num c 32 w y e)) ∙ solid.0 in cc
-no_blank (c ∷ w) (d ∷ x) y solid e = no_blank w x y solid.1 (rest_num c d w (x ++ 32 ∷ y) e)
+no_blank (c ∷ w) [] y solid e = let bad : true ≡ false = ap is_break (sym (first_of c 32 w y e)) ∙ solid.0 in cc
+no_blank (c ∷ w) (d ∷ x) y solid e = no_blank w x y solid.1 (rest_of c d w (x ++ 32 ∷ y) e)
 
 -- a text tells its last word, and what stands before it
 last_word : (x y v w : List ℕ) → Unbroken v → Unbroken w → x ++ 32 ∷ v ≡ y ++ 32 ∷ w → (x ≡ y) × (v ≡ w)
-last_word [] [] v w p q e = (refl, rest_num 32 32 v w e)
-last_word [] (c ∷ y) v w p q e = absurd (no_blank v y w p (rest_num 32 c v (y ++ 32 ∷ w) e))
-last_word (c ∷ x) [] v w p q e = absurd (no_blank w x v q (sym (rest_num c 32 (x ++ 32 ∷ v) w e)))
+last_word [] [] v w p q e = (refl, rest_of 32 32 v w e)
+last_word [] (c ∷ y) v w p q e = absurd (no_blank v y w p (rest_of 32 c v (y ++ 32 ∷ w) e))
+last_word (c ∷ x) [] v w p q e = absurd (no_blank w x v q (sym (rest_of c 32 (x ++ 32 ∷ v) w e)))
 last_word (c ∷ x) (d ∷ y) v w p q e =
-    let first = first_num c d (x ++ 32 ∷ v) (y ++ 32 ∷ w) e in
-    let more = last_word x y v w p q (rest_num c d (x ++ 32 ∷ v) (y ++ 32 ∷ w) e) in
+    let first = first_of c d (x ++ 32 ∷ v) (y ++ 32 ∷ w) e in
+    let more = last_word x y v w p q (rest_of c d (x ++ 32 ∷ v) (y ++ 32 ∷ w) e) in
     ((λ i. first i ∷ more.0 i), more.1)
 
 hole_solid : (o : Option Addr) → Unbroken (field_text (field_or (codes "-") address_field o))

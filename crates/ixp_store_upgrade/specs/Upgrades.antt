@@ -20,11 +20,12 @@ IsOld rows = get rows version_name ≡ Some (codes "1")
 abbrev pub IsToday : Table → Type 0
 IsToday rows = (rows ≡ empty) ⊎ ((s : State) × ValidState s × IsStorable s × (rows ≡ tables s))
 
--- A store of the first version becomes today's store of the same state, and the number is that of its routers. One of
--- today's stays as it is, and the number is 0.
+-- A store of the first version becomes today's store of the same state, and the number is that of its
+-- routers. One of today's stays as it is, and the number is 0.
 abbrev pub Upgrades : ℕ → Table → Table → Type 0
 Upgrades n before now =
-    ((s : State) × IsFirst s × (before ≡ tables_1 s) × (now ≡ tables s) × (n ≡ length s.registry.routers)) ⊎ (IsToday before × (now ≡ before) × (n ≡ 0))
+    ((s : State) × IsFirst s × (before ≡ tables_1 s) × (now ≡ tables s) × (n ≡ length s.registry.routers))
+    ⊎ (IsToday before × (now ≡ before) × (n ≡ 0))
 
 -- there are rows, but in neither version are they those of a state
 pub record FitsNoVersion (rows : Table) : Type 0 where
@@ -32,11 +33,12 @@ pub record FitsNoVersion (rows : Table) : Type 0 where
   pub today : FitsNoState rows
   pub first : (s : State) → IsFirst s → rows ≢ tables_1 s
 
--- Which row is told to be damaged: that which a load tells, where a store of the first version is loaded as the rows
--- of today's that it would be.
+-- Which row is told to be damaged: that which a load tells, where a store of the first version is loaded as
+-- the rows of today's that it would be.
 abbrev pub TellsDamaged : Result ℕ LoadFault → Table → Type 0
 TellsDamaged (Err (Damaged name damage)) rows =
-    FitsNoVersion rows × ((¬ (IsOld rows) × TellsRow (Err (Damaged name damage)) rows) ⊎ (IsOld rows × TellsRow (Err (Damaged name damage)) (table_now rows)))
+    FitsNoVersion rows × ((¬ (IsOld rows) × TellsRow (Err (Damaged name damage)) rows)
+    ⊎ (IsOld rows × TellsRow (Err (Damaged name damage)) (table_now rows)))
 TellsDamaged answer rows = Unit {0}
 
 -- the number is the answer, but that memory may run out and the keeper may fail

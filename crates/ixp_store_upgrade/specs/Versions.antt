@@ -14,8 +14,8 @@ use Rattle.ixp_store_rows.specs.Names.{Entry, line_row, version_name}
 use Rattle.ixp_store_rows.specs.States.{set_row, tables}
 use Rattle.ixp_store_words.specs.Storing.{IsStorable}
 
--- The rows in which the versions differ: that of the version, and those of the routers, which have the routers' lines
--- in a dump of the version.
+-- The rows in which the versions differ: that of the version, and those of the routers, which have the
+-- routers' lines in a dump of the version.
 abbrev pub version_text : Version → List ℕ
 version_text One = codes "1"
 version_text Two = codes "2"
@@ -26,8 +26,8 @@ router_row version q = line_row (router_line version q)
 abbrev pub version_rows : Version → State → List Entry
 version_rows version s = (version_name, version_text version) ∷ map (router_row version) s.registry.routers
 
--- A state of the first version: a valid one, to which requests lead, whose routers have no blackhole address and no
--- bound on communities.
+-- A state of the first version: a valid one, to which requests lead, whose routers have no blackhole address
+-- and no bound on communities.
 pub record IsFirst (s : State) : Type 0 where
   pub valid : ValidState s
   pub storable : IsStorable s
@@ -37,13 +37,14 @@ pub record IsFirst (s : State) : Type 0 where
 abbrev pub tables_1 : State → Table
 tables_1 s = changed (tables s) (map set_row (version_rows One s))
 
--- A row of the first version as one of today's: the version is 2, and a router's line has two fields more, which say
--- that it has no blackhole address and no bound on communities.
+-- A row of the first version as one of today's: the version is 2, and a router's line has two fields more,
+-- which say that it has no blackhole address and no bound on communities.
 abbrev pub is_version : RowName → Bool
 is_version name = name.kind == 0 && length name.key == 0
 
 abbrev pub body_now : RowName → List ℕ → List ℕ
-body_now name body = if is_version name then codes "2" else if name.kind == 10 then body ++ codes " - 0" else body
+body_now name body = if is_version name then codes "2" else if name.kind == 10 then body ++ codes " - 0"
+    else body
 
 abbrev pub row_now : Entry → Entry
 row_now e = (e.0, body_now e.0 e.1)

@@ -74,8 +74,8 @@ fn next_now<P: Keeper>(
     }
 }
 
-/// What a store answers of a batch that isn't made. Where its count of faults can't show a rise any more, that
-/// is told as a fault.
+/// What a store answers of a batch that isn't made. Where its count of faults can't show a rise any more,
+/// that is told as a fault.
 fn no_batch<P: Keeper>(keeper: &mut P) -> KeepFault
     ensures rows { P.table keeper.new ≡ P.table keeper.old }
     ensures faults { P.faults keeper.new ≡ P.faults keeper.old }

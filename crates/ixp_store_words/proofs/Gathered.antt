@@ -24,6 +24,7 @@ use Rattle.ixp_store_rows.specs.Names.{Entry, floor_row, floor_rows, kept_row, k
 use Rattle.ixp_store_rows.specs.States.{registry_rows, stored_rows}
 use Rattle.ixp_store_rows.proofs.KeyTexts.{owner_text_told, kept_told}
 use Rattle.ixp_store_rows.proofs.NamesOnce.{owners_small, registry_within}
+use Rattle.ixp_rows_lines.proofs.Spelling.{some_is}
 use Rattle.ixp_store_words.specs.Gathering.{with_row, with_floor, with_number, IsNoted, floor_at, number_at, IsGathered}
 use Rattle.ixp_store_words.specs.Opening.{AreAllRows}
 use Rattle.ixp_store_words.specs.Sorting.{Has}
@@ -91,9 +92,6 @@ module _ {R : Type 0} (key : R → List ℕ) where
 
   has_found : (r : R) (rs : List R) → Ascends key rs → Has rs r → find key (key r) rs ≡ Some r
   has_found r rs up has = all_has (λ x. find key (key x) rs ≡ Some x) rs (all_found_there key rs up) r has
-
-some_is : {X : Type 0} (a b : X) → ◌≡◌ {A = Option X} (Some a) (Some b) → a ≡ b
-some_is a b e = cc
 
 -- rows of floors and of kept numbers
 pub floor_there : (o : KeptOwner) → o.floor ≢ 0 → Has (floor_rows o) (floor_row o)

@@ -21,7 +21,7 @@ use Rattle.ixp_registry.specs.Keys.{member_key, contact_key, api_key_key, switch
 use Rattle.ixp_registry.specs.Valid.{Valid, ValidMember, ValidContact, ValidKey, ValidSwitch, ValidPort, ValidVlan, ValidInterface, ValidRouter}
 use Rattle.ixp_registry.specs.Widths.{IsNumber}
 use Rattle.ixp_machine_edits.specs.declared.edit.Edit.{Edit}
-use Rattle.ixp_machine_edits.specs.declared.edit.Edit.TheVariants.{AddMember, RenameMember, MoveStatus, SetMacro, PutContact, DropContact, AddKey, DropKey, AddSwitch, DropSwitch, AddPort, AssignPort, FreePort, DropPort, AddVlan, DropVlan, AddInterface, SetAddress, DropInterface, AddRouter, SetRouter, DropRouter, PutIrr, PutOrigins, SetRules, PutPublic}
+use Rattle.ixp_machine_edits.specs.declared.edit.Edit.TheVariants.{RenameMember, MoveStatus, SetMacro, PutContact, DropContact, DropKey, DropSwitch, AssignPort, FreePort, DropPort, DropVlan, SetAddress, DropInterface, AddRouter, SetRouter, DropRouter, PutIrr, PutOrigins, PutPublic}
 use Rattle.ixp_machine_edits.specs.Edits.{IsLawful, refusal, tests}
 use Rattle.ixp_machine_edits.specs.Tests.{Tests, refused, unless_there, of_there}
 use Rattle.ixp_machine_edits.proofs.Passing.{no_refusal, after_first, holds, is_there, there, found}
@@ -76,7 +76,6 @@ version_is V4 = inl refl
 version_is V6 = inr refl
 
 pub has_subject : (r : Registry) (e : Edit) → Valid r → IsLawful e → refusal r e ≡ None → HasForm (form_of (kind_of e)) (subject_of e)
-has_subject r (AddMember number asn name) v lawful none = lawful.0
 has_subject r (RenameMember member name) v lawful none = member_fits member (row_there member_key ValidMember (member ∷ []) r.members Members (Number member) v.members.each (no_refusal (tests r (RenameMember member name)) none).0)
 has_subject r (MoveStatus member to) v lawful none =
     let x = there (find member_key (member ∷ []) r.members) Members (Number member) _ none in
@@ -85,11 +84,8 @@ has_subject r (SetMacro member as_macro) v lawful none = member_fits member (row
 has_subject r (PutContact member place name mail role) v lawful none = (lawful.0, lawful.1)
 has_subject r (DropContact member place) v lawful none =
     contact_fits member place (row_there contact_key ValidContact (member ∷ place ∷ []) r.contacts Contacts (Pair member place) v.contacts.each (no_refusal (tests r (DropContact member place)) none).1.0)
-has_subject r (AddKey number secret owner) v lawful none = lawful.0
 has_subject r (DropKey key) v lawful none = key_fits key (row_there api_key_key ValidKey (key ∷ []) r.keys Keys (Number key) v.keys.each (no_refusal (tests r (DropKey key)) none).0)
-has_subject r (AddSwitch number name) v lawful none = lawful.0
 has_subject r (DropSwitch switch) v lawful none = switch_fits switch (row_there switch_key ValidSwitch (switch ∷ []) r.switches Switches (Number switch) v.switches.each (no_refusal (tests r (DropSwitch switch)) none).0)
-has_subject r (AddPort number switch name speed) v lawful none = lawful.0
 has_subject r (AssignPort port member) v lawful none =
     let later : Port → Tests = λ p. refused (not (p.member == 0 || p.member == member)) (PortTaken (Some p.member)) ∷ [] in
     let second = (after_first (unless_there (find member_key (member ∷ []) r.members) Members (Number member)) (of_there (find port_key (port ∷ []) r.ports) Ports (Number port) later) none).1 in
@@ -97,9 +93,7 @@ has_subject r (AssignPort port member) v lawful none =
     port_fits port (has_row port_key ValidPort (port ∷ []) r.ports x.0 v.ports.each x.1)
 has_subject r (FreePort port) v lawful none = port_fits port (row_there port_key ValidPort (port ∷ []) r.ports Ports (Number port) v.ports.each (no_refusal (tests r (FreePort port)) none).0)
 has_subject r (DropPort port) v lawful none = port_fits port (row_there port_key ValidPort (port ∷ []) r.ports Ports (Number port) v.ports.each (no_refusal (tests r (DropPort port)) none).0)
-has_subject r (AddVlan number name tag v4 v6) v lawful none = lawful.0
 has_subject r (DropVlan vlan) v lawful none = vlan_fits vlan (row_there vlan_key ValidVlan (vlan ∷ []) r.vlans Vlans (Number vlan) v.vlans.each (no_refusal (tests r (DropVlan vlan)) none).0)
-has_subject r (AddInterface number member port vlan) v lawful none = lawful.0
 has_subject r (SetAddress interface family address) v lawful none =
     (interface_fits interface (row_there interface_key ValidInterface (interface ∷ []) r.interfaces Interfaces (Number interface) v.interfaces.each (no_refusal (tests r (SetAddress interface family address)) none).0), version_is family)
 has_subject r (DropInterface interface) v lawful none =
@@ -111,5 +105,5 @@ has_subject r (SetRouter handle settings) v lawful none =
 has_subject r (DropRouter handle) v lawful none = router_fits handle (row_there router_key ValidRouter handle r.routers Routers (Handle handle) v.routers.each (no_refusal (tests r (DropRouter handle)) none).0)
 has_subject r (PutIrr member family prefixes) v lawful none = (lawful.0, version_is family)
 has_subject r (PutOrigins member family asns) v lawful none = (lawful.0, version_is family)
-has_subject r (SetRules member rules) v lawful none = lawful.0
 has_subject r (PutPublic list) v lawful none = tt
+has_subject r e v lawful none = lawful.0

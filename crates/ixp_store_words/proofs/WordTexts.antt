@@ -46,31 +46,7 @@ owner_unbroken (Of n) = word_unbroken (owner_word (Of n)) refl
 
 pub edit_unbroken : (k : EditKind) → Unbroken (edit_word k)
 edit_unbroken kind.AddMember = word_unbroken (edit_word kind.AddMember) refl
-edit_unbroken kind.RenameMember = word_unbroken (edit_word kind.RenameMember) refl
-edit_unbroken kind.MoveStatus = word_unbroken (edit_word kind.MoveStatus) refl
-edit_unbroken kind.SetMacro = word_unbroken (edit_word kind.SetMacro) refl
-edit_unbroken kind.PutContact = word_unbroken (edit_word kind.PutContact) refl
-edit_unbroken kind.DropContact = word_unbroken (edit_word kind.DropContact) refl
-edit_unbroken kind.AddKey = word_unbroken (edit_word kind.AddKey) refl
-edit_unbroken kind.DropKey = word_unbroken (edit_word kind.DropKey) refl
-edit_unbroken kind.AddSwitch = word_unbroken (edit_word kind.AddSwitch) refl
-edit_unbroken kind.DropSwitch = word_unbroken (edit_word kind.DropSwitch) refl
-edit_unbroken kind.AddPort = word_unbroken (edit_word kind.AddPort) refl
-edit_unbroken kind.AssignPort = word_unbroken (edit_word kind.AssignPort) refl
-edit_unbroken kind.FreePort = word_unbroken (edit_word kind.FreePort) refl
-edit_unbroken kind.DropPort = word_unbroken (edit_word kind.DropPort) refl
-edit_unbroken kind.AddVlan = word_unbroken (edit_word kind.AddVlan) refl
-edit_unbroken kind.DropVlan = word_unbroken (edit_word kind.DropVlan) refl
-edit_unbroken kind.AddInterface = word_unbroken (edit_word kind.AddInterface) refl
-edit_unbroken kind.SetAddress = word_unbroken (edit_word kind.SetAddress) refl
-edit_unbroken kind.DropInterface = word_unbroken (edit_word kind.DropInterface) refl
-edit_unbroken kind.AddRouter = word_unbroken (edit_word kind.AddRouter) refl
-edit_unbroken kind.SetRouter = word_unbroken (edit_word kind.SetRouter) refl
-edit_unbroken kind.DropRouter = word_unbroken (edit_word kind.DropRouter) refl
-edit_unbroken kind.PutIrr = word_unbroken (edit_word kind.PutIrr) refl
-edit_unbroken kind.PutOrigins = word_unbroken (edit_word kind.PutOrigins) refl
-edit_unbroken kind.SetRules = word_unbroken (edit_word kind.SetRules) refl
-edit_unbroken kind.PutPublic = word_unbroken (edit_word kind.PutPublic) refl
+edit_unbroken k = word_unbroken (edit_word k) refl
 
 pub public_unbroken : (p : PublicKind) → Unbroken (public_word p)
 public_unbroken Bogons = word_unbroken (public_word Bogons) refl

@@ -25,7 +25,8 @@ abbrev pub with_floor : Owner → ℕ → List KeptOwner → List KeptOwner
 with_floor owner floor ks = with_row owner (record (kept_of ks owner) { floor = floor }) ks
 
 abbrev pub with_number : Owner → KeptNumber → List KeptOwner → List KeptOwner
-with_number owner k ks = with_row owner (record (kept_of ks owner) { numbers = put kept_key k (kept_of ks owner).numbers }) ks
+with_number owner k ks =
+    with_row owner (record (kept_of ks owner) { numbers = put kept_key k (kept_of ks owner).numbers }) ks
 
 -- all that was gathered: the owners, and the one whose rows come now
 abbrev pub all_of : List KeptOwner → Option KeptOwner → List KeptOwner
@@ -37,8 +38,10 @@ all_in g = all_of g.kept g.current
 
 -- what a row did to what was gathered
 pub record IsNoted (e : Entry) (done : Bool) (old new : List KeptOwner) : Type 0 where
-  pub floor : (o : KeptOwner) → IsNumber (owner_number o.owner) → o.floor < 2 ^ 64 → e ≡ floor_row o → IsTrue done × (new ≡ with_floor o.owner o.floor old)
-  pub number : (w : Owner) (k : KeptNumber) → IsNumber (owner_number w) → HasSubject k → k.place < 2 ^ 64 → e ≡ kept_row w k → IsTrue done × (new ≡ with_number w k old)
+  pub floor : (o : KeptOwner) → IsNumber (owner_number o.owner) → o.floor < 2 ^ 64 → e ≡ floor_row o
+      → IsTrue done × (new ≡ with_floor o.owner o.floor old)
+  pub number : (w : Owner) (k : KeptNumber) → IsNumber (owner_number w) → HasSubject k → k.place < 2 ^ 64
+      → e ≡ kept_row w k → IsTrue done × (new ≡ with_number w k old)
   pub other : e.0.kind ≢ 18 → e.0.kind ≢ 19 → IsTrue done × (new ≡ old)
 
 -- what is kept for an owner: its floor, and the number
@@ -56,4 +59,5 @@ pub record IsGathered (s : State) (ks : List KeptOwner) (left : List Entry) : Ty
   pub floor : (w : Owner) → (floor_at ks w ≡ 0) ⊎ (floor_at ks w ≡ floor_at s.kept w)
   pub number : (w : Owner) (n : ℕ) → (number_at ks w n ≡ None) ⊎ (number_at ks w n ≡ number_at s.kept w n)
   pub floors : (o : KeptOwner) → Has s.kept o → (floor_at ks o.owner ≡ o.floor) ⊎ Has left (floor_row o)
-  pub numbers : (o : KeptOwner) (k : KeptNumber) → Has s.kept o → Has o.numbers k → (number_at ks o.owner k.number ≡ Some k) ⊎ Has left (kept_row o.owner k)
+  pub numbers : (o : KeptOwner) (k : KeptNumber) → Has s.kept o → Has o.numbers k
+      → (number_at ks o.owner k.number ≡ Some k) ⊎ Has left (kept_row o.owner k)

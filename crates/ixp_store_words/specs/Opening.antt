@@ -23,7 +23,8 @@ is_old (row ∷ rows) = row.name.kind == 0 && length row.name.key == 0 && same r
 
 -- the rows are those of the state, or none
 abbrev pub IsFirstOrOf : State → List Row → Type 0
-IsFirstOrOf s rows = ((rows ≡ []) × (s ≡ first_state empty_registry)) ⊎ IsPermutation (map set_row (stored_rows s)) (map set_row (map row_entry rows))
+IsFirstOrOf s rows = ((rows ≡ []) × (s ≡ first_state empty_registry))
+    ⊎ IsPermutation (map set_row (stored_rows s)) (map set_row (map row_entry rows))
 
 -- what the answer says of the version
 abbrev pub SaysVersion : Result State LoadFault → List Row → Type 0

@@ -9,7 +9,7 @@ use crate::words::{Form, form_of};
 use ixp_machine_steps::{KeptNumber, KeptOwner, Subject};
 use ixp_registry::is_handle;
 
-/// A number of 32 bits is one.
+/// A number of 32 bits is one. It is read for the proof alone.
 fn fits(number: u32)
     ensures { IsNumber number }
 {

@@ -145,7 +145,8 @@ pub(crate) fn numbered_of(text: &[u8]) -> Option<(Owner, u64)>
     Some((owner, last))
 }
 
-const EDIT_KINDS: &[EditKind] = &[
+/// All kinds of edits.
+pub const EDIT_KINDS: &[EditKind] = &[
     EditKind::AddMember,
     EditKind::RenameMember,
     EditKind::MoveStatus,

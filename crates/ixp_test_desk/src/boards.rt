@@ -1,4 +1,5 @@
-//! A configuration that is read while an edit is held inside its commit, with the lock: it comes from the board.
+//! A configuration that is read while an edit is held inside its commit, with the lock: it comes from the
+//! board.
 ghost use Rattle.std.specs.Prelude.{◌≡◌};
 
 use crate::held::Editing;

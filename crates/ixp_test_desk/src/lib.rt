@@ -1,8 +1,8 @@
-//! Tests of a desk that threads share: what no clause says, that a lock is free while texts are made, and that a
-//! configuration is read without it.
+//! Tests of a desk that threads share: what no clause says, that a lock is free while texts are made, and
+//! that a configuration is read without it.
 //!
-//! The registry is the demo exchange. Each test runs on seats of one desk, whose calls in two threads are held
-//! against each other (`pairs.rt`).
+//! The registry is the demo exchange. Each test runs on seats of one desk, whose calls in two threads are
+//! held against each other (`pairs.rt`).
 #![tactic(auto)]
 
 #[cfg(test)]

@@ -7,10 +7,11 @@ use ixp_desk::{Desk, DeskSeat, Desks, Shared, open_desk};
 use ixp_desk_history::DeskStory;
 use ixp_desk_rtr::{RoaCache, RtrEnd, rtr_link};
 use ixp_io::{Keeper, MemLink, MemSink, MemSource, Plan};
-use ixp_machine_edits::{Edit, PublicList};
+use ixp_machine_edits::Edit;
 use ixp_machine_steps::Entry;
 use ixp_num::{Asn, Family, Items, Prefix, Roa};
 use ixp_num_sorted::Sorted;
+use ixp_registry_change::PublicList;
 use std::alloc::{AllocError, Global};
 use std::marker::Brand;
 use std::sync::{Mutex, Wait};
@@ -18,8 +19,8 @@ use std::sync::{Mutex, Wait};
 // Reset Query (5.4).
 const RESET: &[u8] = &[1, 2, 0, 0, 0, 0, 0, 8];
 
-// The answer to it: Cache Response (5.5) of session 7, IPv4 Prefix (5.6) that announces 203.0.113.0/24 with max
-// length 24 of AS 65001, End of Data (5.8) with serial 1.
+// The answer to it: Cache Response (5.5) of session 7, IPv4 Prefix (5.6) that announces 203.0.113.0/24 with
+// max length 24 of AS 65001, End of Data (5.8) with serial 1.
 const WHOLE: &[u8] = &[
     1, 3, 0, 7, 0, 0, 0, 8, 1, 4, 0, 0, 0, 0, 0, 20, 1, 24, 24, 0, 203, 0, 113, 0, 0, 0, 253, 233,
     1, 7, 0, 7, 0, 0, 0, 24, 0, 0, 0, 1, 0, 0, 14, 16, 0, 0, 2, 88, 0, 0, 28, 32,
@@ -31,8 +32,8 @@ const SINCE: &[u8] = &[
     12, 0, 0, 0, 0,
 ];
 
-// The answers to them: that ROA is withdrawn, with serial 2; Cache Reset (5.9); Error Report (5.11), Corrupt Data,
-// with the header of the last query.
+// The answers to them: that ROA is withdrawn, with serial 2; Cache Reset (5.9); Error Report (5.11),
+// Corrupt Data, with the header of the last query.
 const CHANGES: &[u8] = &[
     1, 3, 0, 7, 0, 0, 0, 8, 1, 4, 0, 0, 0, 0, 0, 20, 0, 24, 24, 0, 203, 0, 113, 0, 0, 0, 253, 233,
     1, 7, 0, 7, 0, 0, 0, 24, 0, 0, 0, 2, 0, 0, 14, 16, 0, 0, 2, 88, 0, 0, 28, 32, 1, 8, 0, 0, 0, 0,

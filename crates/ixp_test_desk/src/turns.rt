@@ -29,8 +29,8 @@ fn read<R: Wait, P: Keeper + Drop, N: BoardName, W: Publish<Note<DeskStory, N>>>
     }
 }
 
-/// Whether an edit of one seat is in the texts that a second seat makes, which a third one reads; a worker has nothing
-/// to do then.
+/// Whether an edit of one seat is in the texts that a second seat makes, which a third one reads; a worker
+/// has nothing to do then.
 fn follows<R: Wait, P: Keeper + Drop, N: BoardName, W: Publish<Note<DeskStory, N>>>(
     rt: &R,
     alloc: Global,

@@ -1,6 +1,6 @@
-//! A machine that stops at each call of its disk in turn. When it comes back, what is loaded is the registry after
-//! the edits that were answered Ok, or after these and the one in work. The same requests, sent again, bring the
-//! rest.
+//! A machine that stops at each call of its disk in turn. When it comes back, what is loaded is the
+//! registry after the edits that were answered Ok, or after these and the one in work. The same requests,
+//! sent again, bring the rest.
 use crate::disk::{Stop, Stopping, close, come_back, files, open, stopping};
 use crate::edits::{EDITS, Loaded, found_in, is_step, on_a_store, put_demo, steps};
 use sqlite::Files;
@@ -49,8 +49,8 @@ fn run<R: Wait>(rt: &R, alloc: Global, files: Files<Stopping>) -> Option<Stopped
     })
 }
 
-/// Whether the store has the registry after so many requests or one more, and that after all once they were sent
-/// again.
+/// Whether the store has the registry after so many requests or one more, and that after all once they were
+/// sent again.
 fn comes_back<R: Wait>(
     rt: &R,
     alloc: Global,

@@ -54,7 +54,7 @@ fn dump_of(alloc: Global, lines: &[u8]) -> Result<Vec<u8>, AllocError> {
     Ok(text)
 }
 
-#[tactic(auto, using(crate::proofs::Bounds::high_fits))]
+#[tactic(auto, using(ixp_compile_text::proofs::Bounds::high_fits))]
 fn text_by(alloc: Global, registry: &Registry) -> Option<Vec<u8>>
     requires { Valid registry.now }
 {

@@ -4,10 +4,10 @@ ghost use Rattle.std.specs.Prelude.{◌<◌};
 ghost use Rattle.ixp_registry.specs.Valid.{Valid};
 ghost use Rattle.ixp_machine_steps.specs.States.{ValidState};
 
-use crate::changes::{Change, edit_of};
+use crate::changes::Change;
 use crate::lists::Listed;
 use crate::samples::{LINES, Plays, STAFF, is_wanted, told};
-use crate::sending::put_request;
+use crate::sending::{Sent, change_of, put_request};
 use ixp_build::{Bundle, InstallFault, Made, Pending, make, orders_have_bounds};
 use ixp_build_touches::{Touch, reached_by, touched};
 use ixp_compile_laws::text_of;
@@ -15,6 +15,7 @@ use ixp_machine_steps::State;
 use ixp_num::{Asn, Family, Name, Prefix, Roa};
 use ixp_num_tables::{Copied, put, put_number};
 use ixp_registry::{Action, Registry, Status, Way};
+use ixp_registry_change::RegistryChange;
 use ixp_roa::{RoaTable, validity};
 use std::alloc::{AllocError, Global};
 use std::process::Abort;
@@ -121,7 +122,7 @@ fn made_of(alloc: Global, bundle: &Bundle, state: &State, touch: &Touch) -> Resu
     requires { Valid state.now.registry }
 {
     orders_have_bounds();
-    let taken = bundle.order(alloc, state, touch)?;
+    let taken = bundle.order(alloc, &state.registry, state.accepted, touch)?;
     make(alloc, taken)
 }
 
@@ -144,6 +145,41 @@ fn put_rebuilt(
     put_installed(&mut share, late, out)
 }
 
+/// Sends a request, and adds its decision as a line.
+fn put_line(state: &mut State, sent: Sent, out: &mut Vec<u8>) -> Result<(), AllocError>
+    requires { ValidState state.old }
+    ensures { ValidState state.new }
+{
+    put_request(state, sent, out)?;
+    put(out, b"\n")
+}
+
+/// Sends a request, and gives the change that it made.
+fn requested(
+    state: &mut State,
+    sent: Sent,
+    out: &mut Vec<u8>,
+) -> Result<Option<RegistryChange>, AllocError>
+    requires { ValidState state.old }
+    ensures { ValidState state.new }
+{
+    let change = change_of(*out.allocator(), state, sent)?;
+    match put_line(state, sent, out) {
+        Ok(()) => Ok(change),
+        Err(e) => Err(e),
+    }
+}
+
+fn touch_of(
+    alloc: Global,
+    before: &Registry,
+    after: &Registry,
+    change: RegistryChange,
+) -> Result<Touch, AllocError> {
+    touched(alloc, before, after, &change)
+}
+
+/// What the staff's edit touches, and what becomes of the texts.
 /// What the staff's edit touches, and what becomes of the texts.
 #[derive(Clone, Copy)]
 struct Built(Change);
@@ -151,14 +187,12 @@ struct Built(Change);
 impl Plays for Built {
     fn play(&self, state: &mut State, out: &mut Vec<u8>) -> Result<(), AllocError> {
         let alloc = *out.allocator();
-        let bundle = Bundle::open(alloc, state)?;
+        let bundle = Bundle::open(alloc, &state.registry, state.accepted)?;
         let before = state.registry.copied(alloc)?;
-        put_request(state, (STAFF, 1, self.0), out)?;
-        put(out, b"\n")?;
-        let Some(edit) = edit_of(alloc, self.0) else {
-            return put(out, b"no edit");
+        let Some(change) = requested(state, (STAFF, 1, self.0), out)? else {
+            return put(out, b"no change");
         };
-        let touch = touched(alloc, &before, &state.registry, &edit)?;
+        let touch = touch_of(alloc, &before, &state.registry, change)?;
         put_touch(&touch, out)?;
         put_rebuilt(&bundle, state, &touch, out)
     }
@@ -276,10 +310,10 @@ fn pend(
     ensures { ValidState state.new }
 {
     let alloc = *out.allocator();
-    let Some(edit) = edit_of(alloc, change) else {
-        return put(out, b"no edit");
+    let Some(made) = change_of(alloc, state, (STAFF, number, change))? else {
+        return put(out, b"no change");
     };
-    let reached = reached_by(alloc, &state.registry, &edit)?;
+    let reached = reached_by(alloc, &state.registry, &made)?;
     put_request(state, (STAFF, number, change), out)?;
     put(out, b"\n")?;
     let touch = reached.touch_after(alloc, &state.registry)?;
@@ -347,10 +381,10 @@ fn is_shared<T: Send + Sync>(_it: &T) {}
 impl Plays for Lent {
     fn play(&self, state: &mut State, out: &mut Vec<u8>) -> Result<(), AllocError> {
         let alloc = *out.allocator();
-        let bundle = Bundle::open(alloc, state)?;
+        let bundle = Bundle::open(alloc, &state.registry, state.accepted)?;
         let pending = Pending::new(alloc);
         let touch = pending.listed(alloc)?;
-        let order = bundle.order(alloc, state, &touch)?;
+        let order = bundle.order(alloc, &state.registry, state.accepted, &touch)?;
         is_shared(state);
         is_shared(&bundle);
         is_shared(&pending);

@@ -1,10 +1,11 @@
 //! Lists of edits.
 use crate::changes::{Rule, prefix_of};
 use ixp_irr::{read_bogons, read_list, read_origins, read_transit_free};
-use ixp_machine_edits::{Edit, NewRule, PublicList};
+use ixp_machine_edits::{Edit, NewRule};
 use ixp_num::{Asn, Family, Items, Prefix, Roa};
 use ixp_num_sorted::Sorted;
 use ixp_registry::{Action, Way};
+use ixp_registry_change::PublicList;
 use std::alloc::Global;
 
 /// A list of an edit.

@@ -163,7 +163,7 @@ fn fails<R: Threads + Wait + Sync>(
     door: &mut HoldDoor<'_>,
     host: &Echo,
     seats: &[u64],
-    links: u32,
+    links: u64,
 ) -> Result<bool, AllocError>
     requires { 1 ≤ length seats.now }
 {
@@ -179,7 +179,7 @@ fn served<R: Threads + Wait + Sync>(
     alloc: Global,
     turns: u32,
     seats: &[u64],
-    links: u32,
+    links: u64,
 ) -> Result<Outcome, AllocError>
     requires { 1 ≤ length seats.now }
 {
@@ -233,13 +233,13 @@ fn a_door_without_a_further_link_fails(rt: HostRuntime) -> Result<(), Fail> {
     Ok(())
 }
 
-// How many links of a further door are asked for, and how many it gave and ended as they should, while the first door
-// gives none.
+// How many links of a further door are asked for, and how many it gave and ended as they should, while the
+// first door gives none.
 fn helped<R: Threads + Wait + Sync>(
     rt: &R,
     alloc: Global,
-    links: u32,
-) -> Result<(u32, u64), AllocError> {
+    links: u64,
+) -> Result<(u64, u64), AllocError> {
     let first = Hold::for_turns(TURNS);
     let second = Hold::for_turns(TURNS);
     let further = HoldDoor::new(waiting(alloc, &first, &second)?, None);

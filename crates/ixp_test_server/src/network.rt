@@ -4,6 +4,7 @@ use ixp_io_net::{SystemClock, TcpDoor, TcpLink};
 use std::io::{Read, Write};
 use std::net::{Ipv4Addr, Shutdown, SocketAddr, SocketAddrV4, TcpStream};
 use std::test::Fail;
+use std::time::Duration;
 use std::{io, thread};
 
 const PORTS: u16 = 100;
@@ -57,6 +58,54 @@ fn the_last_reply_is_read(rt: HostRuntime) -> Result<(), Fail> {
     let (reply, done) = thread::join(&rt, || ask(&rt, port), || serve_one(&mut door));
     assert!(rt; done.is_ok());
     assert!(rt; reply?.as_str() == "too long");
+    Ok(())
+}
+
+// A link of a client, whose reads wait for a silent peer for so many seconds.
+fn link_to(rt: &HostRuntime, port: u16, seconds: u64) -> Option<TcpLink> {
+    let at = SocketAddr::V4(SocketAddrV4::new(Ipv4Addr::LOCALHOST, port));
+    let stream = TcpStream::connect(rt, at).ok()?;
+    TcpLink::over(rt, stream, seconds)
+}
+
+// Takes a link, is silent for longer than one call of the system waits, and says something.
+fn speak_late(rt: &HostRuntime, door: &mut TcpDoor) -> Result<(), Failed> {
+    let mut link = door.accept()?;
+    thread::sleep(rt, Duration::from_secs(7));
+    write_all(&mut link, b"late")
+}
+
+// The first byte that comes.
+fn first_byte(link: Option<TcpLink>) -> Option<u8> {
+    let mut start = [0; 10];
+    match link?.read(&mut start) {
+        Ok(count) if count > 0 => Some(start[0]),
+        _ => None,
+    }
+}
+
+#[test]
+fn a_peer_that_is_silent_for_too_long_is_a_fault(rt: HostRuntime) -> Result<(), Fail> {
+    let Some((_door, port)) = open(&rt, 20_500) else {
+        assert!(rt; false, "no port");
+        return Ok(());
+    };
+    let link = link_to(&rt, port, 1);
+    assert!(rt; link.is_some());
+    assert!(rt; first_byte(link).is_none());
+    Ok(())
+}
+
+#[test]
+fn a_peer_may_be_silent_for_a_while(rt: HostRuntime) -> Result<(), Fail> {
+    let Some((mut door, port)) = open(&rt, 20_700) else {
+        assert!(rt; false, "no port");
+        return Ok(());
+    };
+    let link = link_to(&rt, port, 30);
+    let (said, done) = thread::join(&rt, || first_byte(link), || speak_late(&rt, &mut door));
+    assert!(rt; done.is_ok());
+    assert!(rt; said == Some(b'l'));
     Ok(())
 }
 

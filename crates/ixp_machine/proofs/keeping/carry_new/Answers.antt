@@ -9,6 +9,6 @@ use Rattle.ixp_machine.proofs.keeping.carry_new.Goals as goal
 pub returns-in-Err-clause-no_row : goal.returns-in-Err-clause-no_row
 returns-in-Err-clause-no_row g c =
     let ks = c.args.kept.now in
-    let row : KeptOwner = record { owner = c.args.owner; floor = 0; numbers = c.put.new.self } in
+    let row : KeptOwner = record { owner = c.args.prepared.owner; floor = 0; numbers = c.put.new.self } in
     let now : c.put-2.new.self ≡ put kept_owner_key row ks = search rules in
-    c.take_out.ensures ∙ (ap (without kept_owner_key (owner_numbers c.args.owner)) now ∙ without-put kept_owner_key row ks c.requires)
+    c.take_out.ensures ∙ (ap (without kept_owner_key (owner_numbers c.args.prepared.owner)) now ∙ without-put kept_owner_key row ks c.requires)

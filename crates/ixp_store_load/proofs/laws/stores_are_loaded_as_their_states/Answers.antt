@@ -1,12 +1,9 @@
-use Rattle.std.proofs.Common.{◌≡◌, ◌⊎◌, inl, inr, Result, Some, sym, ap, subst}
-use Rattle.std.specs.FinMap.{empty}
+use Rattle.std.proofs.Common.{inl, inr, Result, Some, sym, ap, subst}
 use Rattle.ixp_io.specs.Tables.{Table}
 use Rattle.ixp_machine_steps.specs.declared.state.State.{State}
-use Rattle.ixp_machine_steps.specs.Openings.{first_state}
 use Rattle.ixp_machine_steps.specs.States.{ValidState}
-use Rattle.ixp_store_rows.specs.States.{tables}
 use Rattle.ixp_store_words.specs.declared.fault.LoadFault.{LoadFault}
-use Rattle.ixp_store_words.specs.Answers.{IsLoaded, IsStoreOf, LoadsAll, empty_registry}
+use Rattle.ixp_store_words.specs.Answers.{IsLoaded, IsStoreOf, LoadsAll}
 use Rattle.ixp_store_words.specs.Storing.{IsStorable}
 use Rattle.ixp_store_load.proofs.laws.stores_are_loaded_as_their_states.Goals as goal
 

@@ -1,4 +1,4 @@
-use Rattle.std.proofs.Common.{◌≡◌, sym, subst}
+use Rattle.std.proofs.Common.{sym, subst}
 use Rattle.ixp_build.specs.Bundles.{built_of}
 use Rattle.ixp_build.specs.Orders.{HasBounds}
 use Rattle.ixp_test_machine.proofs.builds.made_of.Goals as goal
