@@ -5,14 +5,14 @@ use crate::lines::{first_line, is_remark};
 
 /// A line, and its number in the text, counted from 1.
 #[derive(Clone, Copy)]
-pub(crate) struct Line<'a> {
+pub struct Line<'a> {
     pub number: usize,
     pub bytes: &'a [u8],
 }
 
 /// What is ahead: a text, and how many lines stand before it.
 #[derive(Clone, Copy)]
-pub(crate) struct Ahead<'a> {
+pub struct Ahead<'a> {
     pub text: &'a [u8],
     pub before: usize,
     pub ghost room: { before + length text.now < 2 ^ 64 },
@@ -24,7 +24,7 @@ impl<'a> Ahead<'a> {
     ghost use Rattle.ixp_rpsl.specs.Lines.{lines_in, lines_ahead, line_of};
 
     /// The whole of a text.
-    pub(crate) fn new(text: &'a [u8]) -> Ahead<'a>
+    pub fn new(text: &'a [u8]) -> Ahead<'a>
         ensures { lines_ahead result ≡ lines_in text.now }
     {
         Ahead { text, before: 0 }
@@ -48,7 +48,7 @@ impl<'a> Ahead<'a> {
     }
 
     /// The next line that is no remark, and what is behind it.
-    pub(crate) fn next_line(self) -> Option<(Line<'a>, Ahead<'a>)>
+    pub fn next_line(self) -> Option<(Line<'a>, Ahead<'a>)>
         ensures lines { MatchOption result (lines_ahead self.entry ≡ [])
             (λ p. lines_ahead self.entry ≡ line_of p.0 ∷ lines_ahead p.1) }
         ensures shorter { IfSome result (λ p. length p.1.text.now < length self.entry.text.now) }

@@ -33,7 +33,7 @@ use std::alloc::{AllocError, Global};
 
 /// An attribute's value, and the line where it begins.
 #[derive(Debug, Drop)]
-pub(crate) struct Attribute {
+pub struct Attribute {
     pub line: usize,
     pub value: Items<u8>,
 }
@@ -53,7 +53,7 @@ fn name_end(line: &[u8]) -> Option<usize>
 }
 
 /// The name of a line, and what is behind its colon.
-pub(crate) fn named(line: &[u8]) -> Option<(&[u8], &[u8])>
+pub fn named(line: &[u8]) -> Option<(&[u8], &[u8])>
     ensures { option_map (λ p. (p.0.now, p.1.now)) result ≡ spec.named line.now }
 {
     match name_end(line) {
@@ -69,7 +69,7 @@ pub(crate) fn named(line: &[u8]) -> Option<(&[u8], &[u8])>
 }
 
 /// Whether a name is this word, which has no upper case.
-pub(crate) fn is_word(word: &[u8], name: &[u8]) -> bool
+pub fn is_word(word: &[u8], name: &[u8]) -> bool
     ensures { result ≡ spec.is_word word.now name.now }
 {
     let mut left = name;
@@ -140,7 +140,7 @@ fn put_going<'a>(value: &mut Vec<u8>, ahead: Ahead<'a>) -> Result<Ahead<'a>, All
 }
 
 /// Adds a value, of which this is in its first line, and tells what is behind it.
-pub(crate) fn put_value<'a>(
+pub fn put_value<'a>(
     value: &mut Vec<u8>,
     first: &[u8],
     ahead: Ahead<'a>,

@@ -12,7 +12,7 @@ use std::alloc::Global;
 
 /// A kind of objects.
 #[derive(Clone, Copy, Debug)]
-pub(crate) enum Kind {
+pub enum Kind {
     /// A route to a prefix of the family.
     Route(Family),
     /// A set of autonomous systems.
@@ -22,7 +22,7 @@ pub(crate) enum Kind {
 }
 
 /// The kind of an object that begins with this name.
-pub(crate) fn kind_of(name: &[u8]) -> Kind
+pub fn kind_of(name: &[u8]) -> Kind
     ensures { result ≡ spec.kind_of name.now }
 {
     if is_word(b"route", name) {
@@ -37,7 +37,7 @@ pub(crate) fn kind_of(name: &[u8]) -> Kind
 }
 
 /// The route of an object that begins at a line, or the first line that isn't of its form.
-pub(crate) fn route_of(
+pub fn route_of(
     first: usize,
     net: Option<Prefix>,
     origins: &[Attribute],

@@ -6,7 +6,7 @@ use std::alloc::{AllocError, Global};
 
 /// The attributes of one name, and the least line that neither has a name nor goes on with a value.
 #[derive(Debug, Drop)]
-pub(crate) struct Gathered {
+pub struct Gathered {
     pub found: Items<Attribute>,
     pub fault: Option<usize>,
 }
@@ -39,7 +39,7 @@ impl Gathered {
     ghost use Rattle.ixp_rpsl.specs.Gathers.{Gathers};
 
     /// Nothing yet.
-    pub(crate) fn new(alloc: Global) -> Gathered
+    pub fn new(alloc: Global) -> Gathered
         ensures found { result.found ≡ [] }
         ensures fault { result.fault ≡ None }
     {
@@ -115,7 +115,7 @@ impl Gathered {
     }
 
     /// Takes the attributes of this name, up to the next empty line, and tells what is ahead there.
-    pub(crate) fn gather<'a>(
+    pub fn gather<'a>(
         &mut self,
         alloc: Global,
         word: &[u8],

@@ -1,21 +1,21 @@
 //! RPSL objects, and the expansion of sets of autonomous systems.
 #![tactic(auto)]
 
-mod ahead;
-mod attributes;
+pub mod ahead;
+pub mod attributes;
 mod check;
-mod entries;
+pub mod entries;
 mod fault;
 mod found;
-mod gathered;
+pub mod gathered;
 mod growth;
 mod index;
 mod laws;
-mod lines;
+pub mod lines;
 mod objects;
 mod origins;
 mod reading;
-mod values;
+pub mod values;
 
 pub use check::check_reach;
 pub use fault::RpslFault;

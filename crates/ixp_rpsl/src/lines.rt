@@ -12,7 +12,7 @@ fn place_of(mark: u8, t: &[u8]) -> Option<usize>
 }
 
 /// What is before the first such byte, and what is behind it.
-pub(crate) fn parted(mark: u8, t: &[u8]) -> Option<(&[u8], &[u8])>
+pub fn parted(mark: u8, t: &[u8]) -> Option<(&[u8], &[u8])>
     ensures parts { MatchOption result (slice_split (λ b. b == mark) t.now ≡ t.now ∷ [])
         (λ p. slice_split (λ b. b == mark) t.now ≡ p.0.now ∷ slice_split (λ b. b == mark) p.1.now) }
     ensures shorter { IfSome result (λ p. length p.1.now < length t.now) }

@@ -44,7 +44,7 @@ fn is_blank(byte: u8) -> bool
 }
 
 /// A text without the blanks before it.
-fn trimmed_start(t: &[u8]) -> &[u8]
+pub fn trimmed_start(t: &[u8]) -> &[u8]
     ensures { result.now ≡ spec.trimmed_start t.now }
 {
     let mut left = t;
@@ -72,7 +72,7 @@ fn trimmed_end(t: &[u8]) -> &[u8]
 }
 
 /// A text without the blanks before and behind it.
-pub(crate) fn trimmed(t: &[u8]) -> &[u8]
+pub fn trimmed(t: &[u8]) -> &[u8]
     ensures { result.now ≡ spec.trimmed t.now }
 {
     trimmed_end(trimmed_start(t))
@@ -90,7 +90,7 @@ pub(crate) fn is_of(prefix: &Prefix, family: Family) -> bool
 }
 
 /// The prefix of this family that a text is.
-pub(crate) fn prefix_of(t: &[u8], family: Family) -> Option<Prefix>
+pub fn prefix_of(t: &[u8], family: Family) -> Option<Prefix>
     ensures { spec.SaysPrefix family t.now result }
 {
     match read_prefix(t) {
@@ -106,7 +106,7 @@ pub(crate) fn prefix_of(t: &[u8], family: Family) -> Option<Prefix>
 }
 
 /// The AS number that a text is: `AS` in any case, and a decimal number.
-pub(crate) fn as_number(t: &[u8]) -> Option<Asn>
+pub fn as_number(t: &[u8]) -> Option<Asn>
     ensures { result ≡ spec.as_number t.now }
 {
     match t {
@@ -125,7 +125,7 @@ pub(crate) fn as_number(t: &[u8]) -> Option<Asn>
 }
 
 /// Whether a text is empty.
-pub(crate) fn is_nothing(t: &[u8]) -> bool
+pub fn is_nothing(t: &[u8]) -> bool
     ensures { result ≡ is_empty t.now }
 {
     match t {
@@ -157,7 +157,7 @@ fn is_set_part(part: &[u8]) -> bool
 }
 
 /// What is before the first such byte, and what is behind it where there is one.
-fn first_part(mark: u8, t: &[u8]) -> (&[u8], Option<&[u8]>)
+pub fn first_part(mark: u8, t: &[u8]) -> (&[u8], Option<&[u8]>)
     ensures parts { slice_split (λ b. b == mark) t.now
         ≡ result.0.now ∷ parts_of mark (option_map (λ r. r.now) result.1) }
     ensures shorter { IfSome result.1 (λ r. length r.now < length t.now) }
@@ -169,7 +169,7 @@ fn first_part(mark: u8, t: &[u8]) -> (&[u8], Option<&[u8]>)
 }
 
 /// Whether the parts of a name are names of sets or AS numbers, and one is a set's.
-fn are_name_parts(t: &[u8]) -> bool
+pub fn are_name_parts(t: &[u8]) -> bool
     ensures { result ≡ (list_all spec.is_name_part
         (slice_split (λ b. b == 58) t.now) && list_any spec.is_set_part
         (slice_split (λ b. b == 58) t.now)) }
@@ -198,7 +198,7 @@ fn is_set_name(t: &[u8]) -> bool
 const MOST: usize = 64;
 
 /// A text in upper case, if it isn't longer than a name.
-fn upper(t: &[u8]) -> Option<ArrayVec<u8, MOST>>
+pub fn upper(t: &[u8]) -> Option<ArrayVec<u8, MOST>>
     ensures { MatchOption result (64 < length t.now) (λ u. u.items ≡ map to_ascii_uppercase t.now) }
 {
     if MOST < t.len() {
