@@ -12,7 +12,7 @@ use Rattle.ixp_rpsl.proofs.Gathering.{behind_value}
 use Rattle.ixp_rpsl.proofs.Joining.{join_as, join_nothing}
 
 -- behind an object's first line the next object is past its end
-past_first : (ls : List Line) → objects true ls ≡ objects false (past_object ls)
+pub past_first : (ls : List Line) → objects true ls ≡ objects false (past_object ls)
 past_first [] = refl
 past_first (l ∷ ls) = by (is_empty l.bytes) refl (past_first ls) where
   by : (b : Bool) → is_empty l.bytes ≡ b → objects true ls ≡ objects false (past_object ls)
