@@ -11,7 +11,7 @@ use Rattle.ixp_rpsl.specs.declared.objects.Item.TheVariants as item
 use Rattle.ixp_rpsl.specs.declared.objects.SetRow.{SetRow}
 use Rattle.ixp_rpsl_sources.specs.Counting as counting
 use Rattle.ixp_rpsl_sources.specs.Said.{Said}
-use Rattle.ixp_rpsl_sources.specs.Told.{KeepsBest, PutsRows, places_at, admits_by, begins_at, best_of, claimant_kept, claimed_at, claimed_one, place_times, places_from, rows_kept}
+use Rattle.ixp_rpsl_sources.specs.Told.{KeepsBest, PutsClaimed, PutsRows, counts_at, places_at, admits_by, begins_at, best_of, claimant_kept, claimed_at, claimed_one, place_times, places_from, rows_kept, rows_named}
 use Rattle.ixp_rpsl_sources.specs.declared.best.Best.{Best}
 use Rattle.ixp_rpsl_sources.specs.declared.objects.Claim.{Claim}
 use Rattle.ixp_rpsl_sources.specs.declared.objects.SetObject.{SetObject}
@@ -111,19 +111,56 @@ rows_append sources said (f ∷ fs) o =
     ap (λ r. r ++ counting.rows_under sources said f (counting.names_of sources f)) (rows_append sources said fs o)
     ∙ append_assoc (counting.rows_under sources said o (counting.names_of sources o)) (counting.rows sources said fs) (counting.rows_under sources said f (counting.names_of sources f))
 
+-- an object that doesn't count has no rows
+no_rows : (index : BTreeMap (Vec ℕ Global) Best) (line : ℕ) (members : List Item) (names : List (List ℕ)) → counts_at index line names ≡ false → rows_kept index line members names ≡ []
+no_rows index line members [] e = refl
+no_rows index line members (n ∷ ns) e = by (begins_at (get_by (sought n) index) line) e (no_rows index line members ns) where
+  by : (b : Bool) → (b || counts_at index line ns) ≡ false → (counts_at index line ns ≡ false → rows_kept index line members ns ≡ [])
+      → (if b then record { name = n; members = members } ∷ rows_kept index line members ns else rows_kept index line members ns) ≡ []
+  by true h rest = absurd (let x : ⊥ = cc in x)
+  by false h rest = rest h
+
 -- one more object's rows are put
 pub rows_put : (sources : List (List ℕ)) (sets : List SetObject) (index : BTreeMap (Vec ℕ Global) Best) (keeps : KeepsBest sources sets index)
     (places : BTreeMap (Vec ℕ Global) (List ℕ)) (claims : List Claim) (placed : (q : List ℕ) → places_at places q ≡ places_from 0 claims q)
     (said : Said) → said.sets ≡ sets → said.claims ≡ claims → (o : SetObject) (old new : List SetRow) (front : List SetObject) → PutsRows sources index places claims o old new
     → new ++ counting.rows sources said front ≡ old ++ counting.rows sources said (front ++ o ∷ [])
-rows_put sources sets index keeps places claims placed said same kept o old new front (members, (words, marks, put), grown) =
-    let all : members ≡ counting.all_members sources said o =
-    put ∙ (ap (λ ps. o.members ++ claimed_at index words claims ps) (placed o.name)
-    ∙ (ap (λ is. o.members ++ is) (claimed_same sources sets index keeps o words marks claims)
-    ∙ ap (λ (p : List SetObject × List Claim). o.members ++ counting.claimed sources p.0 o p.1) (pair_same sets said.sets claims said.claims (sym same) (sym kept)))) in
-    ap (λ n. n ++ counting.rows sources said front) (grown ∙ ap (λ rs. old ++ rs) (rows_same sources sets index keeps said o members (counting.names_of sources o) same all))
+rows_put sources sets index keeps places claims placed said same kept o old new front (members, put, grown) =
+    ap (λ n. n ++ counting.rows sources said front) (grown ∙ ap (λ rs. old ++ rs) (by (counts_at index o.line (counting.names_of sources o)) refl))
     ∙ (append_assoc old (counting.rows_under sources said o (counting.names_of sources o)) (counting.rows sources said front)
     ∙ ap (λ rs. old ++ rs) (sym (rows_append sources said front o)))
   where
     pair_same : (a b : List SetObject) (c d : List Claim) → a ≡ b → c ≡ d → ◌≡◌ {A = List SetObject × List Claim} (a, c) (b, d)
     pair_same a b c d e f = ap (λ (x : List SetObject). let p : List SetObject × List Claim = (x, c) in p) e ∙ ap (λ (x : List Claim). let p : List SetObject × List Claim = (b, x) in p) f
+
+    all : PutsClaimed index o.by_ref claims (places_at places o.name) o.members members → members ≡ counting.all_members sources said o
+    all (words, marks, more) =
+        more ∙ (ap (λ ps. o.members ++ claimed_at index words claims ps) (placed o.name)
+        ∙ (ap (λ is. o.members ++ is) (claimed_same sources sets index keeps o words marks claims)
+        ∙ ap (λ (p : List SetObject × List Claim). o.members ++ counting.claimed sources p.0 o p.1) (pair_same sets said.sets claims said.claims (sym same) (sym kept))))
+
+    by : (b : Bool) → counts_at index o.line (counting.names_of sources o) ≡ b → rows_kept index o.line members (counting.names_of sources o) ≡ counting.rows_under sources said o (counting.names_of sources o)
+    by true e = rows_same sources sets index keeps said o members (counting.names_of sources o) same (all (put e))
+    by false e =
+        no_rows index o.line members (counting.names_of sources o) e
+        ∙ (sym (no_rows index o.line (counting.all_members sources said o) (counting.names_of sources o) e)
+        ∙ rows_same sources sets index keeps said o (counting.all_members sources said o) (counting.names_of sources o) same refl)
+
+-- the rows of an object, name by name
+pub puts_rows : (sources : List (List ℕ)) (index : BTreeMap (Vec ℕ Global) Best) (places : BTreeMap (Vec ℕ Global) (List ℕ)) (claims : List Claim) (o : SetObject) (old new : List SetRow)
+    (members : List Item) (wanted : Bool) (own sourced : Option (List ℕ)) → wanted ≡ (begins_at (get_by (sought o.name) index) o.line || is_some sourced)
+    → is_some sourced ≡ counts_at index o.line (counting.if_name (counting.sourced_name sources o))
+    → ((ms : List Item) → rows_kept index o.line ms (counting.if_name (counting.sourced_name sources o)) ≡ rows_named ms sourced)
+    → own ≡ (if begins_at (get_by (sought o.name) index) o.line then Some o.name else None)
+    → (wanted ≡ true → PutsClaimed index o.by_ref claims (places_at places o.name) o.members members) → new ≡ (old ++ rows_named members own) ++ rows_named members sourced
+    → PutsRows sources index places claims o old new
+puts_rows sources index places claims o old new members wanted own sourced is there kept named put grown = (
+  members,
+  λ e. put (is ∙ (ap (λ b. begins_at (get_by (sought o.name) index) o.line || b) there ∙ e)),
+  grown ∙ append_assoc old (rows_named members own) (rows_named members sourced) ∙ ap (λ rs. old ++ rs) (ap (λ n. rows_named members n ++ rows_named members sourced) named ∙ (ap (λ rs. rows_named members (if begins_at (get_by (sought o.name) index) o.line then Some o.name else None) ++ rs) (sym (kept members))
+      ∙ by (begins_at (get_by (sought o.name) index) o.line) (rows_kept index o.line members (counting.if_name (counting.sourced_name sources o))))),
+)
+  where
+    by : (b : Bool) (rs : List SetRow) → rows_named members (if b then Some o.name else None) ++ rs ≡ (if b then record { name = o.name; members = members } ∷ rs else rs)
+    by true rs = refl
+    by false rs = refl

@@ -111,11 +111,16 @@ PutsClaimed index by_ref claims places old new = (words : BTreeMap (Vec ℕ Glob
     × ((q : List ℕ) → is_some (get_by (sought q) words) ≡ is_among by_ref q)
     × (new ≡ old ++ claimed_at index words claims places)
 
--- the rows of an object are added
+-- an object counts under one of its names
+abbrev pub counts_at : BTreeMap (Vec ℕ Global) Best → ℕ → List (List ℕ) → Bool
+counts_at index line names = list_any (λ n. begins_at (get_by (sought n) index) line) names
+
+-- the rows of an object are added, with members by reference where it counts
 abbrev pub PutsRows : List (List ℕ) → BTreeMap (Vec ℕ Global) Best → BTreeMap (Vec ℕ Global) (List ℕ)
     → List Claim → SetObject → List SetRow → List SetRow → Type 0
 PutsRows sources index places claims o old new = (members : List Item)
-    × PutsClaimed index o.by_ref claims (places_at places o.name) o.members members
+    × (counts_at index o.line (names_of sources o) ≡ true
+    → PutsClaimed index o.by_ref claims (places_at places o.name) o.members members)
     × (new ≡ old ++ rows_kept index o.line members (names_of sources o))
 
 -- the sets that count, whatever routes there are and whatever is passed by

@@ -1,6 +1,7 @@
 //! What counts of a text.
-ghost use Rattle.std.specs.Prelude.{◌≡◌, ◌++◌, IfOk, OnOk, List, Some, None, if◌then◌else◌};
+ghost use Rattle.std.specs.Prelude.{◌≡◌, ◌++◌, IfOk, OnOk, List, Some, None, if◌then◌else◌, true, ◌||◌};
 ghost use Rattle.std.specs.BTreeMap.{get_by};
+ghost use Rattle.std.specs.Option.{is_some};
 ghost use Rattle.ixp_rpsl.specs.Lookups.{sought};
 ghost use Rattle.ixp_rpsl.specs.declared.objects.Item.{Item};
 ghost use Rattle.ixp_rpsl_sources.specs.Counting as spec;
@@ -45,7 +46,9 @@ fn counting_source(
     index: &BTreeMap<Vec<u8>, Best>,
     object: &SetObject,
 ) -> Result<Option<Name>, AllocError>
-    ensures { IfOk result (λ name. (members : List Item) → told.rows_kept index.now object.now.line members
+    ensures counts { IfOk result (λ name. is_some name ≡ told.counts_at index.now object.now.line
+        (spec.if_name (spec.sourced_name sources.now object.now))) }
+    ensures rows { IfOk result (λ name. (members : List Item) → told.rows_kept index.now object.now.line members
         (spec.if_name (spec.sourced_name sources.now object.now)) ≡ told.rows_named members name) }
 {
     match sourced_name(alloc, sources, object)? {
@@ -105,6 +108,38 @@ fn put_named(
     }
 }
 
+/// Whether the object that begins at a line counts under its own name, or there is another name.
+fn is_wanted(
+    index: &BTreeMap<Vec<u8>, Best>,
+    line: usize,
+    name: &Name,
+    sourced: &Option<Name>,
+) -> bool
+    ensures { result ≡ (told.begins_at (get_by (sought name.now) index.now) line || is_some sourced.now) }
+{
+    counts(index, name.as_bytes(), line) || sourced.is_some()
+}
+
+/// Adds the members by reference, where they are wanted.
+fn put_if(
+    alloc: Global,
+    index: &BTreeMap<Vec<u8>, Best>,
+    places: &BTreeMap<Vec<u8>, Items<usize>>,
+    claims: &[Claim],
+    is_wanted: bool,
+    name: &Name,
+    by_ref: &[Items<u8>],
+    members: &mut Items<Item>,
+) -> Result<(), AllocError>
+    ensures { OnOk result (is_wanted ≡ true → told.PutsClaimed index.now by_ref.now claims.now
+        (told.places_at places.now name.now) members.old members.new) }
+{
+    if is_wanted {
+        put_claimed(alloc, index, places, claims, name, by_ref, members)?;
+    }
+    Ok(())
+}
+
 /// Adds an object with all of its members under the names under which it counts.
 fn put_rows(
     alloc: Global,
@@ -126,11 +161,13 @@ fn put_rows(
         mut members,
         by_ref,
     } = object;
-    put_claimed(
+    let wanted = is_wanted(index, line, &name, &sourced);
+    put_if(
         alloc,
         index,
         places,
         claims,
+        wanted,
         &name,
         by_ref.as_slice(),
         &mut members,
