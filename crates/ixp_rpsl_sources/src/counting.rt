@@ -48,7 +48,8 @@ fn counting_source(
 ) -> Result<Option<Name>, AllocError>
     ensures counts { IfOk result (λ name. is_some name ≡ told.counts_at index.now object.now.line
         (spec.if_name (spec.sourced_name sources.now object.now))) }
-    ensures rows { IfOk result (λ name. (members : List Item) → told.rows_kept index.now object.now.line members
+    ensures rows { IfOk result
+        (λ name. (members : List Item) → told.rows_kept index.now object.now.line members
         (spec.if_name (spec.sourced_name sources.now object.now)) ≡ told.rows_named members name) }
 {
     match sourced_name(alloc, sources, object)? {
