@@ -19,6 +19,8 @@ mod outside;
 #[cfg(test)]
 mod rpsl;
 #[cfg(test)]
+mod rpsl_sources;
+#[cfg(test)]
 mod rtr;
 #[cfg(test)]
 mod streams;

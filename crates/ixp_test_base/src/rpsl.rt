@@ -26,7 +26,7 @@ fn put_fault(fault: RpslFault, out: &mut Vec<u8>) -> Result<(), AllocError> {
 }
 
 /// Sets, each with its place and a comma.
-fn put_sets(sets: &[Reach], out: &mut Vec<u8>) -> Result<(), AllocError> {
+pub fn put_sets(sets: &[Reach], out: &mut Vec<u8>) -> Result<(), AllocError> {
     for reach in sets {
         put(out, reach.set.as_bytes())?;
         put(out, b" ")?;
@@ -37,7 +37,7 @@ fn put_sets(sets: &[Reach], out: &mut Vec<u8>) -> Result<(), AllocError> {
 }
 
 /// AS numbers, each with a comma.
-fn put_asns(asns: &[Asn], out: &mut Vec<u8>) -> Result<(), AllocError> {
+pub fn put_asns(asns: &[Asn], out: &mut Vec<u8>) -> Result<(), AllocError> {
     for asn in asns {
         put_number(out, u64::from(asn.0))?;
         put(out, b", ")?;
@@ -46,7 +46,7 @@ fn put_asns(asns: &[Asn], out: &mut Vec<u8>) -> Result<(), AllocError> {
 }
 
 /// Prefixes, each with a comma.
-fn put_nets(nets: &[Prefix], out: &mut Vec<u8>) -> Result<(), AllocError> {
+pub fn put_nets(nets: &[Prefix], out: &mut Vec<u8>) -> Result<(), AllocError> {
     for net in nets {
         print_prefix(net, out)?;
         put(out, b", ")?;

@@ -1,29 +1,41 @@
 //! What one seat after the other is answered.
 ghost use Rattle.std.specs.Prelude.{◌≡◌};
 
-use crate::samples::{STAFF, handle, request, stored};
+use crate::samples::{STAFF, handle, peer_text, request, stored};
 use ixp_board::{BoardName, Note, Publish};
 use ixp_desk::{
     Desk, DeskSeat, Desks, PubFault, Shared, WorkTurn, open_desk, published, worker_turn,
 };
-use ixp_desk_history::DeskStory;
+use ixp_desk_history::{DeskStory, Text};
 use ixp_io::{FreeGate, Keeper};
 use std::alloc::Global;
 use std::marker::Brand;
+use std::str::from_utf8;
 use std::sync::Wait;
 
-/// What a seat reads: a version, or that there is no such router.
+/// The version of a text, where the text has a part.
+fn version_of(text: &Text, part: &str) -> Option<u64> {
+    let shown = from_utf8(text.bytes.as_slice()).ok()?;
+    if shown.contains(part) {
+        Some(text.built)
+    } else {
+        None
+    }
+}
+
+/// What a seat reads: the version of a text that names a peer, or that there is no such router.
 fn read<R: Wait, P: Keeper + Drop, N: BoardName, W: Publish<Note<DeskStory, N>>>(
     rt: &R,
     alloc: Global,
     shared: &Shared<P, N, W>,
     seat: &mut DeskSeat<N>,
     router: &[u8],
+    peer: &str,
 ) -> Option<Option<u64>> {
     let router = handle(alloc, router)?;
     let mut desk = shared;
     match published(rt, alloc, &mut desk, seat, STAFF, &router, None) {
-        Ok(text) => Some(Some(text.built)),
+        Ok(text) => Some(Some(version_of(&text, peer)?)),
         Err(PubFault::NoRouter) => Some(None),
         Err(_) => None,
     }
@@ -49,14 +61,17 @@ fn follows<R: Wait, P: Keeper + Drop, N: BoardName, W: Publish<Note<DeskStory, N
     let Ok(entry) = request(alloc, 1) else {
         return false;
     };
+    let peer = peer_text(1);
+    let before = read(rt, alloc, shared, &mut third, b"rs1", peer);
     let mut desk = shared;
     let accepted = desk.submit(rt, &mut first, entry).is_ok();
     let built = desk.catch_up(rt, &mut second).ok();
-    let version = read(rt, alloc, shared, &mut third, b"rs1");
-    let missing = read(rt, alloc, shared, &mut third, b"rs9");
+    let version = read(rt, alloc, shared, &mut third, b"rs1", peer);
+    let missing = read(rt, alloc, shared, &mut third, b"rs9", peer);
     let turn = worker_turn(rt, alloc, shared, &mut second, &FreeGate);
     let idle = matches!(turn, Ok(WorkTurn::Nothing { built: 1 }));
-    accepted && built == Some(1) && version == Some(Some(1)) && missing == Some(None) && idle
+    let follows = before == None && built == Some(1) && version == Some(Some(1));
+    accepted && follows && missing == Some(None) && idle
 }
 
 fn on_a_desk<R: Wait, N: BoardName, P: Keeper + Drop>(rt: &R, alloc: Global, desk: Desk<P>) -> bool
